@@ -1,0 +1,1 @@
+-- Which bytes are a number, and which decimal they write down.

@@ -1,0 +1,2 @@
+//! The JSON text of an OTLP export request.
+#![tactic(auto)]
