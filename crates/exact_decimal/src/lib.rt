@@ -2,7 +2,9 @@
 #![tactic(auto)]
 
 mod buffer;
+mod decimal;
 mod number;
 
 pub use buffer::{Buffer, print};
-pub use number::{Decimal, Number, NumberFault, of, read};
+pub use decimal::Decimal;
+pub use number::{Number, NumberFault, of, read};

@@ -1,0 +1,51 @@
+ghost use Rattle.std.specs.Prelude.{◌≡◌, ℕ, pos, ◌-ℤ◌};
+ghost use Rattle.exact_decimal.specs.Decimals.{IsNormal};
+
+use std::marker::Model;
+
+/// A decimal in its one form: `digits` is not divisible by 10 unless it is 0, and zero has no sign
+/// and power 0. There are at most 38 digits, and the leading one stands at a power of ten from -400
+/// to 308.
+#[derive(Clone, Copy, Debug, PartialEq, Eq)]
+pub struct Decimal {
+    digits: u128,
+    up: u16,
+    down: u16,
+    negative: bool,
+}
+
+impl Model for Decimal {
+    ghost use Rattle.exact_decimal.specs.Decimals.{DecimalValue, IsNormal};
+
+    ghost Value = { DecimalValue };
+
+    ghost view = { λ d. record { negative = d.negative; digits = d.digits; up = d.up; down = d.down } };
+
+    ghost inverse = { λ v. record { digits = v.digits; up = v.up; down = v.down; negative = v.negative } };
+
+    ghost invariant = { λ d. IsNormal (record { negative = d.negative; digits = d.digits; up = d.up; down = d.down }) };
+}
+
+impl Decimal {
+    /// Whether the value is below zero.
+    pub fn negative(&self) -> bool
+        ensures { result ≡ self.now.negative }
+    {
+        self.negative
+    }
+
+    /// The whole number that a power of ten multiplies.
+    pub fn digits(&self) -> u128
+        ensures { result ≡ self.now.digits }
+    {
+        self.digits
+    }
+
+    /// The power of ten.
+    pub fn power(&self) -> i32
+        ensures power { result ≡ pos self.now.up -ℤ pos self.now.down }
+        ensures normal { IsNormal self.now }
+    {
+        self.up as i32 - self.down as i32
+    }
+}
