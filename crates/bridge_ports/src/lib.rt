@@ -1,12 +1,22 @@
-//! The traits of the outside: what the bridge reads from and writes to, and what they tell.
+//! The outside of the bridge: the traits of what it reads from and writes to, implementations in
+//! memory that tell their bytes and fail where they are told to, and adapters over the standard
+//! library's readers and writers.
 #![tactic(auto)]
 
+mod memory_sink;
+mod memory_source;
 mod sink;
 mod source;
+pub mod std_edge;
 
+pub use memory_sink::MemorySink;
+pub use memory_source::{MemorySource, SureSource};
 pub use sink::Sink;
 pub use source::Source;
 
 /// A call on the outside failed; its count of faults tells so.
 #[derive(Clone, Copy, Debug, PartialEq, Eq)]
 pub struct Failed;
+
+#[cfg(test)]
+mod tests;

@@ -1,7 +1,6 @@
-ghost use Rattle.std.specs.Prelude.{◌≡◌, [], take};
-ghost use Rattle.exact_decimal.specs.Literals.{number_json};
+ghost use Rattle.std.specs.Prelude.{◌≡◌, ◌+◌, ◌≤◌, [], ◌++◌, length};
+ghost use Rattle.exact_decimal.specs.Literals.{zeros};
 
-use crate::number::Number;
 use std::marker::Model;
 
 /// Room for one literal.
@@ -23,6 +22,9 @@ impl Model for Buffer {
     ghost invariant = { λ b. b.len ≤ 64 };
 }
 
+// The zeros that fill a literal up to its point.
+const ZEROS: &[u8; 64] = b"0000000000000000000000000000000000000000000000000000000000000000";
+
 impl Buffer {
     /// A buffer without bytes.
     pub fn new() -> Buffer
@@ -40,13 +42,26 @@ impl Buffer {
     {
         &self.room[..self.len]
     }
-}
 
-/// Prints the JSON literal of a number in place of what the buffer held.
-#[tactic(auto, unfolding(crate::specs::Literals::number_json))]
-pub fn print(n: &Number, to: &mut Buffer)
-    ensures { to.new ≡ number_json n.now }
-{
-    let _n = *n;
-    to.len = 0;
+    pub(crate) fn clear(&mut self)
+        ensures { self.new ≡ [] }
+    {
+        self.len = 0;
+    }
+
+    pub(crate) fn push(&mut self, piece: &[u8])
+        requires { length self.old + length piece.now ≤ 64 }
+        ensures { self.new ≡ self.old ++ piece.now }
+    {
+        let end = self.len + piece.len();
+        self.room[self.len..end].copy_from_slice(piece);
+        self.len = end;
+    }
+
+    pub(crate) fn push_zeros(&mut self, count: usize)
+        requires { length self.old + count ≤ 64 }
+        ensures { self.new ≡ self.old ++ zeros count }
+    {
+        self.push(&ZEROS[..count]);
+    }
 }

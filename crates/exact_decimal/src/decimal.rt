@@ -1,5 +1,6 @@
 ghost use Rattle.std.specs.Prelude.{◌≡◌, ℕ, pos, ◌-ℤ◌};
 ghost use Rattle.exact_decimal.specs.Decimals.{IsNormal};
+ghost use Rattle.exact_decimal.specs.Tokens.{zero_decimal};
 
 use std::marker::Model;
 
@@ -27,9 +28,30 @@ impl Model for Decimal {
 }
 
 impl Decimal {
+    /// Zero.
+    pub(crate) fn zero() -> Decimal
+        ensures { result ≡ zero_decimal }
+    {
+        Decimal::new(false, 0, 0, 0)
+    }
+
+    /// A decimal from its sign, its digits and the powers of ten that multiply and divide them.
+    pub(crate) fn new(negative: bool, digits: u128, up: u16, down: u16) -> Decimal
+        requires { IsNormal (record { negative = negative; digits = digits; up = up; down = down }) }
+        ensures { result ≡ record { negative = negative; digits = digits; up = up; down = down } }
+    {
+        Decimal {
+            digits,
+            up,
+            down,
+            negative,
+        }
+    }
+
     /// Whether the value is below zero.
     pub fn negative(&self) -> bool
-        ensures { result ≡ self.now.negative }
+        ensures negative { result ≡ self.now.negative }
+        ensures normal { IsNormal self.now }
     {
         self.negative
     }
@@ -47,5 +69,19 @@ impl Decimal {
         ensures normal { IsNormal self.now }
     {
         self.up as i32 - self.down as i32
+    }
+
+    pub(crate) fn up(&self) -> u16
+        ensures up { result ≡ self.now.up }
+        ensures normal { IsNormal self.now }
+    {
+        self.up
+    }
+
+    pub(crate) fn down(&self) -> u16
+        ensures down { result ≡ self.now.down }
+        ensures normal { IsNormal self.now }
+    {
+        self.down
     }
 }

@@ -1,6 +1,6 @@
 -- Label sets: labels in byte order of their names, names distinct, no empty value.
 -- Prometheus data model, "Metric names and labels"; OpenMetrics 1.0, "Labels" and "LabelSet".
-use Rattle.std.specs.Prelude.{ℕ, zero, suc, Bool, not, ◌&&◌, ◌||◌, List, [], ◌∷◌, ◌++◌, map, filter, find, length, codes, Option, Some, None, option_map, if◌then◌else◌, is_none}
+use Rattle.std.specs.Prelude.{◌≡◌, ℕ, zero, suc, ◌<◌, Bool, true, false, not, ◌&&◌, ◌||◌, List, [], ◌∷◌, ◌++◌, map, filter, find, length, codes, Option, Some, None, option_map, if◌then◌else◌, is_none}
 use Rattle.std.specs.List.{list_any}
 use Rattle.std.specs.Str.{bytes_eq}
 use Rattle.std.specs.Cmp.Lexicographic.{slice_cmp, pointwise}
@@ -57,6 +57,19 @@ exported_name zero ls name = name
 exported_name (suc more) ls name =
     let next = codes "exported_" ++ name in
     if has_name ls next then exported_name more ls next else next
+
+-- `exported_` put before a name so many times
+abbrev pub exported_times : ℕ → List ℕ → List ℕ
+exported_times zero name = name
+exported_times (suc k) name = codes "exported_" ++ exported_times k name
+
+-- the new name: `exported_` put before a name at least once, and no oftener than until no label has it
+pub record IsExportedName (ls : List Label) (name new : List ℕ) : Type 0 where
+  pub times : ℕ
+  pub some : 0 < times
+  pub is : new ≡ exported_times times name
+  pub free : has_name ls new ≡ false
+  pub least : (k : ℕ) → 0 < k → k < times → has_name ls (exported_times k name) ≡ true
 
 -- the label, with another name where it is one that the target's own labels have
 abbrev pub label_renamed : LabelSet → Label → Label

@@ -1,6 +1,7 @@
-ghost use Rattle.std.specs.Prelude.{◌≡◌, IfOk};
+ghost use Rattle.std.specs.Prelude.{◌≡◌, ◌==◌, IfOk, length};
 
-use std::alloc::AllocError;
+use crate::copied::Copied;
+use std::alloc::{AllocError, Global};
 use std::marker::Model;
 
 /// Bytes of any value.
@@ -25,6 +26,15 @@ impl Bytes {
         Bytes { items }
     }
 
+    /// A copy of a slice.
+    pub fn from_slice(alloc: Global, slice: &[u8]) -> Result<Bytes, AllocError>
+        ensures { IfOk result (λ b. b ≡ slice.now) }
+    {
+        let mut items = Vec::new(alloc);
+        items.extend_from_slice(slice)?;
+        Ok(Bytes { items })
+    }
+
     /// The vector of the bytes, without a copy.
     pub fn into_vec(self) -> Vec<u8>
         ensures { result.items ≡ self }
@@ -39,6 +49,20 @@ impl Bytes {
         self.items.as_slice()
     }
 
+    /// How many bytes there are.
+    pub fn len(&self) -> usize
+        ensures { result ≡ length self.now }
+    {
+        self.items.len()
+    }
+
+    /// Whether there is no byte.
+    pub fn is_empty(&self) -> bool
+        ensures { result ≡ (length self.now == 0) }
+    {
+        self.items.is_empty()
+    }
+
     /// Equal bytes in memory of their own.
     pub fn copy(&self) -> Result<Bytes, AllocError>
         ensures { IfOk result (λ b. b ≡ self.now) }
@@ -46,5 +70,11 @@ impl Bytes {
         Ok(Bytes {
             items: self.items.clone()?,
         })
+    }
+}
+
+impl Copied for Bytes {
+    fn copied(&self) -> Result<Bytes, AllocError> {
+        self.copy()
     }
 }

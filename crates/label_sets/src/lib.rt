@@ -3,17 +3,24 @@
 #![tactic(auto)]
 
 mod bytes;
+mod copied;
 mod kind;
 mod label;
 mod label_set;
+pub mod laws;
 mod list;
+mod renaming;
 mod series_key;
+mod sorting;
+#[cfg(test)]
+mod tests;
 mod text;
 
 pub use bytes::Bytes;
+pub use copied::Copied;
 pub use kind::Kind;
 pub use label::Label;
-pub use label_set::LabelSet;
+pub use label_set::{LabelFault, LabelSet};
 pub use list::List;
 pub use series_key::SeriesKey;
 pub use text::{Name, Text};

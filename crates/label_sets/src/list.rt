@@ -1,6 +1,7 @@
-ghost use Rattle.std.specs.Prelude.{◌≡◌, ◌++◌, [], ◌∷◌, length, ◌==◌, IfErr, OnOk, OnErr};
+ghost use Rattle.std.specs.Prelude.{◌≡◌, ◌++◌, [], ◌∷◌, length, ◌==◌, IfErr, IfOk, OnOk, OnErr};
 
-use std::alloc::{AllocFailed, Global};
+use crate::copied::Copied;
+use std::alloc::{AllocError, AllocFailed, Global};
 use std::marker::Model;
 
 /// Values in order.
@@ -69,5 +70,24 @@ impl<T> List<T> {
         ensures returned { IfErr result (λ failed. failed.value ≡ value) }
     {
         self.items.push(value)
+    }
+}
+
+impl<T: Copied + Drop> List<T> {
+    /// An equal list in memory of its own.
+    pub fn copy(&self) -> Result<List<T>, AllocError>
+        ensures { IfOk result (λ l. l ≡ self.now) }
+    {
+        let mut items = Vec::with_capacity(*self.items.allocator(), self.items.len())?;
+        for item in &self.items {
+            items.push(item.copied()?)?;
+        }
+        Ok(List { items })
+    }
+}
+
+impl<T: Copied + Drop> Copied for List<T> {
+    fn copied(&self) -> Result<List<T>, AllocError> {
+        self.copy()
     }
 }

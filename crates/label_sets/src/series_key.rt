@@ -1,12 +1,40 @@
+ghost use Rattle.std.specs.Prelude.{◌≡◌, IfOk};
+
+use crate::copied::Copied;
 use crate::kind::Kind;
 use crate::label_set::LabelSet;
 use crate::text::{Name, Text};
+use std::alloc::AllocError;
 
-/// What a series is known by (OpenTelemetry metrics data model, "Timeseries Model").
-#[derive(Drop)]
+/// What a series is known by (OpenTelemetry metrics data model, "Timeseries Model"). Its order is
+/// by name, then kind, then unit, then the list of labels.
+#[derive(Drop, PartialEq, Eq, PartialOrd, Ord, Hash)]
 pub struct SeriesKey {
     pub name: Name,
     pub kind: Kind,
     pub unit: Text,
     pub labels: LabelSet,
+}
+
+impl SeriesKey {
+    /// An equal key in memory of its own.
+    pub fn copy(&self) -> Result<SeriesKey, AllocError>
+        ensures { IfOk result (λ key. key ≡ self.now) }
+    {
+        let name = self.name.copy()?;
+        let unit = self.unit.copy()?;
+        let labels = self.labels.copy()?;
+        Ok(SeriesKey {
+            name,
+            kind: self.kind,
+            unit,
+            labels,
+        })
+    }
+}
+
+impl Copied for SeriesKey {
+    fn copied(&self) -> Result<SeriesKey, AllocError> {
+        self.copy()
+    }
 }

@@ -1,6 +1,16 @@
-ghost use Rattle.std.specs.Prelude.{◌≡◌, IfOk, IfSome, IfNone, string_bytes, IsUtf8};
+ghost use Rattle.std.specs.Prelude.{◌≡◌, ◌==◌, ℕ, ◌+◌, IfOk, OnErr, SomeIff, string_bytes, IsUtf8, length, refl, Some};
+ghost use Rattle.std.specs.Str.{bytes_eq};
+ghost use Rattle.std.specs.Ordering.{nat_cmp};
+ghost use Rattle.std.specs.Cmp.{partial_equiv_from_equiv};
+ghost use Rattle.std.specs.Cmp.Lexicographic.{slice_cmp, nat_list_eq_equiv, nat_list_cmp_total, texts_ties, texts_po};
+ghost use Rattle.std.specs.Cmp.Rules.{hashing};
+ghost use Rattle.std.specs.Hash as fed;
+ghost use Rattle.std.proofs.Common.{rules};
 
+use crate::copied::Copied;
 use std::alloc::{AllocError, Global};
+use std::cmp::Ordering;
+use std::hash::{Hash, Hasher};
 use std::marker::Model;
 
 /// A text of UTF-8.
@@ -41,6 +51,18 @@ impl Text {
         })
     }
 
+    /// The text that bytes spell, or `None` where they are no UTF-8 (RFC 3629), for which no
+    /// memory is taken. The bytes are tested once and copied once.
+    pub fn from_bytes(alloc: Global, bytes: &[u8]) -> Result<Option<Text>, AllocError>
+        ensures text { IfOk result (λ t. SomeIff t (IsUtf8 bytes.now) bytes.now) }
+        ensures memory { OnErr result (IsUtf8 bytes.now) }
+    {
+        match std::str::from_utf8(bytes) {
+            Ok(text) => Ok(Some(Text::from_str(alloc, text)?)),
+            Err(_) => Ok(None),
+        }
+    }
+
     /// The bytes of the text.
     pub fn as_bytes(&self) -> &[u8]
         ensures { result.now ≡ self.now }
@@ -55,6 +77,20 @@ impl Text {
         self.text.as_str()
     }
 
+    /// How many bytes the text has.
+    pub fn len(&self) -> usize
+        ensures { result ≡ length self.now }
+    {
+        self.text.len()
+    }
+
+    /// Whether the text has no byte.
+    pub fn is_empty(&self) -> bool
+        ensures { result ≡ (length self.now == 0) }
+    {
+        self.text.is_empty()
+    }
+
     /// An equal text in memory of its own.
     pub fn copy(&self) -> Result<Text, AllocError>
         ensures { IfOk result (λ t. t ≡ self.now) }
@@ -62,6 +98,60 @@ impl Text {
         Ok(Text {
             text: self.text.clone()?,
         })
+    }
+}
+
+impl Copied for Text {
+    fn copied(&self) -> Result<Text, AllocError> {
+        self.copy()
+    }
+}
+
+impl PartialEq for Text {
+    ghost eq = { bytes_eq };
+
+    ghost laws = { partial_equiv_from_equiv nat_list_eq_equiv };
+
+    fn eq(&self, other: &Text) -> bool {
+        self.as_str() == other.as_str()
+    }
+}
+
+impl Eq for Text {
+    ghost laws = { nat_list_eq_equiv };
+}
+
+impl PartialOrd for Text {
+    ghost partial_cmp = { λ a b. Some (slice_cmp nat_cmp a b) };
+
+    ghost laws = { texts_po };
+
+    fn partial_cmp(&self, other: &Text) -> Option<Ordering> {
+        Some(self.cmp(other))
+    }
+}
+
+impl Ord for Text {
+    ghost cmp = { slice_cmp nat_cmp };
+
+    ghost total = { nat_list_cmp_total };
+
+    ghost matches_partial_cmp = { λ a b. refl };
+
+    ghost matches_eq = { texts_ties };
+
+    fn cmp(&self, other: &Text) -> Ordering {
+        self.as_str().cmp(other.as_str())
+    }
+}
+
+impl Hash for Text {
+    ghost hash_input = { fed.str };
+
+    ghost respects_eq = { Prim.search (hashing, rules) };
+
+    fn hash<H: Hasher>(&self, state: &mut H) {
+        self.as_str().hash(state);
     }
 }
 
@@ -103,6 +193,18 @@ impl Name {
         })
     }
 
+    /// The name that bytes spell, or `None` where they are no UTF-8 (RFC 3629), for which no
+    /// memory is taken. The bytes are tested once and copied once.
+    pub fn from_bytes(alloc: Global, bytes: &[u8]) -> Result<Option<Name>, AllocError>
+        ensures name { IfOk result (λ n. SomeIff n (IsUtf8 bytes.now) bytes.now) }
+        ensures memory { OnErr result (IsUtf8 bytes.now) }
+    {
+        match std::str::from_utf8(bytes) {
+            Ok(text) => Ok(Some(Name::from_str(alloc, text)?)),
+            Err(_) => Ok(None),
+        }
+    }
+
     /// The bytes of the name.
     pub fn as_bytes(&self) -> &[u8]
         ensures { result.now ≡ self.now }
@@ -117,6 +219,20 @@ impl Name {
         self.text.as_str()
     }
 
+    /// How many bytes the name has.
+    pub fn len(&self) -> usize
+        ensures { result ≡ length self.now }
+    {
+        self.text.len()
+    }
+
+    /// Whether the name has no byte.
+    pub fn is_empty(&self) -> bool
+        ensures { result ≡ (length self.now == 0) }
+    {
+        self.text.is_empty()
+    }
+
     /// An equal name in memory of its own.
     pub fn copy(&self) -> Result<Name, AllocError>
         ensures { IfOk result (λ n. n ≡ self.now) }
@@ -124,5 +240,59 @@ impl Name {
         Ok(Name {
             text: self.text.clone()?,
         })
+    }
+}
+
+impl Copied for Name {
+    fn copied(&self) -> Result<Name, AllocError> {
+        self.copy()
+    }
+}
+
+impl PartialEq for Name {
+    ghost eq = { bytes_eq };
+
+    ghost laws = { partial_equiv_from_equiv nat_list_eq_equiv };
+
+    fn eq(&self, other: &Name) -> bool {
+        self.as_str() == other.as_str()
+    }
+}
+
+impl Eq for Name {
+    ghost laws = { nat_list_eq_equiv };
+}
+
+impl PartialOrd for Name {
+    ghost partial_cmp = { λ a b. Some (slice_cmp nat_cmp a b) };
+
+    ghost laws = { texts_po };
+
+    fn partial_cmp(&self, other: &Name) -> Option<Ordering> {
+        Some(self.cmp(other))
+    }
+}
+
+impl Ord for Name {
+    ghost cmp = { slice_cmp nat_cmp };
+
+    ghost total = { nat_list_cmp_total };
+
+    ghost matches_partial_cmp = { λ a b. refl };
+
+    ghost matches_eq = { texts_ties };
+
+    fn cmp(&self, other: &Name) -> Ordering {
+        self.as_str().cmp(other.as_str())
+    }
+}
+
+impl Hash for Name {
+    ghost hash_input = { fed.str };
+
+    ghost respects_eq = { Prim.search (hashing, rules) };
+
+    fn hash<H: Hasher>(&self, state: &mut H) {
+        self.as_str().hash(state);
     }
 }

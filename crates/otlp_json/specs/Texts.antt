@@ -1,7 +1,7 @@
 -- The text of an export request, by recursion on its tree.
 -- OTLP 1.x, "JSON Protobuf Encoding" (ExportMetricsServiceRequest, ResourceMetrics, ScopeMetrics, Metric and its data points).
--- The order of the keys, and which are left out, are the bridge's own.
-use Rattle.std.specs.Prelude.{ℕ, Bool, true, false, not, List, [], ◌∷◌, ◌++◌, map, codes, Option, Some, None}
+-- The order of the members, and which are left out where they are empty, are the bridge's own.
+use Rattle.std.specs.Prelude.{ℕ, Bool, true, false, List, [], ◌∷◌, ◌++◌, map, codes, Option, Some, None}
 use Rattle.exact_decimal.specs.declared.number.Number.{Number}
 use Rattle.exact_decimal.specs.Literals.{number_json}
 use Rattle.label_sets.specs.declared.label.Label.{Label}
@@ -15,84 +15,108 @@ use Rattle.otlp_tree.specs.declared.tree.Metric.{Metric}
 use Rattle.otlp_tree.specs.declared.tree.Shape.{Shape}
 use Rattle.otlp_tree.specs.declared.tree.Shape.TheVariants as shapes
 use Rattle.otlp_tree.specs.declared.tree.NumberPoint.{NumberPoint}
-use Rattle.otlp_json.specs.Json.{json_string, json_integer, json_array, json_object, member, member_if, is_empty}
+use Rattle.otlp_json.specs.Json.{json_string, json_integer, json_array, json_object, member, member_if, has_some}
 
 -- ---- attributes
 
--- an attribute's value: a string or an integer
-abbrev pub attribute_value_text : AttributeValue → List ℕ
+-- an attribute's value, a string or an integer (AnyValue)
+unfoldable pub attribute_value_text : AttributeValue → List ℕ
 attribute_value_text (Str text) = json_object (member (codes "stringValue") (json_string text) ∷ [])
 attribute_value_text (Int n) = json_object (member (codes "intValue") (json_integer n) ∷ [])
 
--- an attribute (KeyValue)
-abbrev pub attribute_text : Attribute → List ℕ
-attribute_text a = json_object (member (codes "key") (json_string a.key) ∷ member (codes "value") (attribute_value_text a.value) ∷ [])
+-- a key and its value (KeyValue)
+abbrev pub key_value_text : List ℕ → AttributeValue → List ℕ
+key_value_text key value = json_object (member (codes "key") (json_string key) ∷ member (codes "value") (attribute_value_text value) ∷ [])
+
+-- an attribute of a resource
+unfoldable pub attribute_text : Attribute → List ℕ
+attribute_text a = key_value_text a.key a.value
 
 -- a label as an attribute with a string
-abbrev pub label_text : Label → List ℕ
-label_text l = attribute_text (record { key = l.name; value = Str l.value })
-
--- the attributes of a point, left out where it has none
-abbrev pub labels_member : LabelSet → List (List ℕ)
-labels_member ls = member_if (not (is_empty ls)) (codes "attributes") (json_array (map label_text ls))
+unfoldable pub label_text : Label → List ℕ
+label_text l = key_value_text l.name (Str l.value)
 
 -- ---- points
 
--- what every point has in front of its value
+-- the attributes of a point, left out where it has none
+unfoldable pub attributes_member : LabelSet → List (List ℕ)
+attributes_member labels = member_if (has_some labels) (codes "attributes") (json_array (map label_text labels))
+
+-- the start of a point, left out where it has none
+unfoldable pub start_member : Option ℕ → List (List ℕ)
+start_member None = []
+start_member (Some start) = member (codes "startTimeUnixNano") (json_integer start) ∷ []
+
+-- what stands in front of the value of a point of any kind
 abbrev pub point_head : LabelSet → Option ℕ → ℕ → List (List ℕ)
-point_head labels start time = labels_member labels ++ start_member start ++ member (codes "timeUnixNano") (json_integer time) ∷ []
-  where
-    start_member : Option ℕ → List (List ℕ)
-    start_member None = []
-    start_member (Some n) = member (codes "startTimeUnixNano") (json_integer n) ∷ []
+point_head labels start time = attributes_member labels ++ start_member start ++ member (codes "timeUnixNano") (json_integer time) ∷ []
 
--- the flag of a point without a recorded value
-abbrev pub no_value : List (List ℕ)
-no_value = member (codes "flags") (codes "1") ∷ []
+-- the flag of a point without a value (DataPointFlags: NO_RECORDED_VALUE)
+abbrev pub no_value_member : List ℕ
+no_value_member = member (codes "flags") (codes "1")
 
--- the value of a number point (NumberDataPoint.asDouble) or the flag
-abbrev pub number_members : Option Number → List (List ℕ)
-number_members None = no_value
-number_members (Some n) = member (codes "asDouble") (number_json n) ∷ []
+-- the value of a number point, or the flag
+unfoldable pub number_member : Option Number → List ℕ
+number_member None = no_value_member
+number_member (Some n) = member (codes "asDouble") (number_json n)
 
 -- a number point (NumberDataPoint)
-abbrev pub number_point_text : NumberPoint → List ℕ
-number_point_text p = json_object (point_head p.labels p.start p.time ++ number_members p.value)
+unfoldable pub number_point_text : NumberPoint → List ℕ
+number_point_text p = json_object (point_head p.labels p.start p.time ++ number_member p.value ∷ [])
 
 -- ---- metrics, scopes and the whole
 
--- the member with the points of a metric
+-- the points of a metric
 abbrev pub points_member : List (List ℕ) → List ℕ
 points_member points = member (codes "dataPoints") (json_array points)
 
--- points that each count from their start
-abbrev pub cumulative : List ℕ
-cumulative = member (codes "aggregationTemporality") (codes "2")
+-- each point counts from its start (AggregationTemporality: CUMULATIVE)
+abbrev pub cumulative_member : List ℕ
+cumulative_member = member (codes "aggregationTemporality") (codes "2")
 
 -- a truth value
 abbrev pub truth_text : Bool → List ℕ
 truth_text true = codes "true"
 truth_text false = codes "false"
 
--- the one member that holds a metric's points
-abbrev pub shape_member : Shape → List ℕ
-shape_member (shapes.Gauge ps) = member (codes "gauge") (json_object (points_member (map number_point_text ps) ∷ []))
-shape_member (shapes.Sum ps monotonic) = member (codes "sum") (json_object (points_member (map number_point_text ps) ∷ cumulative ∷ member (codes "isMonotonic") (truth_text monotonic) ∷ []))
+-- the points of a gauge (Gauge)
+unfoldable pub gauge_member : List NumberPoint → List ℕ
+gauge_member points = member (codes "gauge") (json_object (points_member (map number_point_text points) ∷ []))
 
--- a metric (Metric), without an empty description or unit
-abbrev pub metric_text : Metric → List ℕ
-metric_text m = json_object (member (codes "name") (json_string m.name) ∷ member_if (not (is_empty m.description)) (codes "description") (json_string m.description)
-    ++ member_if (not (is_empty m.unit)) (codes "unit") (json_string m.unit) ++ shape_member m.shape ∷ [])
+-- the points of a sum (Sum)
+unfoldable pub sum_member : List NumberPoint → Bool → List ℕ
+sum_member points monotonic = member (codes "sum") (json_object (
+    points_member (map number_point_text points) ∷ cumulative_member ∷ member (codes "isMonotonic") (truth_text monotonic) ∷ []))
+
+-- the one member that holds a metric's points
+unfoldable pub shape_member : Shape → List ℕ
+shape_member (shapes.Gauge points) = gauge_member points
+shape_member (shapes.Sum points monotonic) = sum_member points monotonic
+
+-- a text that is left out where it is empty
+abbrev pub text_member : List ℕ → List ℕ → List (List ℕ)
+text_member key text = member_if (has_some text) key (json_string text)
+
+-- a metric (Metric)
+unfoldable pub metric_text : Metric → List ℕ
+metric_text m = json_object (
+    member (codes "name") (json_string m.name)
+    ∷ text_member (codes "description") m.description
+    ++ text_member (codes "unit") m.unit
+    ++ shape_member m.shape ∷ [])
 
 -- a scope with its metrics (ScopeMetrics)
-abbrev pub scope_text : ScopeMetrics → List ℕ
-scope_text s = json_object (member (codes "scope") (json_object (member (codes "name") (json_string s.name) ∷ [])) ∷ member (codes "metrics") (json_array (map metric_text s.metrics)) ∷ [])
+unfoldable pub scope_text : ScopeMetrics → List ℕ
+scope_text s = json_object (
+    member (codes "scope") (json_object (member (codes "name") (json_string s.name) ∷ []))
+    ∷ member (codes "metrics") (json_array (map metric_text s.metrics)) ∷ [])
 
 -- a resource with its scopes (ResourceMetrics)
-abbrev pub resource_metrics_text : List Attribute → List ScopeMetrics → List ℕ
-resource_metrics_text resource scopes = json_object (member (codes "resource") (json_object (member (codes "attributes") (json_array (map attribute_text resource)) ∷ []))
+abbrev pub resource_text : List Attribute → List ScopeMetrics → List ℕ
+resource_text resource scopes = json_object (
+    member (codes "resource") (json_object (member (codes "attributes") (json_array (map attribute_text resource)) ∷ []))
     ∷ member (codes "scopeMetrics") (json_array (map scope_text scopes)) ∷ [])
 
--- the text of an export request
-abbrev pub request_text : Request → List ℕ
-request_text r = json_object (member (codes "resourceMetrics") (json_array (resource_metrics_text r.resource r.scopes ∷ [])) ∷ [])
+-- an export request (ExportMetricsServiceRequest) of one resource
+unfoldable pub request_text : Request → List ℕ
+request_text r = json_object (member (codes "resourceMetrics") (json_array (resource_text r.resource r.scopes ∷ [])) ∷ [])

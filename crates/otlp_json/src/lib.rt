@@ -1,2 +1,42 @@
-//! The JSON text of an OTLP export request.
+//! The JSON text of an OTLP export request (OTLP 1.x, "JSON Protobuf Encoding").
+//!
+//! The text is written here and by no general writer, since numbers are printed exactly and not as
+//! the nearest floating point number.
 #![tactic(auto)]
+
+ghost use Rattle.std.specs.Prelude.{◌≡◌, ◌++◌, min, OnOk, OnErr, length as length_of};
+ghost use Rattle.otlp_json.specs.Texts.{request_text};
+
+mod append;
+mod attributes;
+mod json;
+mod metrics;
+mod points;
+mod requests;
+mod strings;
+#[cfg(test)]
+mod tests;
+mod values;
+
+use label_sets::Memory;
+use otlp_tree::Request;
+
+/// The length of a request's text in bytes, saturating at `u64::MAX`. It takes no memory.
+pub fn length(request: &Request) -> u64
+    ensures { result ≡ min (length_of (request_text request.now)) u64.MAX }
+{
+    requests::request_len(request)
+}
+
+/// Puts the text of a request at the end of `out`: one JSON object with no blanks and no line end.
+///
+/// Memory is reserved once, before the first byte. Where that fails, the answer is [`Memory`], and
+/// `out` holds what it held.
+pub fn write(request: &Request, out: &mut Vec<u8>) -> Result<(), Memory>
+    ensures ok { OnOk result (out.new.items ≡ out.old.items ++ request_text request.now) }
+    ensures err { OnErr result (out.new.items ≡ out.old.items) }
+{
+    out.reserve(length(request) as usize)?;
+    requests::write_request(out, request);
+    Ok(())
+}

@@ -1,58 +1,72 @@
 use exact_decimal::Number;
 use label_sets::{LabelSet, List, Text};
 
-/// An export request.
+/// An export request of one resource (`ExportMetricsServiceRequest` with one `ResourceMetrics`).
 #[derive(Drop)]
 pub struct Request {
+    /// The attributes of the resource, in the order in which they are sent.
     pub resource: List<Attribute>,
+    /// The metrics of the resource, by scope.
     pub scopes: List<ScopeMetrics>,
 }
 
-/// An attribute of a resource.
+/// An attribute of a resource (`KeyValue`).
 #[derive(Drop)]
 pub struct Attribute {
     pub key: Text,
     pub value: AttributeValue,
 }
 
-/// An attribute's value.
+/// An attribute's value (`AnyValue`).
 #[derive(Drop)]
 pub enum AttributeValue {
+    /// `stringValue`.
     Str(Text),
+    /// `intValue`; the bridge sends none below zero.
     Int(u64),
 }
 
-/// The metrics of a scope.
+/// The metrics of one scope (`ScopeMetrics`).
 #[derive(Drop)]
 pub struct ScopeMetrics {
+    /// The scope's name (`InstrumentationScope`).
     pub name: Text,
     pub metrics: List<Metric>,
 }
 
-/// A metric with its points.
+/// A metric with its points (`Metric`).
 #[derive(Drop)]
 pub struct Metric {
     pub name: Text,
+    /// What the metric measures; empty where it isn't known.
     pub description: Text,
+    /// The unit as it was scraped; empty where it isn't known.
     pub unit: Text,
     pub shape: Shape,
 }
 
-/// The points of a metric, by their kind.
+/// The points of a metric, by their kind (the `data` of a `Metric`).
 #[derive(Drop)]
 pub enum Shape {
+    /// Values at their times (`Gauge`). The points have no start.
     Gauge(List<NumberPoint>),
+    /// Values that count from a start on (`Sum` with cumulative temporality).
     Sum {
         points: List<NumberPoint>,
+        /// Whether the value never falls between a start and the next.
         monotonic: bool,
     },
 }
 
-/// A point with a number.
+/// A value of one series at one time (`NumberDataPoint`).
 #[derive(Drop)]
 pub struct NumberPoint {
+    /// The attributes of the series, in byte order of their names.
     pub labels: LabelSet,
+    /// Since when the value counts, in nanoseconds since the Unix epoch; `None` for a gauge.
     pub start: Option<u64>,
+    /// When the value was read, in nanoseconds since the Unix epoch.
     pub time: u64,
+    /// The value; `None` where the series has none any more (the flag `NO_RECORDED_VALUE`).
     pub value: Option<Number>,
 }

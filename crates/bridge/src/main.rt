@@ -1,0 +1,37 @@
+//! The program `bridge`: hands its words, standard input and standard output to the library, and
+//! ends with the status that comes back.
+#![tactic(auto)]
+
+use bridge_cli::bridge;
+use bridge_ports::std_edge::{StdSink, StdSource};
+use std::alloc::{AllocError, Global};
+use std::env::{self, Args};
+use std::io::ErrorKind;
+use std::process::ExitCode;
+
+/// The status of want of memory.
+const WANT_OF_MEMORY: u8 = 6;
+
+/// The words behind the program's own name.
+fn words_of(alloc: Global, args: Args) -> Result<Vec<String>, AllocError> {
+    let mut words = Vec::new(alloc);
+    for word in args.skip(1) {
+        words.push(word)?;
+    }
+    Ok(words)
+}
+
+fn main(rt: HostRuntime) -> ExitCode {
+    let words = match env::args(&rt) {
+        Ok(args) => words_of(rt.alloc(), args),
+        Err(error) if error.kind() == ErrorKind::OutOfMemory => Err(AllocError),
+        // Words that are not text fit no form, and neither do no words.
+        Err(_) => Ok(Vec::new(rt.alloc())),
+    };
+    let Ok(words) = words else {
+        return ExitCode::from(WANT_OF_MEMORY);
+    };
+    let mut input = StdSource::new(rt.stdin());
+    let mut output = StdSink::new(rt.stdout());
+    ExitCode::from(bridge(rt.alloc(), words.as_slice(), &mut input, &mut output))
+}

@@ -1,0 +1,23 @@
+//! The words of the command line.
+mod forms;
+mod numbers;
+mod place;
+
+use crate::target::Target;
+pub(crate) use forms::command;
+
+/// What the words of the command line ask for.
+#[derive(Drop)]
+pub enum Command {
+    /// Every form, with an example each.
+    Help,
+    /// The name and version of the program.
+    Version,
+    /// One event of a text page.
+    ConvertText {
+        /// The job and the instance that the page is of.
+        target: Target,
+        /// The time of the event, in nanoseconds since the Unix epoch, at most 2^62.
+        nanos: u64,
+    },
+}

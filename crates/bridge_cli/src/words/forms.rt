@@ -1,0 +1,81 @@
+//! The forms of the command line.
+ghost use Rattle.std.specs.Prelude.{◌≡◌, List, ℕ, [], ◌∷◌, map, codes, string_bytes, IfOk, IfSome, IfNone, OnErr};
+ghost use Rattle.bridge_cli.specs.CommandWords.{IsCommand, FitNoForm, AskConversion};
+
+use super::Command;
+use super::numbers::number;
+use super::place::host_and_port;
+use crate::target::Target;
+use label_sets::Text;
+use std::alloc::{AllocError, Global};
+
+const MOST_JOB_BYTES: usize = 256;
+
+const MOST_NANOS: u64 = 1 << 62;
+
+/// The command that one word asks for.
+fn lone_word(word: &str) -> Option<Command>
+    ensures found { IfSome result (IsCommand (word.now ∷ [])) }
+    ensures none { IfNone result (FitNoForm (word.now ∷ [])) }
+{
+    if word == "--help" {
+        return Some(Command::Help);
+    }
+    if word == "--version" {
+        return Some(Command::Version);
+    }
+    None
+}
+
+/// The conversion that a job, an instance and a time ask for.
+fn conversion(
+    alloc: Global,
+    job: &str,
+    instance: &str,
+    time: &str,
+) -> Result<Option<Command>, AllocError>
+    ensures found { IfOk result (λ found. IfSome found
+        (IsCommand (codes "convert" ∷ codes "text" ∷ job.now ∷ instance.now ∷ time.now ∷ []))) }
+    ensures none { IfOk result (λ found. IfNone found
+        (FitNoForm (codes "convert" ∷ codes "text" ∷ job.now ∷ instance.now ∷ time.now ∷ []))) }
+    ensures memory { OnErr result (AskConversion
+        (codes "convert" ∷ codes "text" ∷ job.now ∷ instance.now ∷ time.now ∷ [])) }
+{
+    if job.is_empty() {
+        return Ok(None);
+    }
+    if job.len() > MOST_JOB_BYTES {
+        return Ok(None);
+    }
+    let place = match host_and_port(instance) {
+        Some(place) => place,
+        None => return Ok(None),
+    };
+    let nanos = match number(time, MOST_NANOS) {
+        Some(nanos) => nanos,
+        None => return Ok(None),
+    };
+    let target = Target::copied(alloc, job, instance, place.host, place.port)?;
+    Ok(Some(Command::ConvertText { target, nanos }))
+}
+
+/// The command that the words ask for; `None` where they fit no form.
+pub(crate) fn command(alloc: Global, words: &[String]) -> Result<Option<Command>, AllocError>
+    ensures found { IfOk result (λ found. IfSome found (IsCommand (map string_bytes words.now))) }
+    ensures none { IfOk result (λ found. IfNone found (FitNoForm (map string_bytes words.now))) }
+    ensures memory { OnErr result (AskConversion (map string_bytes words.now)) }
+{
+    match words {
+        [word] => Ok(lone_word(word.as_str())),
+        [verb, format, job, instance, time] => {
+            if verb.as_str() != "convert" {
+                return Ok(None);
+            }
+            if format.as_str() != "text" {
+                return Ok(None);
+            }
+            conversion(alloc, job.as_str(), instance.as_str(), time.as_str())
+        }
+        _ => Ok(None),
+    }
+}

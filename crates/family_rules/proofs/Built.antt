@@ -1,0 +1,443 @@
+-- The page of what a checker keeps is the page of the lines that it took.
+use Rattle.std.proofs.Common.{◌≡◌, ℕ, Bool, true, false, cond, not, ◌&&◌, ◌||◌, List, [], ◌∷◌, ◌++◌, map, filter, filter_map, drop, length, Option, Some, None, refl, sym, ap, subst, ◌∙◌, reverse, IfSome, is_some}
+use Rattle.std.specs.Prelude.{codes, option_map, unwrap_or}
+use Rattle.std.specs.List.{list_any, flat_map, cons_option}
+use Rattle.std.specs.Option.{option_or, option_to_list}
+use Rattle.std.specs.Str.{bytes_eq}
+use Rattle.std.specs.Cmp.Lexicographic.{bytes_decides}
+use Rattle.std.proofs.lemmas.List.{append-nil, map-append, append_assoc}
+use Rattle.std.proofs.lemmas.List.Elements.{filter-append, filter_map-append}
+use Rattle.std.proofs.lemmas.Grind.{flat_map-append}
+use Rattle.label_sets.specs.declared.kind.Kind.{Kind}
+use Rattle.label_sets.specs.declared.kind.Kind.TheVariants.{Counter, Gauge, Histogram, GaugeHistogram, StateSet, Info, Summary, Unknown}
+use Rattle.label_sets.specs.declared.label_set.LabelSet.{LabelSet}
+use Rattle.label_sets.specs.Labels.{label_sets_eq}
+use Rattle.label_sets.specs.Lists.{first_of_each, first_some, some_passes}
+use Rattle.page_model.specs.declared.format.Format.TheVariants.{Text}
+use Rattle.page_model.specs.declared.item.Item.{Item}
+use Rattle.page_model.specs.declared.item.Item.TheVariants as items
+use Rattle.page_model.specs.declared.item.Sample.{Sample}
+use Rattle.page_model.specs.declared.page.Reading.{Reading}
+use Rattle.page_model.specs.declared.rule.Rule.TheVariants as rules
+use Rattle.page_model.specs.Faults.{end_fault, end_breaks}
+use Rattle.page_model.specs.Written.{Setting}
+use Rattle.page_model.specs.Items.{sample_of_line, kind_of_line, help_of_line, unit_of_line, is_descriptor}
+use Rattle.page_model.specs.Owners.{Owned, is_of, declared_kind, kind_of, owned_lines, sample_in, samples_of, kept_labels}
+use Rattle.page_model.specs.Rules.{is_late_descriptor, is_split, is_same_series, is_duplicate, is_without_eof}
+use Rattle.page_model.specs.Readings.{value_with, value_of, stamp_of, exemplars_of, reading_labels, key_name, reading_of, readings_of, help_in, unit_in, family_of, families_of, page_of}
+use Rattle.family_rules.specs.declared.sample_key.SampleKey.{SampleKey}
+use Rattle.family_rules.specs.Checking.{has_sort, has_samples, so_far, left_before, key_of, keys_of, Checking, Stands, left_families, current_family}
+use Rattle.family_rules.specs.Steps.{page_at, with_left, reading_at, readings_at, family_at, families_at}
+use Rattle.family_rules.proofs.Lists.{bytes_same, reverse-cons, first_of_each-snoc, first_some-append, list_any-map, list_any-reverse, pairs, lookup-map, insert_entry-last}
+use Rattle.family_rules.proofs.Standing.{label_sets_swap}
+use Rattle.std.specs.Map.{lookup}
+use Rattle.family_rules.proofs.Faults.{fit_lines, nothing_left, is_plain, AreFit, plain_kind, drop_all}
+use Rattle.family_rules.proofs.Kept.{fresh, families_of-reverse, samples_of-reverse, own_samples, none_of_other, late_known}
+
+-- ---- one descriptor of a sort
+
+none_of_some : {A : Type 0} (o : Option A) → is_some o ≡ false → o ≡ None
+none_of_some None h = refl
+none_of_some (Some x) h = absurd (let f : true ≡ false = h in cc)
+
+or_first : (a b : Bool) → (a || b) ≡ false → a ≡ false
+or_first true b h = absurd (let f : true ≡ false = h in cc)
+or_first false b h = refl
+
+-- a late descriptor would have one before it
+no_earlier : (above : List Owned) (o : Owned) → is_descriptor o.item ≡ true → is_late_descriptor above o ≡ false → has_sort o.item (so_far above o.family) ≡ false
+no_earlier above o d h = or_first (has_sort o.item (so_far above o.family)) (has_samples (so_far above o.family)) (sym (late_known above o.family o.item d) ∙ h)
+
+-- what one line says of a family is said by no earlier line
+module _ {A : Type 0} (of_line : Item → Option A) where
+  abbrev said : List ℕ → Owned → Option A
+  said F o = cond (is_of F o) (of_line o.item) None
+
+  abbrev Once : List Owned → Type 0
+  Once [] = Unit {0}
+  Once (o ∷ above) = ((x : A) → of_line o.item ≡ Some x → first_some (said o.family) above ≡ None) × Once above
+
+  join : (b : Bool) (o : Option A) (rest : Option A) → ((x : A) → b ≡ true → o ≡ Some x → rest ≡ None) → option_or rest (option_or (cond b o None) None) ≡ option_or (cond b o None) rest
+  join false o None h = refl
+  join false o (Some y) h = refl
+  join true None None h = refl
+  join true None (Some y) h = refl
+  join true (Some x) rest h = ap (λ r. option_or r (Some x)) (h x refl refl) ∙ sym (ap (λ r. option_or (Some x) r) (h x refl refl))
+
+  once_reverse : (above : List Owned) (F : List ℕ) → Once above → first_some (said F) (reverse above) ≡ first_some (said F) above
+  once_reverse [] F h = refl
+  once_reverse (o ∷ above) F h =
+      ap (first_some (said F)) (reverse-cons o above) ∙ first_some-append (said F) (reverse above) (o ∷ [])
+      ∙ ap (λ r. option_or r (option_or (said F o) None)) (once_reverse above F h.1)
+      ∙ join (is_of F o) (of_line o.item) (first_some (said F) above) (λ x own says.
+      subst (λ G. first_some (said G) above ≡ None) ((bytes_decides o.family F).0 own) (h.0 x says))
+
+help_first : (above : List Owned) (F : List ℕ) (item : Item) (x : List ℕ) → is_late_descriptor above (record { family = F; item = item }) ≡ false → help_of_line item ≡ Some x
+    → first_some (said help_of_line F) above ≡ None
+unfolding so_far
+help_first above F (items.Help n t) x late says = none_of_some (first_some (said help_of_line F) above) (no_earlier above (record { family = F; item = items.Help n t }) refl late)
+help_first above F items.Blank x late says = absurd (let f : None ≡ Some x = says in cc)
+help_first above F items.Comment x late says = absurd (let f : None ≡ Some x = says in cc)
+help_first above F items.Eof x late says = absurd (let f : None ≡ Some x = says in cc)
+help_first above F (items.KindOf n k) x late says = absurd (let f : None ≡ Some x = says in cc)
+help_first above F (items.Unit n u) x late says = absurd (let f : None ≡ Some x = says in cc)
+help_first above F (items.Sample s) x late says = absurd (let f : None ≡ Some x = says in cc)
+
+kind_first : (above : List Owned) (F : List ℕ) (item : Item) (x : Kind) → is_late_descriptor above (record { family = F; item = item }) ≡ false → kind_of_line item ≡ Some x
+    → first_some (said kind_of_line F) above ≡ None
+unfolding so_far
+kind_first above F (items.KindOf n k) x late says = none_of_some (first_some (said kind_of_line F) above) (no_earlier above (record { family = F; item = items.KindOf n k }) refl late)
+kind_first above F items.Blank x late says = absurd (let f : None ≡ Some x = says in cc)
+kind_first above F items.Comment x late says = absurd (let f : None ≡ Some x = says in cc)
+kind_first above F items.Eof x late says = absurd (let f : None ≡ Some x = says in cc)
+kind_first above F (items.Help n t) x late says = absurd (let f : None ≡ Some x = says in cc)
+kind_first above F (items.Unit n u) x late says = absurd (let f : None ≡ Some x = says in cc)
+kind_first above F (items.Sample s) x late says = absurd (let f : None ≡ Some x = says in cc)
+
+unit_first : (above : List Owned) (F : List ℕ) (item : Item) (x : List ℕ) → is_late_descriptor above (record { family = F; item = item }) ≡ false → unit_of_line item ≡ Some x
+    → first_some (said unit_of_line F) above ≡ None
+unfolding so_far
+unit_first above F (items.Unit n u) x late says = none_of_some (first_some (said unit_of_line F) above) (no_earlier above (record { family = F; item = items.Unit n u }) refl late)
+unit_first above F items.Blank x late says = absurd (let f : None ≡ Some x = says in cc)
+unit_first above F items.Comment x late says = absurd (let f : None ≡ Some x = says in cc)
+unit_first above F items.Eof x late says = absurd (let f : None ≡ Some x = says in cc)
+unit_first above F (items.Help n t) x late says = absurd (let f : None ≡ Some x = says in cc)
+unit_first above F (items.KindOf n k) x late says = absurd (let f : None ≡ Some x = says in cc)
+unit_first above F (items.Sample s) x late says = absurd (let f : None ≡ Some x = says in cc)
+
+help_once : (st : Setting) (above : List Owned) → AreFit st above → Once help_of_line above
+help_once st [] fit = tt
+help_once st (o ∷ above) fit = (λ x says. help_first above o.family o.item x fit.0.descriptor says, help_once st above fit.1)
+
+kind_once : (st : Setting) (above : List Owned) → AreFit st above → Once kind_of_line above
+kind_once st [] fit = tt
+kind_once st (o ∷ above) fit = (λ x says. kind_first above o.family o.item x fit.0.descriptor says, kind_once st above fit.1)
+
+unit_once : (st : Setting) (above : List Owned) → AreFit st above → Once unit_of_line above
+unit_once st [] fit = tt
+unit_once st (o ∷ above) fit = (λ x says. unit_first above o.family o.item x fit.0.descriptor says, unit_once st above fit.1)
+
+-- ---- lists
+
+filter_none : {A : Type 0} (p : A → Bool) (xs : List A) → list_any p xs ≡ false → filter p xs ≡ []
+filter_none p [] h = refl
+filter_none {A = A} p (x ∷ xs) h = by (p x) h (filter_none p xs)
+  where
+    by : (b : Bool) → (b || list_any p xs) ≡ false → (list_any p xs ≡ false → filter p xs ≡ []) → cond b (x ∷ filter p xs) (filter p xs) ≡ []
+    by true e more = absurd (let f : true ≡ false = e in cc)
+    by false e more = more e
+
+any_filter : {A : Type 0} (p t : A → Bool) (xs : List A) → list_any p xs ≡ false → list_any p (filter t xs) ≡ false
+any_filter p t [] h = refl
+any_filter {A = A} p t (x ∷ xs) h = by (p x) (t x) refl h (any_filter p t xs)
+  where
+    by : (b c : Bool) → p x ≡ b → (b || list_any p xs) ≡ false → (list_any p xs ≡ false → list_any p (filter t xs) ≡ false) → list_any p (cond c (x ∷ filter t xs) (filter t xs)) ≡ false
+    by true c e h more = absurd (let f : true ≡ false = h in cc)
+    by false true e h more = ap (λ b. b || list_any p (filter t xs)) e ∙ more h
+    by false false e h more = more h
+
+any_first : {A : Type 0} (p : A → Bool) (eq : A → A → Bool) (xs : List A) → list_any p xs ≡ false → list_any p (first_of_each eq xs) ≡ false
+any_first p eq [] h = refl
+any_first {A = A} p eq (x ∷ xs) h = by (p x) refl h (any_first p eq xs)
+  where
+    by : (b : Bool) → p x ≡ b → (b || list_any p xs) ≡ false → (list_any p xs ≡ false → list_any p (first_of_each eq xs) ≡ false)
+        → (p x || list_any p (filter (λ y. not (eq x y)) (first_of_each eq xs))) ≡ false
+    by true e h more = absurd (let f : true ≡ false = h in cc)
+    by false e h more = ap (λ b. b || list_any p (filter (λ y. not (eq x y)) (first_of_each eq xs))) e ∙ any_filter p (λ y. not (eq x y)) (first_of_each eq xs) (more h)
+
+filter_map-same : {A B : Type 0} (f g : A → Option B) (p : A → Bool) (xs : List A) → list_any p xs ≡ false → ((x : A) → p x ≡ false → f x ≡ g x) → filter_map f xs ≡ filter_map g xs
+filter_map-same f g p [] h same = refl
+filter_map-same {A = A} {B = B} f g p (x ∷ xs) h same = by (p x) refl h (λ k. filter_map-same f g p xs k same)
+  where
+    by : (b : Bool) → p x ≡ b → (b || list_any p xs) ≡ false → (list_any p xs ≡ false → filter_map f xs ≡ filter_map g xs)
+        → cons_option (f x) (filter_map f xs) ≡ cons_option (g x) (filter_map g xs)
+    by true e h more = absurd (let f : true ≡ false = h in cc)
+    by false e h more = let first = same x e in let rest = more h in λ i. cons_option (first i) (rest i)
+
+flat_map-same : {B : Type 0} (f g : List ℕ → List B) (F : List ℕ) (names : List (List ℕ)) → list_any (bytes_eq F) names ≡ false
+    → ((name : List ℕ) → bytes_eq F name ≡ false → f name ≡ g name) → flat_map f names ≡ flat_map g names
+flat_map-same f g F [] h same = refl
+flat_map-same {B = B} f g F (name ∷ names) h same = by (bytes_eq F name) refl h (λ k. flat_map-same f g F names k same)
+  where
+    by : (b : Bool) → bytes_eq F name ≡ b → (b || list_any (bytes_eq F) names) ≡ false → (list_any (bytes_eq F) names ≡ false → flat_map f names ≡ flat_map g names)
+        → f name ++ flat_map f names ≡ g name ++ flat_map g names
+    by true e h more = absurd (let f : true ≡ false = h in cc)
+    by false e h more = let first = same name e in let rest = more h in λ i. first i ++ rest i
+
+label_sets_same : (a : LabelSet) → label_sets_eq a a ≡ true
+label_sets_same [] = refl
+label_sets_same (l ∷ ls) = rw (bytes_same l.name, bytes_same l.value, label_sets_same ls) refl
+
+-- ---- readings of plain samples
+
+module _ (st : Setting) where
+  abbrev kept : Sample → LabelSet
+  kept s = kept_labels st.treatment s.labels
+
+  -- the samples of a family, the nearest first: each has its name, and no two have one label set
+  abbrev AreFresh : List ℕ → List Sample → Type 0
+  AreFresh F [] = Unit {0}
+  AreFresh F (y ∷ samples) = (list_any (λ t. label_sets_eq (kept t) (kept y)) samples ≡ false) × (y.name ≡ F) × AreFresh F samples
+
+  other_labels : (b : Bool) (t y : Sample) (F : List ℕ) → t.name ≡ F → y.name ≡ F → is_same_series st y t ≡ false → label_sets_eq (kept t) (kept y) ≡ false
+  other_labels b t y F n m h =
+      let names : bytes_eq t.name y.name ≡ true = (bytes_decides t.name y.name).1 (n ∙ sym m) in
+      sym (ap (λ b. b && label_sets_eq (kept t) (kept y)) names) ∙ h
+
+  no_same : (above : List Owned) (y : Sample) (F : List ℕ) → AreFit st above → y.name ≡ F → is_duplicate st above y ≡ false → list_any (λ t. label_sets_eq (kept t) (kept y)) (samples_of above F) ≡ false
+  unfolding is_duplicate samples_of
+  no_same [] y F fit name h = refl
+  no_same (o ∷ above) y F fit name h = by (is_of F o) (sample_of_line o.item) refl fit.0.named h (no_same above y F fit.1 name)
+    where
+      by : (b : Bool) (s : Option Sample) → is_of F o ≡ b → IfSome s (λ t. t.name ≡ o.family) → (some_passes (is_same_series st y) s || is_duplicate st above y) ≡ false
+          → (is_duplicate st above y ≡ false → list_any (λ t. label_sets_eq (kept t) (kept y)) (samples_of above F) ≡ false)
+          → list_any (λ t. label_sets_eq (kept t) (kept y)) (cons_option (cond b s None) (samples_of above F)) ≡ false
+      by false None e n h more = more h
+      by false (Some t) e n h more = more (second (is_same_series st y t) (is_duplicate st above y) h)
+        where
+          second : (a b : Bool) → (a || b) ≡ false → b ≡ false
+          second true b h = absurd (let f : true ≡ false = h in cc)
+          second false b h = h
+      by true None e n h more = more h
+      by true (Some t) e n h more = both (is_same_series st y t) refl h
+        where
+          both : (a : Bool) → is_same_series st y t ≡ a → (a || is_duplicate st above y) ≡ false → (label_sets_eq (kept t) (kept y) || list_any (λ t. label_sets_eq (kept t) (kept y)) (samples_of above F)) ≡ false
+          both true f k = absurd (let g : true ≡ false = k in cc)
+          both false f k = ap (λ b. b || list_any (λ t. label_sets_eq (kept t) (kept y)) (samples_of above F)) (other_labels true t y F (n ∙ (bytes_decides o.family F).0 e) name f) ∙ more k
+
+  fresh_samples : (above : List Owned) (F : List ℕ) → AreFit st above → AreFresh F (samples_of above F)
+  unfolding samples_of
+  fresh_samples [] F fit = tt
+  fresh_samples (o ∷ above) F fit = by (is_of F o) (sample_of_line o.item) refl fit.0.named fit.0.single (fresh_samples above F fit.1)
+    where
+      by : (b : Bool) (s : Option Sample) → is_of F o ≡ b → IfSome s (λ t. t.name ≡ o.family) → some_passes (is_duplicate st above) s ≡ false → AreFresh F (samples_of above F)
+          → AreFresh F (cons_option (cond b s None) (samples_of above F))
+      by false s e n h more = more
+      by true None e n h more = more
+      by true (Some y) e n h more = let name : y.name ≡ F = n ∙ (bytes_decides o.family F).0 e in (no_same above y F fit.1 name h, name, more)
+
+  reversed_samples : (above : List Owned) (F : List ℕ) → samples_of (reverse above) F ≡ reverse (samples_of above F)
+  unfolding samples_of
+  reversed_samples [] F = refl
+  reversed_samples (o ∷ above) F = samples_of-reverse o above F ∙ ap (λ l. l ++ samples_of (o ∷ []) F) (reversed_samples above F) ∙ by (sample_in F o)
+    where
+      by : (s : Option Sample) → reverse (samples_of above F) ++ cons_option s [] ≡ reverse (cons_option s (samples_of above F))
+      by None = append-nil (reverse (samples_of above F))
+      by (Some t) = sym (reverse-cons t (samples_of above F))
+
+  -- the reading of the samples of one label set
+  abbrev made : Kind → List ℕ → List ℕ → List Sample → LabelSet → Option Reading
+  made k F unit own labels = option_map (λ value. record {
+    key = record { name = key_name st.format k F; kind = k; unit = unit; labels = labels };
+    value = value;
+    created = value_with F (codes "_created") own;
+    stamp = stamp_of st.format k F own;
+    exemplars = exemplars_of k F own;
+  }) (value_of st.format k F own)
+
+  -- that of one plain sample of its own name
+  own_made : (k : Kind) (unit : List ℕ) (s : Sample) → st.format ≡ Text → is_plain k ≡ true → made k s.name unit (s ∷ []) (kept s) ≡ Some (reading_at k unit (key_of st s) s.value)
+  unfolding value_of value_with stamp_of exemplars_of
+  own_made Counter unit s text h = rw (text, drop_all s.name, append-nil s.name) refl
+  own_made Gauge unit s text h = rw (drop_all s.name) refl
+  own_made Unknown unit s text h = rw (drop_all s.name) refl
+  own_made Histogram unit s text h = absurd (let f : false ≡ true = h in cc)
+  own_made GaugeHistogram unit s text h = absurd (let f : false ≡ true = h in cc)
+  own_made StateSet unit s text h = absurd (let f : false ≡ true = h in cc)
+  own_made Info unit s text h = absurd (let f : false ≡ true = h in cc)
+  own_made Summary unit s text h = absurd (let f : false ≡ true = h in cc)
+
+  module _ (text : st.format ≡ Text) (k : Kind) (plain : is_plain k ≡ true) (F unit : List ℕ) where
+    plain_labels : (s : Sample) → reading_labels st k F s ≡ kept s
+    plain_labels s = by k plain
+      where
+        by : (k : Kind) → is_plain k ≡ true → reading_labels st k F s ≡ kept s
+        by Counter h = refl
+        by Gauge h = refl
+        by Unknown h = refl
+        by Histogram h = absurd (let f : false ≡ true = h in cc)
+        by GaugeHistogram h = absurd (let f : false ≡ true = h in cc)
+        by StateSet h = absurd (let f : false ≡ true = h in cc)
+        by Info h = absurd (let f : false ≡ true = h in cc)
+        by Summary h = absurd (let f : false ≡ true = h in cc)
+
+    -- the readings, with the labels as they are kept
+    abbrev by_labels : List Sample → List Reading
+    by_labels samples = filter_map (λ labels. made k F unit (filter (λ s. label_sets_eq (kept s) labels) samples) labels) (first_of_each label_sets_eq (map kept samples))
+
+    readings_by_labels : (samples : List Sample) → readings_of st k F unit samples ≡ by_labels samples
+    unfolding readings_of reading_of
+    readings_by_labels samples = λ i. filter_map (λ labels. made k F unit (filter (λ s. label_sets_eq (plain_labels s i) labels) samples) labels) (first_of_each label_sets_eq (map (λ s. plain_labels s i) samples))
+
+    -- the reading of one sample
+    abbrev read : Sample → Reading
+    read s = reading_at k unit (key_of st s) s.value
+
+    one_made : (s : Sample) → s.name ≡ F → made k F unit (s ∷ []) (kept s) ≡ Some (read s)
+    one_made s name = subst (λ G. made k G unit (s ∷ []) (kept s) ≡ Some (reading_at k unit (key_of st s) s.value)) name (own_made k unit s text plain)
+
+    -- one sample more, of labels that no other has
+    snoc_read : (samples : List Sample) (y : Sample) → list_any (λ t. label_sets_eq (kept t) (kept y)) samples ≡ false → y.name ≡ F → by_labels (samples ++ y ∷ []) ≡ by_labels samples ++ read y ∷ []
+    snoc_read samples y new name =
+        let f : LabelSet → Option Reading = λ labels. made k F unit (filter (λ s. label_sets_eq (kept s) labels) (samples ++ y ∷ [])) labels in
+        let g : LabelSet → Option Reading = λ labels. made k F unit (filter (λ s. label_sets_eq (kept s) labels) samples) labels in
+        let firsts : List LabelSet = first_of_each label_sets_eq (map kept samples) in
+        let labels : first_of_each label_sets_eq (map kept (samples ++ y ∷ [])) ≡ firsts ++ kept y ∷ [] =
+        ap (first_of_each label_sets_eq) (map-append kept samples (y ∷ [])) ∙ first_of_each-snoc label_sets_eq (map kept samples) (kept y)
+        ∙ ap (λ b. cond b firsts (firsts ++ kept y ∷ [])) (list_any-map (λ x. label_sets_eq x (kept y)) kept samples ∙ new) in
+        let others : list_any (λ l. label_sets_eq (kept y) l) firsts ≡ false =
+        any_first (λ l. label_sets_eq (kept y) l) label_sets_eq (map kept samples)
+        (list_any-map (λ l. label_sets_eq (kept y) l) kept samples ∙ ap (λ (p : Sample → Bool). list_any p samples) (λ i t. label_sets_swap (kept y) (kept t) i) ∙ new) in
+        let same : (l : LabelSet) → label_sets_eq (kept y) l ≡ false → f l ≡ g l = λ l e.
+        ap (λ own. made k F unit own l) (filter-append (λ s. label_sets_eq (kept s) l) samples (y ∷ [])
+        ∙ ap (λ b. filter (λ s. label_sets_eq (kept s) l) samples ++ cond b (y ∷ []) []) e ∙ append-nil (filter (λ s. label_sets_eq (kept s) l) samples)) in
+        let last : f (kept y) ≡ Some (read y) =
+        ap (λ own. made k F unit own (kept y)) (filter-append (λ s. label_sets_eq (kept s) (kept y)) samples (y ∷ [])
+        ∙ ap (λ b. filter (λ s. label_sets_eq (kept s) (kept y)) samples ++ cond b (y ∷ []) []) (label_sets_same (kept y))
+        ∙ ap (λ l. l ++ y ∷ []) (filter_none (λ s. label_sets_eq (kept s) (kept y)) samples new)) ∙ one_made y name in
+        ap (filter_map f) labels ∙ filter_map-append f firsts (kept y ∷ [])
+        ∙ ap (λ l. l ++ filter_map f (kept y ∷ [])) (filter_map-same f g (λ l. label_sets_eq (kept y) l) firsts others same)
+        ∙ ap (λ o. filter_map g firsts ++ cons_option o []) last
+
+    all_read : (samples : List Sample) → AreFresh F samples → by_labels (reverse samples) ≡ map read (reverse samples)
+    all_read [] h = refl
+    all_read (y ∷ samples) h =
+        ap by_labels (reverse-cons y samples) ∙ snoc_read (reverse samples) y (list_any-reverse (λ t. label_sets_eq (kept t) (kept y)) samples ∙ h.0) h.1
+        ∙ ap (λ l. l ++ read y ∷ []) (all_read samples h.2) ∙ sym (map-append read (reverse samples) (y ∷ [])) ∙ ap (map read) (sym (reverse-cons y samples))
+
+    -- the readings of a family are those of its samples
+    readings_read : (above : List Owned) → AreFit st above → readings_of st k F unit (samples_of (reverse above) F) ≡ map read (samples_of (reverse above) F)
+    readings_read above fit =
+        readings_by_labels (samples_of (reverse above) F) ∙ ap by_labels (reversed_samples above F) ∙ all_read (samples_of above F) (fresh_samples above F fit)
+        ∙ ap (map read) (sym (reversed_samples above F))
+
+-- ---- the lines of a family stand together
+
+samples_none : (above : List Owned) (F : List ℕ) → list_any (is_of F) above ≡ false → samples_of (reverse above) F ≡ []
+unfolding samples_of
+samples_none [] F none = refl
+samples_none (o ∷ above) F none = by (bytes_eq o.family F) refl none (samples_none above F)
+  where
+    by : (b : Bool) → bytes_eq o.family F ≡ b → (b || list_any (is_of F) above) ≡ false → (list_any (is_of F) above ≡ false → samples_of (reverse above) F ≡ []) → samples_of (reverse (o ∷ above)) F ≡ []
+    by true e h more = absurd (let f : true ≡ false = h in cc)
+    by false e h more = samples_of-reverse o above F ∙ ap (λ l. samples_of (reverse above) F ++ l) (none_of_other o F e) ∙ append-nil (samples_of (reverse above) F) ∙ more h
+
+module _ (st : Setting) where
+  -- the keys of a family's samples
+  abbrev keys_in : List Owned → List ℕ → List SampleKey
+  keys_in above F = map (key_of st) (samples_of (reverse above) F)
+
+  keys_other : (o : Owned) (above : List Owned) (F : List ℕ) → bytes_eq o.family F ≡ false → keys_in (o ∷ above) F ≡ keys_in above F
+  keys_other o above F e = ap (map (key_of st)) (samples_of-reverse o above F ∙ ap (λ l. samples_of (reverse above) F ++ l) (none_of_other o F e) ∙ append-nil (samples_of (reverse above) F))
+
+  keys_own : (o : Owned) (above : List Owned) → keys_in (o ∷ above) o.family ≡ keys_in above o.family ++ option_to_list (option_map (key_of st) (sample_of_line o.item))
+  keys_own o above = ap (map (key_of st)) (own_samples o.family o.item above) ∙ map-append (key_of st) (samples_of (reverse above) o.family) (option_to_list (sample_of_line o.item))
+      ∙ ap (λ l. keys_in above o.family ++ l) (by (sample_of_line o.item))
+    where
+      by : (s : Option Sample) → map (key_of st) (option_to_list s) ≡ option_to_list (option_map (key_of st) s)
+      by None = refl
+      by (Some s) = refl
+
+  one_flat : (f : List ℕ → List SampleKey) (F : List ℕ) → flat_map f (F ∷ []) ≡ f F
+  one_flat f F = append-nil (f F)
+
+  -- the keys of the left families and of the next line's
+  keys_before : (F : List ℕ) (item : Item) (above : List Owned) → AreFit st above → is_split above (record { family = F; item = item }) ≡ false
+      → flat_map (keys_in above) (families_of (reverse above)) ≡ flat_map (keys_in above) (left_before F above) ++ keys_in above F
+  unfolding left_before is_split families_of samples_of
+  keys_before F item [] fit h = refl
+  keys_before F item (n ∷ above) fit h =
+      ap (flat_map (keys_in (n ∷ above))) (families_of-reverse st n above fit) ∙ by (bytes_eq n.family F) refl h
+    where
+      by : (b : Bool) → bytes_eq n.family F ≡ b → (not b && list_any (is_of F) above) ≡ false
+          → flat_map (keys_in (n ∷ above)) (left_before n.family above ++ n.family ∷ [])
+          ≡ flat_map (keys_in (n ∷ above)) (cond b (left_before n.family above) (left_before n.family above ++ n.family ∷ [])) ++ keys_in (n ∷ above) F
+      by true e none = flat_map-append (keys_in (n ∷ above)) (left_before n.family above) (n.family ∷ [])
+          ∙ ap (λ l. flat_map (keys_in (n ∷ above)) (left_before n.family above) ++ l) (one_flat (keys_in (n ∷ above)) n.family ∙ ap (keys_in (n ∷ above)) ((bytes_decides n.family F).0 e))
+      by false e none =
+          sym (append-nil (flat_map (keys_in (n ∷ above)) (left_before n.family above ++ n.family ∷ [])))
+          ∙ ap (λ l. flat_map (keys_in (n ∷ above)) (left_before n.family above ++ n.family ∷ []) ++ l) (sym (ap (map (key_of st)) (samples_none (n ∷ above) F (rw e none))))
+
+  -- the keys stand family by family
+  together : (above : List Owned) → AreFit st above → keys_of st above ≡ flat_map (keys_in above) (families_of (reverse above))
+  unfolding keys_of left_before families_of
+  together [] fit = refl
+  together (o ∷ above) fit =
+      let own : List SampleKey = option_to_list (option_map (key_of st) (sample_of_line o.item)) in
+      let before : keys_of st above ≡ flat_map (keys_in above) (left_before o.family above) ++ keys_in above o.family = together above fit.1 ∙ keys_before o.family o.item above fit.1 fit.0.together in
+      ap (λ l. l ++ own) before ∙ append_assoc (flat_map (keys_in above) (left_before o.family above)) (keys_in above o.family) own
+      ∙ ap (λ l. flat_map (keys_in above) (left_before o.family above) ++ l) (sym (keys_own o above))
+      ∙ ap (λ l. l ++ keys_in (o ∷ above) o.family) (flat_map-same (keys_in above) (keys_in (o ∷ above)) o.family (left_before o.family above) (fresh st o.family o.item above fit.1 fit.0.together) (λ name e. sym (keys_other o above name e)))
+      ∙ ap (λ l. flat_map (keys_in (o ∷ above)) (left_before o.family above) ++ l) (sym (one_flat (keys_in (o ∷ above)) o.family))
+      ∙ sym (flat_map-append (keys_in (o ∷ above)) (left_before o.family above) (o.family ∷ []))
+      ∙ ap (flat_map (keys_in (o ∷ above))) (sym (families_of-reverse st o above fit))
+
+-- ---- families
+
+taken : (st : Setting) (k : Kind) (unit : List ℕ) (samples : List Sample) (more : List SampleKey)
+    → readings_at k unit (map (key_of st) samples ++ more) (map (λ (s : Sample). s.value) samples) ≡ map (λ s. reading_at k unit (key_of st s) s.value) samples
+taken st k unit [] [] = refl
+taken st k unit [] (key ∷ more) = refl
+taken st k unit (s ∷ samples) more = ap (λ l. reading_at k unit (key_of st s) s.value ∷ l) (taken st k unit samples more)
+
+dropped : (st : Setting) (samples : List Sample) (more : List SampleKey) → drop (length (map (λ (s : Sample). s.value) samples)) (map (key_of st) samples ++ more) ≡ more
+dropped st [] [] = refl
+dropped st [] (key ∷ more) = refl
+dropped st (s ∷ samples) more = dropped st samples more
+
+one_family : (st : Setting) (above : List Owned) (F : List ℕ) (more : List SampleKey) → st.format ≡ Text → AreFit st above
+    → family_at F (so_far above F) (keys_in st above F ++ more) ≡ family_of st (reverse above) F
+unfolding family_of so_far kind_of
+one_family st above F more text fit =
+    let help : first_some (help_in F) above ≡ first_some (help_in F) (reverse above) = sym (once_reverse help_of_line above F (help_once st above fit)) in
+    let kinds : first_some (declared_kind F) above ≡ first_some (declared_kind F) (reverse above) = sym (once_reverse kind_of_line above F (kind_once st above fit)) in
+    let units : first_some (unit_in F) above ≡ first_some (unit_in F) (reverse above) = sym (once_reverse unit_of_line above F (unit_once st above fit)) in
+    let k : Kind = unwrap_or (first_some (declared_kind F) above) Unknown in
+    let unit : List ℕ = unwrap_or (first_some (unit_in F) above) [] in
+    let rs : readings_at k unit (keys_in st above F ++ more) (map (λ (s : Sample). s.value) (samples_of (reverse above) F)) ≡ readings_of st k F unit (samples_of (reverse above) F) =
+    taken st k unit (samples_of (reverse above) F) more ∙ sym (readings_read st text k (plain_kind st above F fit) F unit above fit) in
+    (λ i. record { name = F; kind = k; help = unwrap_or (first_some (help_in F) above) []; unit = unit; readings = rs i })
+    ∙ (λ i. record {
+      name = F;
+      kind = unwrap_or (kinds i) Unknown;
+      help = unwrap_or (help i) [];
+      unit = unwrap_or (units i) [];
+      readings = readings_of st (unwrap_or (kinds i) Unknown) F (unwrap_or (units i) []) (samples_of (reverse above) F);
+    })
+
+all_families : (st : Setting) (above : List Owned) (names : List (List ℕ)) → st.format ≡ Text → AreFit st above
+    → families_at (pairs (so_far above) names) (flat_map (keys_in st above) names) ≡ map (family_of st (reverse above)) names
+unfolding families_at so_far
+all_families st above [] text fit = refl
+all_families st above (F ∷ names) text fit =
+    let first : family_at F (so_far above F) (keys_in st above F ++ flat_map (keys_in st above) names) ≡ family_of st (reverse above) F = one_family st above F (flat_map (keys_in st above) names) text fit in
+    let rest : families_at (pairs (so_far above) names) (drop (length (so_far above F).values) (keys_in st above F ++ flat_map (keys_in st above) names)) ≡ map (family_of st (reverse above)) names =
+    ap (families_at (pairs (so_far above) names)) (dropped st (samples_of (reverse above) F) (flat_map (keys_in st above) names)) ∙ all_families st above names text fit in
+    λ i. first i ∷ rest i
+
+-- the families that were left, with the current one, are those of the lines
+all_pairs : (st : Setting) (above : List Owned) → AreFit st above → with_left (pairs (so_far above) (left_families above)) (current_family above) ≡ pairs (so_far above) (families_of (reverse above))
+unfolding left_families current_family families_of
+all_pairs st [] fit = refl
+all_pairs st (n ∷ above) fit =
+    let last : lookup (bytes_eq n.family) (pairs (so_far (n ∷ above)) (left_before n.family above)) ≡ None =
+    lookup-map (so_far (n ∷ above)) n.family (left_before n.family above) ∙ ap (λ b. cond b (Some (so_far (n ∷ above) n.family)) None) (fresh st n.family n.item above fit.1 fit.0.together) in
+    insert_entry-last (pairs (so_far (n ∷ above)) (left_before n.family above)) n.family (so_far (n ∷ above) n.family) last
+    ∙ sym (map-append (λ name. (name, so_far (n ∷ above) name)) (left_before n.family above) (n.family ∷ []))
+    ∙ ap (pairs (so_far (n ∷ above))) (sym (families_of-reverse st n above fit))
+
+pub end_text : (st : Setting) (c : Checking) (earlier : List Item) (clean : Bool) → Stands st c earlier → end_fault st earlier clean ≡ cond (not clean) (Some rules.NoNewline) None
+unfolding end_fault end_breaks is_without_eof
+end_text st c earlier clean s = rw (nothing_left st (owned_lines st.format earlier) None (fit_lines st earlier s.text s.faultless), s.text) refl
+
+-- the page of what is kept is that of the lines
+pub page_built : (st : Setting) (c : Checking) (earlier : List Item) → Stands st c earlier → page_at c ≡ page_of st earlier
+unfolding page_at page_of
+page_built st c earlier s =
+    let above : List Owned = owned_lines st.format earlier in
+    let fit : AreFit st above = fit_lines st earlier s.text s.faultless in
+    let kept_is : with_left c.left c.current ≡ pairs (so_far above) (families_of (reverse above)) = (λ i. with_left (s.left i) (s.current i)) ∙ all_pairs st above fit in
+    let seen_is : c.seen ≡ flat_map (keys_in st above) (families_of (reverse above)) = s.seen ∙ together st above fit in
+    let families : families_at (with_left c.left c.current) c.seen ≡ map (family_of st (reverse above)) (families_of (reverse above)) =
+    (λ i. families_at (kept_is i) (seen_is i)) ∙ all_families st above (families_of (reverse above)) s.text fit in
+    λ i. record { families = families i; samples = s.samples i }

@@ -1,0 +1,292 @@
+-- What is known of each family, and which families were left, once a line is added.
+use Rattle.std.proofs.Common.{◌≡◌, ℕ, suc, arith, Bool, true, false, cond, not, ◌&&◌, ◌||◌, List, [], ◌∷◌, ◌++◌, map, length, Option, Some, None, refl, sym, ap, subst, ◌∙◌, reverse, is_some}
+use Rattle.std.specs.Prelude.{◌==◌}
+use Rattle.std.specs.List.{list_any, cons_option}
+use Rattle.std.specs.Option.{option_or, option_to_list}
+use Rattle.std.specs.Str.{bytes_eq}
+use Rattle.std.specs.Cmp.Lexicographic.{bytes_decides}
+use Rattle.std.proofs.lemmas.List.{append-nil, map-append}
+use Rattle.std.proofs.lemmas.List.Elements.{filter_map-append}
+use Rattle.std.proofs.lemmas.List.Folds.{list_any-append}
+use Rattle.label_sets.specs.declared.kind.Kind.{Kind}
+use Rattle.label_sets.specs.Lists.{first_of_each}
+use Rattle.page_model.specs.declared.item.Item.{Item}
+use Rattle.page_model.specs.declared.item.Item.TheVariants as items
+use Rattle.page_model.specs.declared.item.Sample.{Sample}
+use Rattle.page_model.specs.Written.{Setting}
+use Rattle.page_model.specs.Items.{is_sample, sample_of_line, kind_of_line, help_of_line, unit_of_line, are_one_sort, is_descriptor}
+use Rattle.page_model.specs.Owners.{Owned, is_of, samples_of, sample_in}
+use Rattle.page_model.specs.Rules.{is_late_descriptor, is_split}
+use Rattle.page_model.specs.Readings.{families_of}
+use Rattle.family_rules.specs.declared.family.FamilySoFar.{FamilySoFar}
+use Rattle.family_rules.specs.Checking.{so_far, no_lines, left_before, has_samples, has_sort}
+use Rattle.family_rules.proofs.Lists.{or_false, bytes_same, bytes_swap, reverse-cons, first_of_each-snoc, list_any-map, list_any-reverse}
+use Rattle.family_rules.proofs.Faults.{AreFit}
+
+-- ---- which families were left
+
+-- the families that were left and the nearest one are those of the lines
+pub known_lines : (q F : List ℕ) (above : List Owned) → (list_any (bytes_eq q) (left_before F above) || bytes_eq F q) ≡ (bytes_eq F q || list_any (is_of q) above)
+unfolding left_before
+known_lines q F [] = sym (or_false (bytes_eq F q))
+known_lines q F (n ∷ above) = by (bytes_eq n.family F) refl
+    (known_lines q n.family above)
+  where
+    idempotent : (a b c : Bool) → a ≡ b → (a || c) ≡ (b || (a || c))
+    idempotent true b c e = sym (ap (λ x. x || true) (sym e))
+    idempotent false b c e = ap (λ x. x || c) e
+
+    commuted : (a b c d : Bool) → (a || b) ≡ (b || c) → ((a || (b || false)) || d) ≡ (d || (b || c))
+    commuted true true c true e = refl
+    commuted true true c false e = refl
+    commuted true false c true e = refl
+    commuted true false c false e = e
+    commuted false true c true e = refl
+    commuted false true c false e = refl
+    commuted false false c true e = refl
+    commuted false false c false e = e
+
+    by : (b : Bool) → bytes_eq n.family F ≡ b → (list_any (bytes_eq q) (left_before n.family above) || bytes_eq n.family q) ≡ (bytes_eq n.family q || list_any (is_of q) above)
+        → (list_any (bytes_eq q) (cond b (left_before n.family above) (left_before n.family above ++ n.family ∷ [])) || bytes_eq F q)
+        ≡ (bytes_eq F q || (bytes_eq n.family q || list_any (is_of q) above))
+    by true e ih =
+        let same : n.family ≡ F = (bytes_decides n.family F).0 e in
+        let test : bytes_eq n.family q ≡ bytes_eq F q = ap (λ x. bytes_eq x q) same in
+        ap (λ x. list_any (bytes_eq q) (left_before n.family above) || x) (sym test) ∙ ih ∙ idempotent (bytes_eq n.family q) (bytes_eq F q) (list_any (is_of q) above) test
+    by false e ih =
+        ap (λ x. x || bytes_eq F q) (list_any-append (bytes_eq q) (left_before n.family above) (n.family ∷ [])
+        ∙ ap (λ x. list_any (bytes_eq q) (left_before n.family above) || (x || false)) (bytes_swap q n.family))
+        ∙ commuted (list_any (bytes_eq q) (left_before n.family above)) (bytes_eq n.family q) (list_any (is_of q) above) (bytes_eq F q) ih
+
+-- a family that isn't split off was not left
+pub fresh : (st : Setting) (F : List ℕ) (item : Item) (above : List Owned) → AreFit st above → is_split above (record { family = F; item = item }) ≡ false → list_any (bytes_eq F) (left_before F above) ≡ false
+unfolding left_before is_split
+fresh st F item [] fit h = refl
+fresh st F item (n ∷ above) fit h = by (bytes_eq n.family F) refl h (fresh st n.family n.item above fit.1 fit.0.together)
+  where
+    by : (b : Bool) → bytes_eq n.family F ≡ b → (not b && list_any (is_of F) above) ≡ false → list_any (bytes_eq n.family) (left_before n.family above) ≡ false
+        → list_any (bytes_eq F) (cond b (left_before n.family above) (left_before n.family above ++ n.family ∷ [])) ≡ false
+    by true e none ih = let same : n.family ≡ F = (bytes_decides n.family F).0 e in subst (λ G. list_any (bytes_eq G) (left_before n.family above) ≡ false) same ih
+    by false e none ih =
+        let known : (list_any (bytes_eq F) (left_before n.family above) || false) ≡ list_any (is_of F) above = rw e at (known_lines F n.family above) in
+        list_any-append (bytes_eq F) (left_before n.family above) (n.family ∷ [])
+        ∙ ap (λ x. list_any (bytes_eq F) (left_before n.family above) || (x || false)) (bytes_swap F n.family ∙ e) ∙ known ∙ none
+
+-- the families in the order of their first lines are those that were left and the nearest one
+pub families_of-reverse : (st : Setting) (o : Owned) (above : List Owned) → AreFit st (o ∷ above) → families_of (reverse (o ∷ above)) ≡ left_before o.family above ++ o.family ∷ []
+unfolding families_of left_before is_split
+families_of-reverse st o [] fit = refl
+families_of-reverse st o (n ∷ above) fit =
+    ap (λ l. first_of_each bytes_eq (map (λ (x : Owned). x.family) l)) (reverse-cons o (n ∷ above))
+    ∙ ap (first_of_each bytes_eq) (map-append (λ (x : Owned). x.family) (reverse (n ∷ above)) (o ∷ []))
+    ∙ first_of_each-snoc bytes_eq (map (λ (x : Owned). x.family) (reverse (n ∷ above))) o.family
+    ∙ ap (λ b. cond b (families_of (reverse (n ∷ above))) (families_of (reverse (n ∷ above)) ++ o.family ∷ []))
+    (list_any-map (λ x. bytes_eq x o.family) (λ (x : Owned). x.family) (reverse (n ∷ above)) ∙ list_any-reverse (is_of o.family) (n ∷ above))
+    ∙ by (bytes_eq n.family o.family) refl fit.0.together (families_of-reverse st n above fit.1)
+  where
+    by : (b : Bool) → bytes_eq n.family o.family ≡ b → (not b && list_any (is_of o.family) above) ≡ false
+        → families_of (reverse (n ∷ above)) ≡ left_before n.family above ++ n.family ∷ []
+        → cond (b || list_any (is_of o.family) above) (families_of (reverse (n ∷ above))) (families_of (reverse (n ∷ above)) ++ o.family ∷ [])
+        ≡ cond b (left_before n.family above) (left_before n.family above ++ n.family ∷ []) ++ o.family ∷ []
+    by true e none ih = ih ∙ ap (λ F. left_before n.family above ++ F ∷ []) ((bytes_decides n.family o.family).0 e)
+    by false e none ih = rw none (ap (λ l. l ++ o.family ∷ []) ih)
+
+-- ---- what is known of a family
+
+samples_of-snoc : (lines : List Owned) (o : Owned) (G : List ℕ) → samples_of (lines ++ o ∷ []) G ≡ samples_of lines G ++ samples_of (o ∷ []) G
+unfolding samples_of
+samples_of-snoc lines o G = filter_map-append (sample_in G) lines (o ∷ [])
+
+pub samples_of-reverse : (o : Owned) (above : List Owned) (G : List ℕ) → samples_of (reverse (o ∷ above)) G ≡ samples_of (reverse above) G ++ samples_of (o ∷ []) G
+samples_of-reverse o above G = ap (λ l. samples_of l G) (reverse-cons o above) ∙ samples_of-snoc (reverse above) o G
+
+pub none_of_other : (o : Owned) (G : List ℕ) → bytes_eq o.family G ≡ false → samples_of (o ∷ []) G ≡ []
+unfolding samples_of
+none_of_other o G e = rw e refl
+
+-- a line of another family changes nothing
+pub so_far-other : (o : Owned) (above : List Owned) (G : List ℕ) → bytes_eq o.family G ≡ false → so_far (o ∷ above) G ≡ so_far above G
+unfolding so_far
+so_far-other o above G e =
+    let values : samples_of (reverse (o ∷ above)) G ≡ samples_of (reverse above) G =
+    samples_of-reverse o above G ∙ ap (λ l. samples_of (reverse above) G ++ l) (none_of_other o G e) ∙ append-nil (samples_of (reverse above) G) in
+    rw (e, values) refl
+
+-- ---- a line of the family itself
+
+one_option : {A : Type 0} (o : Option A) → cons_option o [] ≡ option_to_list o
+one_option None = refl
+one_option (Some x) = refl
+
+own_line : (F : List ℕ) (item : Item) → samples_of (record { family = F; item = item } ∷ []) F ≡ option_to_list (sample_of_line item)
+unfolding samples_of
+own_line F item = rw (bytes_same F) (one_option (sample_of_line item))
+
+pub own_samples : (F : List ℕ) (item : Item) (above : List Owned)
+    → samples_of (reverse (record { family = F; item = item } ∷ above)) F ≡ samples_of (reverse above) F ++ option_to_list (sample_of_line item)
+own_samples F item above = samples_of-reverse (record { family = F; item = item }) above F ∙ ap (λ l. samples_of (reverse above) F ++ l) (own_line F item)
+
+pub so_far-help : (F text : List ℕ) (above : List Owned) → so_far (record { family = F; item = items.Help F text } ∷ above) F ≡ record (so_far above F) { help = Some text }
+unfolding so_far
+so_far-help F text above =
+    let values = own_samples F (items.Help F text) above ∙ append-nil (samples_of (reverse above) F) in
+    rw (bytes_same F, values) refl
+
+pub so_far-kind : (F : List ℕ) (kind : Kind) (above : List Owned) → so_far (record { family = F; item = items.KindOf F kind } ∷ above) F ≡ record (so_far above F) { kind = Some kind }
+unfolding so_far
+so_far-kind F kind above =
+    let values = own_samples F (items.KindOf F kind) above ∙ append-nil (samples_of (reverse above) F) in
+    rw (bytes_same F, values) refl
+
+pub so_far-unit : (F unit : List ℕ) (above : List Owned) → so_far (record { family = F; item = items.Unit F unit } ∷ above) F ≡ record (so_far above F) { unit = Some unit }
+unfolding so_far
+so_far-unit F unit above =
+    let values = own_samples F (items.Unit F unit) above ∙ append-nil (samples_of (reverse above) F) in
+    rw (bytes_same F, values) refl
+
+pub so_far-sample : (F : List ℕ) (s : Sample) (above : List Owned)
+    → so_far (record { family = F; item = items.Sample s } ∷ above) F ≡ record (so_far above F) { values = (so_far above F).values ++ s.value ∷ [] }
+unfolding so_far
+so_far-sample F s above =
+    let values = ap (map (λ (t : Sample). t.value)) (own_samples F (items.Sample s) above) ∙ map-append (λ (t : Sample). t.value) (samples_of (reverse above) F) (s ∷ []) in
+    rw (bytes_same F, values) refl
+
+-- nothing is known of a family without lines
+pub so_far-none : (above : List Owned) (F : List ℕ) → list_any (is_of F) above ≡ false → so_far above F ≡ no_lines
+unfolding so_far samples_of
+so_far-none [] F none = refl
+so_far-none (o ∷ above) F none = by (bytes_eq o.family F) refl none (so_far-none above F)
+  where
+    by : (b : Bool) → bytes_eq o.family F ≡ b → (b || list_any (is_of F) above) ≡ false → (list_any (is_of F) above ≡ false → so_far above F ≡ no_lines) → so_far (o ∷ above) F ≡ no_lines
+    by true e h ih = absurd (let f : true ≡ false = h in cc)
+    by false e h ih = so_far-other o above F e ∙ ih h
+
+-- ---- descriptors
+
+suc_zero : (n : ℕ) → (suc n == 0) ≡ false
+suc_zero n = grind arith
+
+not_zero-append : {A : Type 0} (xs ys : List A) → not (length (xs ++ ys) == 0) ≡ (not (length xs == 0) || not (length ys == 0))
+not_zero-append [] ys = refl
+not_zero-append (x ∷ xs) ys = rw (suc_zero (length (xs ++ ys)), suc_zero (length xs)) refl
+
+or_swap : (a b : Bool) → (a || b) ≡ (b || a)
+or_swap true true = refl
+or_swap true false = refl
+or_swap false true = refl
+or_swap false false = refl
+
+some_value : (b : Bool) (item : Item) → not (length (map (λ (s : Sample). s.value) (cons_option (cond b (sample_of_line item) None) [])) == 0) ≡ (b && is_sample item)
+some_value false item = refl
+some_value true (items.Sample s) = refl
+some_value true items.Blank = refl
+some_value true items.Comment = refl
+some_value true items.Eof = refl
+some_value true (items.Help n t) = refl
+some_value true (items.KindOf n k) = refl
+some_value true (items.Unit n u) = refl
+
+some_sample : (above : List Owned) (F : List ℕ) → has_samples (so_far above F) ≡ list_any (λ o. is_of F o && is_sample o.item) above
+unfolding so_far samples_of
+some_sample [] F = refl
+some_sample (o ∷ above) F =
+    ap (λ l. not (length (map (λ (s : Sample). s.value) l) == 0)) (samples_of-reverse o above F)
+    ∙ ap (λ l. not (length l == 0)) (map-append (λ (s : Sample). s.value) (samples_of (reverse above) F) (samples_of (o ∷ []) F))
+    ∙ not_zero-append (map (λ (s : Sample). s.value) (samples_of (reverse above) F)) (map (λ (s : Sample). s.value) (samples_of (o ∷ []) F))
+    ∙ or_swap (has_samples (so_far above F)) (not (length (map (λ (s : Sample). s.value) (samples_of (o ∷ []) F)) == 0))
+    ∙ ap (λ b. b || has_samples (so_far above F)) (some_value (is_of F o) o.item)
+    ∙ ap (λ b. (is_of F o && is_sample o.item) || b) (some_sample above F)
+
+-- a descriptor of the same sort, by the sorts
+sort_step : (item other : Item) (b : Bool) (f : FamilySoFar)
+    → is_descriptor item ≡ true → has_sort item (record f {
+      help = option_or (cond b (help_of_line other) None) f.help;
+      kind = option_or (cond b (kind_of_line other) None) f.kind;
+      unit = option_or (cond b (unit_of_line other) None) f.unit;
+    }) ≡ ((b && are_one_sort item other) || has_sort item f)
+sort_step item other false f h = same item
+  where
+    same : (item : Item) → has_sort item (record f { help = f.help; kind = f.kind; unit = f.unit }) ≡ has_sort item f
+    same items.Blank = refl
+    same items.Comment = refl
+    same items.Eof = refl
+    same (items.Help n t) = refl
+    same (items.KindOf n k) = refl
+    same (items.Unit n u) = refl
+    same (items.Sample s) = refl
+sort_step (items.Help n t) (items.Help m u) true f h = refl
+sort_step (items.Help n t) (items.KindOf m u) true f h = refl
+sort_step (items.Help n t) (items.Unit m u) true f h = refl
+sort_step (items.Help n t) (items.Sample s) true f h = refl
+sort_step (items.Help n t) items.Blank true f h = refl
+sort_step (items.Help n t) items.Comment true f h = refl
+sort_step (items.Help n t) items.Eof true f h = refl
+sort_step (items.KindOf n t) (items.Help m u) true f h = refl
+sort_step (items.KindOf n t) (items.KindOf m u) true f h = refl
+sort_step (items.KindOf n t) (items.Unit m u) true f h = refl
+sort_step (items.KindOf n t) (items.Sample s) true f h = refl
+sort_step (items.KindOf n t) items.Blank true f h = refl
+sort_step (items.KindOf n t) items.Comment true f h = refl
+sort_step (items.KindOf n t) items.Eof true f h = refl
+sort_step (items.Unit n t) (items.Help m u) true f h = refl
+sort_step (items.Unit n t) (items.KindOf m u) true f h = refl
+sort_step (items.Unit n t) (items.Unit m u) true f h = refl
+sort_step (items.Unit n t) (items.Sample s) true f h = refl
+sort_step (items.Unit n t) items.Blank true f h = refl
+sort_step (items.Unit n t) items.Comment true f h = refl
+sort_step (items.Unit n t) items.Eof true f h = refl
+sort_step (items.Sample s) other true f h = absurd (let e : false ≡ true = h in cc)
+sort_step items.Blank other true f h = absurd (let e : false ≡ true = h in cc)
+sort_step items.Comment other true f h = absurd (let e : false ≡ true = h in cc)
+sort_step items.Eof other true f h = absurd (let e : false ≡ true = h in cc)
+
+sort_alike : (item : Item) (f g : FamilySoFar) → f.help ≡ g.help → f.kind ≡ g.kind → f.unit ≡ g.unit → has_sort item f ≡ has_sort item g
+sort_alike items.Blank f g h k u = refl
+sort_alike items.Comment f g h k u = refl
+sort_alike items.Eof f g h k u = refl
+sort_alike (items.Help n t) f g h k u = ap is_some h
+sort_alike (items.KindOf n t) f g h k u = ap is_some k
+sort_alike (items.Unit n t) f g h k u = ap is_some u
+sort_alike (items.Sample s) f g h k u = refl
+
+same_sort : (above : List Owned) (F : List ℕ) (item : Item) → is_descriptor item ≡ true → has_sort item (so_far above F) ≡ list_any (λ o. is_of F o && are_one_sort item o.item) above
+unfolding so_far
+same_sort [] F item h = by item
+  where
+    by : (item : Item) → has_sort item (so_far [] F) ≡ false
+    by items.Blank = refl
+    by items.Comment = refl
+    by items.Eof = refl
+    by (items.Help n t) = refl
+    by (items.KindOf n k) = refl
+    by (items.Unit n u) = refl
+    by (items.Sample s) = refl
+same_sort (o ∷ above) F item h =
+    sort_alike item (so_far (o ∷ above) F) (record (so_far above F) {
+      help = option_or (cond (is_of F o) (help_of_line o.item) None) (so_far above F).help;
+      kind = option_or (cond (is_of F o) (kind_of_line o.item) None) (so_far above F).kind;
+      unit = option_or (cond (is_of F o) (unit_of_line o.item) None) (so_far above F).unit;
+    }) refl refl refl
+    ∙ sort_step item o.item (is_of F o) (so_far above F) h
+    ∙ ap (λ b. (is_of F o && are_one_sort item o.item) || b) (same_sort above F item h)
+
+any_split : {A : Type 0} (p a b : A → Bool) (xs : List A) → list_any (λ x. p x && (a x || b x)) xs ≡ (list_any (λ x. p x && a x) xs || list_any (λ x. p x && b x) xs)
+any_split p a b [] = refl
+any_split p a b (x ∷ xs) = ap (λ c. (p x && (a x || b x)) || c) (any_split p a b xs) ∙ by (p x) (a x) (b x) (list_any (λ x. p x && a x) xs) (list_any (λ x. p x && b x) xs)
+  where
+    by : (p a b c d : Bool) → ((p && (a || b)) || (c || d)) ≡ (((p && a) || c) || ((p && b) || d))
+    by false a b c d = refl
+    by true true b c d = refl
+    by true false true true d = refl
+    by true false true false d = refl
+    by true false false c d = refl
+
+-- a late descriptor, by what is known of its family
+pub late_known : (above : List Owned) (F : List ℕ) (item : Item) → is_descriptor item ≡ true
+    → is_late_descriptor above (record { family = F; item = item }) ≡ (has_sort item (so_far above F) || has_samples (so_far above F))
+unfolding is_late_descriptor
+late_known above F item h =
+    ap (λ b. b && list_any (λ o. is_of F o && (are_one_sort item o.item || is_sample o.item)) above) h
+    ∙ any_split (is_of F) (λ o. are_one_sort item o.item) (λ o. is_sample o.item) above
+    ∙ ap (λ b. b || list_any (λ o. is_of F o && is_sample o.item) above) (sym (same_sort above F item h))
+    ∙ ap (λ b. has_sort item (so_far above F) || b) (sym (some_sample above F))

@@ -1,0 +1,105 @@
+-- Laws on lists: one element more at the end, and look-ups in a list of pairs that is made from names.
+use Rattle.std.proofs.Common.{◌≡◌, ℕ, Bool, true, false, cond, not, ◌&&◌, ◌||◌, List, [], ◌∷◌, ◌++◌, map, filter, Option, Some, None, refl, sym, ap, ◌∙◌, reverse}
+use Rattle.std.proofs.lemmas.List.{append-nil, reverse-append}
+use Rattle.std.proofs.lemmas.List.Elements.{filter-append}
+use Rattle.std.proofs.lemmas.List.Sorted.{IsPermutation-reverse, list_any-IsPermutation}
+use Rattle.std.specs.List.{list_any}
+use Rattle.std.specs.Option.{option_or}
+use Rattle.std.specs.Str.{bytes_eq}
+use Rattle.std.specs.Map.{lookup}
+use Rattle.std.specs.Cmp.Lexicographic.{bytes_decides, nat_list_eq_equiv}
+use Rattle.indexmap.specs.IndexMap.{insert_entry}
+use Rattle.label_sets.specs.Lists.{first_of_each, first_some}
+
+-- ---- tests
+
+pub and_false : (a : Bool) → (a && false) ≡ false
+and_false true = refl
+and_false false = refl
+
+pub or_false : (a : Bool) → (a || false) ≡ a
+or_false true = refl
+or_false false = refl
+
+-- a choice that answers nothing took the second branch, which answers nothing
+pub cond_none : {A : Type 0} (b : Bool) (x : A) (r : Option A) → cond b (Some x) r ≡ None → (b ≡ false) × (r ≡ None)
+cond_none true x r e = absurd (let f : Some x ≡ None = e in cc)
+cond_none false x r e = (refl, e)
+
+pub bytes_same : (a : List ℕ) → bytes_eq a a ≡ true
+bytes_same a = (bytes_decides a a).1 refl
+
+pub bytes_swap : (a b : List ℕ) → bytes_eq a b ≡ bytes_eq b a
+bytes_swap a b = nat_list_eq_equiv.symm a b
+
+-- ---- one element more at the end
+
+pub reverse-cons : {A : Type 0} (x : A) (xs : List A) → reverse (x ∷ xs) ≡ reverse xs ++ x ∷ []
+reverse-cons x xs = reverse-append (x ∷ []) xs
+
+pub first_of_each-snoc : {A : Type 0} (eq : A → A → Bool) (xs : List A) (y : A)
+    → first_of_each eq (xs ++ y ∷ []) ≡ cond (list_any (λ x. eq x y) xs) (first_of_each eq xs) (first_of_each eq xs ++ y ∷ [])
+first_of_each-snoc eq [] y = refl
+first_of_each-snoc {A = A} eq (x ∷ xs) y =
+    ap (λ l. x ∷ filter (λ z. not (eq x z)) l) (first_of_each-snoc eq xs y) ∙ by (eq x y) (list_any (λ z. eq z y) xs) refl
+  where
+    by : (b c : Bool) → eq x y ≡ b → x ∷ filter (λ z. not (eq x z)) (cond c (first_of_each eq xs) (first_of_each eq xs ++ y ∷ []))
+        ≡ cond (b || c) (x ∷ filter (λ z. not (eq x z)) (first_of_each eq xs)) (x ∷ (filter (λ z. not (eq x z)) (first_of_each eq xs) ++ y ∷ []))
+    by true true e = refl
+    by false true e = refl
+    by true false e = ap (λ l. x ∷ l) (filter-append (λ z. not (eq x z)) (first_of_each eq xs) (y ∷ [])
+        ∙ ap (λ b. filter (λ z. not (eq x z)) (first_of_each eq xs) ++ cond (not b) (y ∷ []) []) e ∙ append-nil (filter (λ z. not (eq x z)) (first_of_each eq xs)))
+    by false false e = ap (λ l. x ∷ l) (filter-append (λ z. not (eq x z)) (first_of_each eq xs) (y ∷ [])
+        ∙ ap (λ b. filter (λ z. not (eq x z)) (first_of_each eq xs) ++ cond (not b) (y ∷ []) []) e)
+
+pub list_any-map : {A B : Type 0} (p : B → Bool) (f : A → B) (xs : List A) → list_any p (map f xs) ≡ list_any (λ x. p (f x)) xs
+list_any-map p f [] = refl
+list_any-map p f (x ∷ xs) = ap (λ b. p (f x) || b) (list_any-map p f xs)
+
+pub list_any-reverse : {A : Type 0} (p : A → Bool) (xs : List A) → list_any p (reverse xs) ≡ list_any p xs
+list_any-reverse p xs = sym (list_any-IsPermutation p xs (reverse xs) (IsPermutation-reverse xs))
+
+pub first_some-append : {A B : Type 0} (f : A → Option B) (xs ys : List A) → first_some f (xs ++ ys) ≡ option_or (first_some f xs) (first_some f ys)
+first_some-append f [] ys = refl
+first_some-append {A = A} {B = B} f (x ∷ xs) ys = ap (option_or (f x)) (first_some-append f xs ys) ∙ by (f x)
+  where
+    by : (o : Option B) → option_or o (option_or (first_some f xs) (first_some f ys)) ≡ option_or (option_or o (first_some f xs)) (first_some f ys)
+    by None = refl
+    by (Some v) = refl
+
+-- ---- pairs made from names
+
+-- the names with their values
+abbrev pub pairs : {V : Type 0} → (List ℕ → V) → List (List ℕ) → List (List ℕ × V)
+pairs g names = map (λ name. (name, g name)) names
+
+pub lookup-map : {V : Type 0} (g : List ℕ → V) (q : List ℕ) (names : List (List ℕ))
+    → lookup (bytes_eq q) (pairs g names) ≡ cond (list_any (bytes_eq q) names) (Some (g q)) None
+lookup-map g q [] = refl
+lookup-map g q (name ∷ names) = by (bytes_eq q name) refl (lookup-map g q names)
+  where
+    by : (b : Bool) → bytes_eq q name ≡ b → lookup (bytes_eq q) (pairs g names) ≡ cond (list_any (bytes_eq q) names) (Some (g q)) None → cond b (Some (g name)) (lookup (bytes_eq q) (pairs g names))
+        ≡ cond (b || list_any (bytes_eq q) names) (Some (g q)) None
+    by true e rest = ap (λ n. Some (g n)) (sym ((bytes_decides q name).0 e))
+    by false e rest = rest
+
+-- functions that agree at each name make the same pairs
+pub map-pairs : {V : Type 0} (g h : List ℕ → V) (q : List ℕ) (names : List (List ℕ)) → list_any (bytes_eq q) names ≡ false
+    → ((name : List ℕ) → bytes_eq q name ≡ false → g name ≡ h name) → pairs g names ≡ pairs h names
+map-pairs g h q [] none same = refl
+map-pairs g h q (name ∷ names) none same = by (bytes_eq q name) refl none (λ f. map-pairs g h q names f same)
+  where
+    by : (b : Bool) → bytes_eq q name ≡ b → (b || list_any (bytes_eq q) names) ≡ false
+        → (list_any (bytes_eq q) names ≡ false → pairs g names ≡ pairs h names) → pairs g (name ∷ names) ≡ pairs h (name ∷ names)
+    by true e f more = absurd (let t : true ≡ false = f in cc)
+    by false e f more = let rest = more f in let first = same name e in λ i. (name, first i) ∷ rest i
+
+-- a pair of a new name goes last
+pub insert_entry-last : {V : Type 0} (es : List (List ℕ × V)) (name : List ℕ) (v : V) → lookup (bytes_eq name) es ≡ None → insert_entry bytes_eq es name v ≡ es ++ (name, v) ∷ []
+insert_entry-last [] name v none = refl
+insert_entry-last {V = V} (e ∷ es) name v none = by (bytes_eq name e.0) none (insert_entry-last es name v)
+  where
+    by : (b : Bool) → cond b (Some e.1) (lookup (bytes_eq name) es) ≡ None → (lookup (bytes_eq name) es ≡ None → insert_entry bytes_eq es name v ≡ es ++ (name, v) ∷ [])
+        → cond b ((e.0, v) ∷ es) (e ∷ insert_entry bytes_eq es name v) ≡ e ∷ (es ++ (name, v) ∷ [])
+    by true h more = absurd (let f : Some e.1 ≡ None = h in cc)
+    by false h more = ap (λ l. e ∷ l) (more h)

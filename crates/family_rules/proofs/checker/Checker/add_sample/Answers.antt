@@ -1,0 +1,33 @@
+use Rattle.std.proofs.Common.{◌∙◌, ◌+◌, ◌≤◌, ◌<◌, ◌++◌, ◌∷◌, [], ap, sym, subst}
+use Rattle.std.specs.List.{list_any}
+use Rattle.family_rules.specs.Checking.{Checking}
+use Rattle.family_rules.specs.Steps.{key_eq}
+use Rattle.family_rules.proofs.Taking.{stop_duplicate, stop_many, stop_none, negated, negated_true, insert_new, sample_added}
+use Rattle.family_rules.proofs.checker.Checker.add_sample.Goals as goal
+
+pub returns-then-not-added-clause-broken : goal.returns-then-not-added-clause-broken
+returns-then-not-added-clause-broken c = stop_duplicate c.args.self.now c.args.key
+    (ap (λ (v : Checking). list_any (key_eq c.args.key) v.seen) (sym c.self.view_is) ∙ negated c.in_ok-added.added _ c.in_ok-added.ensures.added c.if-not-added.true)
+
+pub returns-then-self-clause-broken : goal.returns-then-self-clause-broken
+returns-then-self-clause-broken c = stop_many c.args.self.now c.args.key
+    (ap (λ (v : Checking). list_any (key_eq c.args.key) v.seen) (sym c.self.view_is) ∙ negated_true c.in_ok-added.added _ c.in_ok-added.ensures.added c.if-not-added.false)
+    (subst (λ (v : Checking). v.setting.limit ≤ v.samples) c.self.view_is c.if-self.true)
+
+pub returns-clause-broken : goal.returns-clause-broken
+returns-clause-broken c = stop_none c.args.self.now c.args.key
+    (ap (λ (v : Checking). list_any (key_eq c.args.key) v.seen) (sym c.self.view_is) ∙ negated_true c.in_ok-added.added _ c.in_ok-added.ensures.added c.if-not-added.false)
+    (subst (λ (v : Checking). v.samples < v.setting.limit) c.self.view_is c.if-self.false)
+
+pub returns-clause-added : goal.returns-clause-added
+returns-clause-added c = λ none.
+    let seen = c.in_ok-added.ensures.keys ∙ insert_new c.self.inside.seen.keys c.args.key (negated_true c.in_ok-added.added _ c.in_ok-added.ensures.added c.if-not-added.false)
+    ∙ ap (λ (v : Checking). v.seen ++ c.args.key ∷ []) c.self.view_is in
+    sample_added c.args.self.now _ c.push_value.new.self c.args.key c.args.value c.insert.new.self.keys (λ i. record {
+      setting = (c.self.view_is i).setting;
+      left = (c.self.view_is i).left;
+      current = (c.self.view_is i).current;
+      seen = c.insert.new.self.keys;
+      samples = (c.self.view_is i).samples + 1;
+      stopped = (c.self.view_is i).stopped;
+    }) seen c.in_ok-push_value.ensures

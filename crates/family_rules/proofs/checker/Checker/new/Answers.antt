@@ -1,0 +1,17 @@
+use Rattle.std.proofs.Common.{refl}
+use Rattle.page_model.specs.Owners.{owned_lines}
+use Rattle.family_rules.specs.Checking.{left_families, current_family, keys_of}
+use Rattle.family_rules.proofs.checker.Checker.new.Goals as goal
+
+pub returns : goal.returns
+unfolding owned_lines left_families current_family keys_of
+returns c = record {
+  setting = refl;
+  text = c.requires;
+  left = c.new.ensures.empty;
+  current = refl;
+  seen = c.new-2.ensures.empty;
+  samples = refl;
+  working = refl;
+  faultless = tt;
+}

@@ -1,0 +1,117 @@
+-- What a checker keeps of the lines above, and which lines it stands for. Lists of earlier lines have the nearest first.
+-- Prometheus text format 0.0.4, "Grouping and sorting": the lines of a family stand together, so only the family of the nearest line goes on.
+use Rattle.std.specs.Prelude.{◌≡◌, ℕ, Bool, false, not, List, [], ◌∷◌, ◌++◌, map, reverse, count_by, Option, Some, None, option_map, is_some, IsTrue, Result, Ok, Err, ⊤, if◌then◌else◌, length, ◌==◌}
+use Rattle.std.specs.Option.{option_to_list}
+use Rattle.label_sets.specs.Lists.{first_some}
+use Rattle.page_model.specs.declared.format.Format.TheVariants.{Text}
+use Rattle.page_model.specs.declared.item.Item.{Item}
+use Rattle.page_model.specs.declared.item.Item.TheVariants as items
+use Rattle.page_model.specs.declared.item.Sample.{Sample}
+use Rattle.page_model.specs.declared.fault.PageFault.{PageFault}
+use Rattle.page_model.specs.declared.fault.PageFault.TheVariants as faults
+use Rattle.page_model.specs.declared.rule.Rule.{Rule}
+use Rattle.page_model.specs.Written.{Setting}
+use Rattle.page_model.specs.Items.{is_sample, sample_of_line}
+use Rattle.page_model.specs.Owners.{Owned, is_of, declared_kind, owned_lines, samples_of, kept_labels}
+use Rattle.page_model.specs.Rules.{is_info_or_state_set}
+use Rattle.page_model.specs.Faults.{item_fault}
+use Rattle.page_model.specs.Readings.{help_in, unit_in}
+use Rattle.family_rules.specs.declared.family.Current.{Current}
+use Rattle.family_rules.specs.declared.family.FamilySoFar.{FamilySoFar}
+use Rattle.family_rules.specs.declared.sample_key.SampleKey.{SampleKey}
+
+-- ---- what is kept
+
+-- a checker as its contracts see it
+pub record Checking : Type 0 where
+  pub setting : Setting
+  pub left : List (List ℕ × FamilySoFar)
+  pub current : Option Current
+  pub seen : List SampleKey
+  pub samples : ℕ
+  pub stopped : Option PageFault
+
+-- a family without lines
+abbrev pub no_lines : FamilySoFar
+no_lines = record { help = None; kind = None; unit = None; values = [] }
+
+-- the family has a sample
+abbrev pub has_samples : FamilySoFar → Bool
+has_samples f = not (length f.values == 0)
+
+-- the family has a descriptor of the sort of this item
+abbrev pub has_sort : Item → FamilySoFar → Bool
+has_sort (items.Help name text) f = is_some f.help
+has_sort (items.KindOf name kind) f = is_some f.kind
+has_sort (items.Unit name unit) f = is_some f.unit
+has_sort _ f = false
+
+-- ---- what the lines above come to
+
+-- what is known of a family from these lines
+unfoldable pub so_far : List Owned → List ℕ → FamilySoFar
+so_far above family = record {
+  help = first_some (help_in family) above;
+  kind = first_some (declared_kind family) above;
+  unit = first_some (unit_in family) above;
+  values = map (λ (s : Sample). s.value) (samples_of (reverse above) family);
+}
+
+-- the families that were left before a line of this family, in the order in which they were left
+unfoldable pub left_before : List ℕ → List Owned → List (List ℕ)
+left_before family [] = []
+left_before family (nearest ∷ above) =
+    if is_of family nearest then left_before nearest.family above else left_before nearest.family above ++ nearest.family ∷ []
+
+-- the families that were left before the nearest line
+unfoldable pub left_families : List Owned → List (List ℕ)
+left_families [] = []
+left_families (nearest ∷ above) = left_before nearest.family above
+
+-- the family of the nearest line
+unfoldable pub current_family : List Owned → Option Current
+current_family [] = None
+current_family (nearest ∷ above) = Some (record { name = nearest.family; family = so_far (nearest ∷ above) nearest.family })
+
+-- what tells a sample from the others of a page
+abbrev pub key_of : Setting → Sample → SampleKey
+key_of st s = record { name = s.name; labels = kept_labels st.treatment s.labels }
+
+-- the keys of the samples in the order of their lines
+unfoldable pub keys_of : Setting → List Owned → List SampleKey
+keys_of st [] = []
+keys_of st (o ∷ above) = keys_of st above ++ option_to_list (option_map (key_of st) (sample_of_line o.item))
+
+-- ---- what a checker stands for
+
+-- an item without what only OpenMetrics has: an exemplar, an info or a state set
+abbrev pub IsTextItem : Item → Type 0
+IsTextItem (items.KindOf name kind) = IsTrue (not (is_info_or_state_set kind))
+IsTextItem (items.Sample s) = s.exemplar ≡ None
+IsTextItem _ = ⊤
+
+-- each item is one of the text format and breaks no rule under those above it
+abbrev pub AreFaultless : Setting → List Item → Type 0
+AreFaultless st [] = ⊤
+AreFaultless st (item ∷ earlier) = IsTextItem item × (item_fault st earlier item ≡ None) × AreFaultless st earlier
+
+-- the checker has taken these items, the nearest first, and refused none
+pub record Stands (st : Setting) (c : Checking) (earlier : List Item) : Type 0 where
+  pub setting : c.setting ≡ st
+  pub text : st.format ≡ Text
+  pub left : c.left ≡ map (λ family. (family, so_far (owned_lines st.format earlier) family)) (left_families (owned_lines st.format earlier))
+  pub current : c.current ≡ current_family (owned_lines st.format earlier)
+  pub seen : c.seen ≡ keys_of st (owned_lines st.format earlier)
+  pub samples : c.samples ≡ count_by is_sample earlier
+  pub working : c.stopped ≡ None
+  pub faultless : AreFaultless st earlier
+
+-- the checker has refused, or wanted memory, and answers this
+abbrev pub HasStopped : Checking → PageFault → Type 0
+HasStopped c fault = c.stopped ≡ Some fault
+
+-- the answer to a line with this fault, but for want of memory
+abbrev pub Answers : {A : Type 0} → ℕ → Option Rule → Result A PageFault → Type 0
+Answers line fault (Ok x) = fault ≡ None
+Answers line fault (Err (faults.Refused l rule)) = (l ≡ line) × (fault ≡ Some rule)
+Answers line fault (Err faults.Memory) = ⊤

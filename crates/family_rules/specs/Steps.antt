@@ -1,0 +1,177 @@
+-- What the single steps of a checker do to what it keeps (the bridge's own).
+use Rattle.std.specs.Prelude.{◌≡◌, ℕ, Bool, true, false, ◌&&◌, ◌+◌, List, [], ◌∷◌, ◌++◌, map, count_by, Option, Some, None, is_some, unwrap_or, nat_le, drop, length, if◌then◌else◌}
+use Rattle.std.specs.List.{list_any}
+use Rattle.std.specs.Str.{bytes_eq}
+use Rattle.std.specs.Map.{lookup}
+use Rattle.indexmap.specs.IndexMap.{insert_entry}
+use Rattle.exact_decimal.specs.declared.number.Number.{Number}
+use Rattle.label_sets.specs.declared.kind.Kind.{Kind}
+use Rattle.label_sets.specs.declared.kind.Kind.TheVariants.{Unknown}
+use Rattle.label_sets.specs.Labels.{label_sets_eq}
+use Rattle.page_model.specs.declared.format.Format.{Format}
+use Rattle.page_model.specs.declared.format.Format.TheVariants.{Text}
+use Rattle.page_model.specs.declared.item.Item.{Item}
+use Rattle.page_model.specs.declared.item.Item.TheVariants as items
+use Rattle.page_model.specs.declared.page.Family.{Family}
+use Rattle.page_model.specs.declared.page.Page.{Page}
+use Rattle.page_model.specs.declared.page.Reading.{Reading}
+use Rattle.page_model.specs.declared.page.Value.TheVariants as values
+use Rattle.page_model.specs.declared.rule.Rule.{Rule}
+use Rattle.page_model.specs.declared.rule.Rule.TheVariants as rules
+use Rattle.page_model.specs.Written.{Setting}
+use Rattle.page_model.specs.Items.{is_sample}
+use Rattle.page_model.specs.Suffixes.{is_sample_name}
+use Rattle.page_model.specs.declared.item.Sample.{Sample}
+use Rattle.page_model.specs.Owners.{Owned, owned_lines, kind_of, sample_owner}
+use Rattle.page_model.specs.Rules.{is_late_descriptor, is_split, has_wrong_suffix}
+use Rattle.page_model.specs.Faults.{item_fault}
+use Rattle.family_rules.specs.declared.family.Current.{Current}
+use Rattle.family_rules.specs.declared.family.Descriptor.{Descriptor}
+use Rattle.family_rules.specs.declared.family.Descriptor.TheVariants as sorts
+use Rattle.family_rules.specs.declared.family.FamilySoFar.{FamilySoFar}
+use Rattle.family_rules.specs.declared.sample_key.SampleKey.{SampleKey}
+use Rattle.family_rules.specs.Checking.{Checking, no_lines, so_far, left_before, keys_of, IsTextItem, AreFaultless, Stands}
+
+-- ---- reading
+
+-- a family has a descriptor of this sort
+abbrev pub has : Descriptor → FamilySoFar → Bool
+has sorts.Help f = is_some f.help
+has sorts.Type f = is_some f.kind
+has sorts.Unit f = is_some f.unit
+
+-- the item is a descriptor of this sort
+abbrev pub is_of_sort : Descriptor → Item → Bool
+is_of_sort sorts.Help (items.Help name text) = true
+is_of_sort sorts.Type (items.KindOf name kind) = true
+is_of_sort sorts.Unit (items.Unit name unit) = true
+is_of_sort _ _ = false
+
+-- this is the current family
+abbrev pub is_current_family : Option Current → List ℕ → Bool
+is_current_family None family = false
+is_current_family (Some k) family = bytes_eq k.name family
+
+-- what is known of a family
+abbrev pub known_in : List (List ℕ × FamilySoFar) → Option Current → List ℕ → Option FamilySoFar
+known_in left None family = lookup (bytes_eq family) left
+known_in left (Some k) family = if bytes_eq k.name family then Some k.family else lookup (bytes_eq family) left
+
+-- the kind of what is known of a family
+abbrev pub known_kind : Option FamilySoFar → Kind
+known_kind None = Unknown
+known_kind (Some f) = unwrap_or f.kind Unknown
+
+-- the current family owns a sample of this name
+abbrev pub is_current_sample : Format → Option Current → List ℕ → Bool
+is_current_sample f None name = false
+is_current_sample f (Some k) name = is_sample_name f (unwrap_or k.family.kind Unknown) k.name name
+
+-- two samples have one name and one label set
+abbrev pub key_eq : SampleKey → SampleKey → Bool
+key_eq a b = bytes_eq a.name b.name && label_sets_eq a.labels b.labels
+
+-- ---- changes
+
+-- the left families with the current one
+abbrev pub with_left : List (List ℕ × FamilySoFar) → Option Current → List (List ℕ × FamilySoFar)
+with_left left None = left
+with_left left (Some k) = insert_entry bytes_eq left k.name k.family
+
+-- the family is the current one, and was begun where it was not
+unfoldable pub reached : Checking → List ℕ → Checking
+reached c family = if is_current_family c.current family then c
+    else record c { left = with_left c.left c.current; current = Some (record { name = family; family = no_lines }) }
+
+-- what is known of the current family, changed
+abbrev pub current_with : (FamilySoFar → FamilySoFar) → Option Current → Option Current
+current_with change None = None
+current_with change (Some k) = Some (record { name = k.name; family = change k.family })
+
+-- the checker with another current family
+abbrev pub with_current : Checking → Option Current → Checking
+with_current c current = record c { current = current }
+
+-- one sample more, of the current family
+unfoldable pub with_sample : Checking → SampleKey → Number → Checking
+with_sample c key value = record c {
+  current = current_with (λ f. record f { values = f.values ++ value ∷ [] }) c.current;
+  seen = c.seen ++ key ∷ [];
+  samples = c.samples + 1;
+}
+
+-- Duplicate, then TooMany
+unfoldable pub sample_stop : Checking → SampleKey → Option Rule
+sample_stop c key = if list_any (key_eq key) c.seen then Some rules.Duplicate else if nat_le c.setting.limit c.samples then Some rules.TooMany else None
+
+-- ---- between the two
+
+-- the checker stands for these items, and a line of this family can be added
+pub record IsReady (st : Setting) (c : Checking) (earlier : List Item) (family : List ℕ) : Type 0 where
+  pub setting : c.setting ≡ st
+  pub text : st.format ≡ Text
+  pub left : c.left ≡ map (λ name. (name, so_far (owned_lines st.format earlier) name)) (left_before family (owned_lines st.format earlier))
+  pub current : c.current ≡ Some (record { name = family; family = so_far (owned_lines st.format earlier) family })
+  pub seen : c.seen ≡ keys_of st (owned_lines st.format earlier)
+  pub samples : c.samples ≡ count_by is_sample earlier
+  pub working : c.stopped ≡ None
+  pub faultless : AreFaultless st earlier
+
+-- the rule that an item breaks, where it breaks one; where it breaks none, the checker stands for it too
+pub record Takes (item : Item) (old new : Checking) (broken : Option Rule) : Type 0 where
+  pub broken_is : (st : Setting) (earlier : List Item) → Stands st old earlier → IsTextItem item → broken ≡ item_fault st earlier item
+  pub stands : (st : Setting) (earlier : List Item) → Stands st old earlier → IsTextItem item → broken ≡ None → Stands st new (item ∷ earlier)
+
+-- the rule that a descriptor breaks by its place
+abbrev pub place_fault : List Owned → Owned → Option Rule
+place_fault above line = if is_late_descriptor above line then Some rules.Descriptor else if is_split above line then Some rules.Split else None
+
+-- the rule that a sample breaks by its place or its name
+abbrev pub name_fault : Setting → List Owned → Sample → Option Rule
+name_fault st above s =
+    let owner = sample_owner st.format above s.name in
+    if is_split above (record { family = owner; item = items.Sample s }) then Some rules.Split
+    else if has_wrong_suffix st (kind_of above owner) owner s then Some rules.Suffix else None
+
+-- the rule that a sample of this name breaks by its place or its name; where it breaks none, its owner is the current family
+pub record ReachesOwner (name : List ℕ) (old new : Checking) (broken : Option Rule) : Type 0 where
+  pub broken_is : (st : Setting) (earlier : List Item) (s : Sample) → Stands st old earlier → s.name ≡ name → broken ≡ name_fault st (owned_lines st.format earlier) s
+  pub ready : (st : Setting) (earlier : List Item) (s : Sample) → Stands st old earlier → s.name ≡ name → broken ≡ None
+      → IsReady st new earlier (sample_owner st.format (owned_lines st.format earlier) s.name)
+
+-- ---- the page
+
+-- the reading of a sample
+abbrev pub reading_at : Kind → List ℕ → SampleKey → Number → Reading
+reading_at kind unit key value = record {
+  key = record { name = key.name; kind = kind; unit = unit; labels = key.labels };
+  value = values.Plain value;
+  created = None;
+  stamp = None;
+  exemplars = [];
+}
+
+-- the readings of these values, whose keys stand in front
+abbrev pub readings_at : Kind → List ℕ → List SampleKey → List Number → List Reading
+readings_at kind unit [] vs = []
+readings_at kind unit (key ∷ keys) [] = []
+readings_at kind unit (key ∷ keys) (v ∷ vs) = reading_at kind unit key v ∷ readings_at kind unit keys vs
+
+-- the family of what is known of it; the keys of its samples stand in front
+abbrev pub family_at : List ℕ → FamilySoFar → List SampleKey → Family
+family_at name f keys = record {
+  name = name;
+  kind = unwrap_or f.kind Unknown;
+  help = unwrap_or f.help [];
+  unit = unwrap_or f.unit [];
+  readings = readings_at (unwrap_or f.kind Unknown) (unwrap_or f.unit []) keys f.values;
+}
+
+-- the families of what is known of each; the keys of their samples stand one family behind the other
+unfoldable pub families_at : List (List ℕ × FamilySoFar) → List SampleKey → List Family
+families_at [] keys = []
+families_at (e ∷ es) keys = family_at e.0 e.1 keys ∷ families_at es (drop (length e.1.values) keys)
+
+-- the page of what is kept
+unfoldable pub page_at : Checking → Page
+page_at c = record { families = families_at (with_left c.left c.current) c.seen; samples = c.samples }

@@ -1,0 +1,15 @@
+//! The rules that look at the lines of a page above: a checker takes the items of a page one by one,
+//! refuses the first that breaks a rule, and builds the page.
+#![tactic(auto)]
+
+mod checker;
+mod family;
+mod pages;
+mod sample_key;
+mod suffix;
+
+pub use checker::Checker;
+pub use page_model::{
+    Bucket, Cause, Event, Exemplar, Family, Format, Item, Outcome, Page, PageFault, Quantile,
+    Reading, Rule, Sample, Shown, Treatment, Value,
+};

@@ -1,0 +1,108 @@
+//! The families and readings of a page, from what was kept of its lines (OpenMetrics 1.0, "Data Model").
+ghost use Rattle.std.specs.Prelude.{◌≡◌, [], drop, length, unwrap_or, IfOk, OnOk};
+ghost use Rattle.family_rules.specs.Steps.{reading_at, readings_at, family_at, families_at};
+
+use crate::family::FamilySoFar;
+use crate::sample_key::SampleKey;
+use exact_decimal::Number;
+use indexmap::set::IntoIter;
+use indexmap::{IndexMap, IndexSet};
+use label_sets::{Kind, List, Memory, Name, SeriesKey, Text};
+use page_model::{Family, Reading, Value};
+use std::alloc::Global;
+
+/// The text, or the empty one.
+fn text_or_empty(alloc: Global, text: Option<Text>) -> Text
+    ensures { result ≡ unwrap_or text [] }
+{
+    match text {
+        Some(text) => text,
+        None => Text::from_string(String::new(alloc)),
+    }
+}
+
+/// The reading of a sample.
+fn reading(
+    alloc: Global,
+    kind: Kind,
+    unit: &Text,
+    key: SampleKey,
+    value: Number,
+) -> Result<Reading, Memory>
+    ensures { IfOk result (λ reading. reading ≡ reading_at kind unit.now key value) }
+{
+    let unit = unit.copy()?;
+    Ok(Reading {
+        key: SeriesKey {
+            name: key.name,
+            kind,
+            unit,
+            labels: key.labels,
+        },
+        value: Value::Plain(value),
+        created: None,
+        stamp: None,
+        exemplars: List::new(alloc),
+    })
+}
+
+/// The readings of these values, whose keys come next.
+fn readings(
+    alloc: Global,
+    kind: Kind,
+    unit: &Text,
+    values: List<Number>,
+    keys: &mut IntoIter<SampleKey>,
+) -> Result<List<Reading>, Memory>
+    ensures readings { IfOk result (λ readings. readings ≡ readings_at kind unit.now keys.old values) }
+    ensures rest { OnOk result (keys.new ≡ drop (length values) keys.old) }
+{
+    let mut readings = List::new(alloc);
+    for value in values.into_vec() {
+        let Some(key) = keys.next() else {
+            break;
+        };
+        readings.push(reading(alloc, kind, unit, key, value)?)?;
+    }
+    Ok(readings)
+}
+
+/// The family of what is known of it; the keys of its samples come next.
+fn family(
+    alloc: Global,
+    name: Name,
+    known: FamilySoFar,
+    keys: &mut IntoIter<SampleKey>,
+) -> Result<Family, Memory>
+    ensures family { IfOk result (λ family. family ≡ family_at name known keys.old) }
+    ensures rest { OnOk result (keys.new ≡ drop (length known.values) keys.old) }
+{
+    let kind = known.kind.unwrap_or(Kind::Unknown);
+    let help = text_or_empty(alloc, known.help);
+    let unit = text_or_empty(alloc, known.unit);
+    let readings = readings(alloc, kind, &unit, known.values, keys)?;
+    Ok(Family {
+        name,
+        kind,
+        help,
+        unit,
+        readings,
+    })
+}
+
+/// The families of what is known of each, in their order; the keys of their samples stand one family
+/// behind the other.
+pub fn families_in(
+    alloc: Global,
+    known: IndexMap<Name, FamilySoFar>,
+    keys: IndexSet<SampleKey>,
+) -> Result<List<Family>, Memory>
+    ensures { IfOk result (λ families. families ≡ families_at known.entries keys.keys) }
+{
+    let mut families = List::new(alloc);
+    let mut keys = keys.into_iter();
+    for (name, so_far) in known {
+        families.push(family(alloc, name, so_far, &mut keys)?)?;
+    }
+    Ok(families)
+}

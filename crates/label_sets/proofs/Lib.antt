@@ -1,0 +1,7 @@
+mod Cases
+pub mod NewNames
+pub mod Order
+pub mod Places
+pub mod Repeats
+pub mod Same
+pub mod Seen

@@ -1,0 +1,23 @@
+-- Parts of arrays and objects with their commas, as they are written one after another.
+-- JSON (RFC 8259), sections 4 and 5 (value-separator); the bridge's own where it splits a text.
+use Rattle.std.specs.Prelude.{ℕ, List, ◌++◌, codes, Option}
+use Rattle.std.specs.List.{flat_map}
+use Rattle.label_sets.specs.declared.label_set.LabelSet.{LabelSet}
+use Rattle.otlp_json.specs.Json.{json_integer}
+use Rattle.otlp_json.specs.Texts.{attributes_member, start_member}
+
+-- a text with a comma in front, as each but the first of a list has it
+unfoldable pub next_text : {A : Type 0} → (A → List ℕ) → A → List ℕ
+next_text text x = codes "," ++ text x
+
+-- a text with a comma behind, as each but the last of a list has it
+abbrev pub with_comma : List ℕ → List ℕ
+with_comma text = text ++ codes ","
+
+-- the members in front of another one
+abbrev pub in_front : List (List ℕ) → List ℕ
+in_front members = flat_map with_comma members
+
+-- a point from its first member up to its time
+unfoldable pub point_front : LabelSet → Option ℕ → ℕ → List ℕ
+point_front labels start time = in_front (attributes_member labels) ++ in_front (start_member start) ++ codes "\"timeUnixNano\":" ++ json_integer time

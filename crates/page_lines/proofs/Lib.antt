@@ -1,0 +1,5 @@
+pub mod Ends
+pub mod Telling
+pub mod TellingOn
+pub mod Standing
+mod Cases

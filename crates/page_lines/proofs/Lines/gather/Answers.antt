@@ -1,0 +1,30 @@
+-- Each return is a step of a line that is under way.
+use Rattle.std.proofs.Common.{◌≡◌, ℕ, ◌+◌, ◌-◌, ◌<◌, ◌≤◌, arith, length, min, subst, vec_len, length-take}
+use Rattle.std.proofs.lemmas.List.{take_all}
+use Rattle.page_lines.specs.Lines.{Plain}
+use Rattle.page_lines.proofs.Standing.{feed_in_front, step-line, step-more, step-past}
+use Rattle.page_lines.proofs.Lines.gather.Goals as goal
+
+pub returns-in-Some : goal.returns-in-Some
+returns-in-Some c =
+    let found = c.in-Some.ensures in
+    let line = c.self.inside.line.ok.0 in
+    let within : c.in-Some.at < min c.min-window.result (length c.args.piece.now) = omega (arith, found.within, length-take c.min-window.result c.args.piece.now) in
+    let f = feed_in_front c.args.piece.now c.min-window.result c.in-Some.at found.within found.found found.first in
+    step-line _ _ _ _ _ c.args.self.now c.self.view_is c.args.piece.now _ c.in-Some.at c.requires.within f (omega arith) (omega arith)
+    (rw c.unwrap.ensures at c.extend_from_slice.ensures.items)
+
+pub returns-then-window-room : goal.returns-then-window-room
+returns-then-window-room c =
+    let line = c.self.inside.line.ok.0 in
+    let whole : c.min-window.result ≡ length c.args.piece.now = omega arith in
+    let plain = subst Plain (take_all c.min-window.result c.args.piece.now (omega arith)) c.in_default.ensures.none in
+    step-more _ _ _ _ _ c.args.self.now c.self.view_is c.args.piece.now _ c.min-window.result c.requires.within plain whole (omega arith)
+    (rw c.unwrap-then-window-room.ensures at c.extend_from_slice-then-window-room.ensures.items)
+
+pub returns : goal.returns
+returns c =
+    let line = c.self.inside.line.ok.0 in
+    let room = c.self.inside.most - c.len.result in
+    step-past _ _ _ _ _ c.args.self.now c.self.view_is c.args.piece.now _ c.min-window.result room c.requires.within c.in_default.ensures.none (omega arith) (omega arith) (omega arith)
+    (rw c.unwrap-2.ensures at c.extend_from_slice-2.ensures.items)

@@ -1,0 +1,4 @@
+pub mod Feeding
+pub mod Laws
+pub mod Lines
+pub mod Told

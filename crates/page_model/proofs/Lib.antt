@@ -1,0 +1,20 @@
+mod Words
+mod TextCases
+mod TextHistogramCases
+mod OpenCases
+mod OpenHistogramCases
+mod PageCases
+pub mod Fronts
+pub mod TokenChars
+pub mod TextSound
+pub mod TextComplete
+pub mod OpenSound
+pub mod OpenComplete
+pub mod Decides
+pub mod DistinctKeys
+pub mod Groups
+pub mod Prefixes
+pub mod Least
+pub mod RightPages
+pub mod Texts
+pub mod KindLaws

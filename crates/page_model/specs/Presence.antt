@@ -1,0 +1,36 @@
+-- The series of a page, and of the page of a scrape.
+-- OpenTelemetry metrics data model, "Timeseries Model".
+use Rattle.std.specs.Prelude.{Bool, List, [], map, find, Option, is_some}
+use Rattle.std.specs.List.{flat_map}
+use Rattle.label_sets.specs.declared.series_key.SeriesKey.{SeriesKey}
+use Rattle.label_sets.specs.Keys.{key_eq}
+use Rattle.page_model.specs.declared.page.Reading.{Reading}
+use Rattle.page_model.specs.declared.page.Family.{Family}
+use Rattle.page_model.specs.declared.page.Page.{Page}
+use Rattle.page_model.specs.declared.event.Outcome.{Outcome}
+use Rattle.page_model.specs.declared.event.Outcome.TheVariants as outcomes
+
+-- the page without families
+abbrev pub empty_page : Page
+empty_page = record { families = []; samples = 0 }
+
+-- the page of a scrape, empty where the scrape failed
+abbrev pub page_of_outcome : Outcome → Page
+page_of_outcome (outcomes.Page page) = page
+page_of_outcome (outcomes.Failed cause) = empty_page
+
+-- the readings of a page, in page order
+abbrev pub all_readings : Page → List Reading
+all_readings page = flat_map (λ (f : Family). f.readings) page.families
+
+-- the keys of a page, in page order
+abbrev pub keys_of : Page → List SeriesKey
+keys_of page = map (λ (r : Reading). r.key) (all_readings page)
+
+-- the reading of a series, where the page has one
+abbrev pub reading_at : SeriesKey → Page → Option Reading
+reading_at key page = find (λ (r : Reading). key_eq key r.key) (all_readings page)
+
+-- the series is present in the page
+abbrev pub is_present : SeriesKey → Page → Bool
+is_present key page = is_some (reading_at key page)

@@ -1,0 +1,18 @@
+//! The types of exposition pages, and what a page means: which item a line spells, which rules a line
+//! breaks, and which families and readings a page without a fault has. It reads and checks nothing.
+#![tactic(auto)]
+
+mod event;
+mod fault;
+mod format;
+mod item;
+pub mod laws;
+mod page;
+mod rule;
+
+pub use event::{Cause, Event, Outcome, Shown};
+pub use fault::PageFault;
+pub use format::{Format, Treatment};
+pub use item::{Exemplar, Item, Sample};
+pub use page::{Bucket, Family, Page, Quantile, Reading, Value};
+pub use rule::Rule;
