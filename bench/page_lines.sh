@@ -18,7 +18,7 @@ awk 'BEGIN {
         else printf "node_cpu_seconds_total{instance=\"host-%d\",cpu=\"%d\",mode=\"%s\"} %d.%03d\n", i % 97, i % 64, modes[i % 6 + 1], (i * 7919) % 1000003, i % 1000
 }' > "$work/page"
 
-for name in label_sets page_lines; do
+for name in page_lines; do
     mkdir -p "$work/crates/$name"
     for part in src specs proofs; do
         if [ -d "$crates/$name/$part" ]; then cp -R "$crates/$name/$part" "$work/crates/$name/"; fi
@@ -26,8 +26,7 @@ for name in label_sets page_lines; do
 done
 mkdir -p "$work/crates/lines_bench/src"
 cat > "$work/crates.txt" <<'END'
-label_sets:
-page_lines: label_sets memchr
+page_lines: memchr
 lines_bench: page_lines
 END
 cat > "$work/crates/lines_bench/src/main.rt" <<'END'

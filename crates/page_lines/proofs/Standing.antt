@@ -1,17 +1,16 @@
 -- How a reader stands after each step, and what was told by then.
-use Rattle.std.proofs.Common.{◌≡◌, ◌≢◌, ℕ, Bool, true, false, ◌+◌, ◌-◌, ◌<◌, ◌≤◌, ◌↔◌, List, [], ◌∷◌, ◌++◌, refl, sym, ap, subst, ◌∙◌, arith, length, take, drop, get_or, map, Some, slice_get, IsSomeAnd}
+use Rattle.std.proofs.Common.{◌≡◌, ◌≢◌, ℕ, false, ◌+◌, ◌-◌, ◌<◌, ◌≤◌, List, [], ◌∷◌, ◌++◌, refl, sym, ap, subst, ◌∙◌, arith, length, take, drop, get_or, map, Some, slice_get, IsSomeAnd}
 use Rattle.std.proofs.Math.Seq.{take-append-add}
 use Rattle.std.proofs.lemmas.List.{append-nil, append_assoc, length-append, length-drop, length-map, length-take, length-take-le, length_push, map-append, take-append-drop, take_at, take-append-le, take-take, take_all, take_more}
 use Rattle.std.proofs.lemmas.List.Elements.{All-take}
-use Rattle.page_lines.specs.declared.Last.{Last}
 use Rattle.page_lines.specs.declared.Last.TheVariants.{Clean, Open}
 use Rattle.page_lines.specs.declared.Place.{Place}
 use Rattle.page_lines.specs.declared.Place.TheVariants.{Within, Behind, Passing}
 use Rattle.page_lines.specs.declared.Step.{Step}
 use Rattle.page_lines.specs.declared.Step.TheVariants.{Line, More, TooLong}
-use Rattle.page_lines.specs.Lines.{is_line_feed, Plain, ended_lines, open_line, lines_of, ends_clean, without_empty_last}
-use Rattle.page_lines.specs.Told.{Told, whole, too_long, told_line, told_of}
-use Rattle.page_lines.specs.Feeding.{Feeding, IsWithin, IsBehind, IsPassing, Stands, IsStep, IsEnd, Reaches, told_by, told_at_end}
+use Rattle.page_lines.specs.Lines.{is_line_feed, Plain, ended_lines, open_line, lines_of, without_empty_last}
+use Rattle.page_lines.specs.Told.{whole, too_long, told_line, told_of}
+use Rattle.page_lines.specs.Feeding.{Feeding, Stands, IsStep, IsEnd, Reaches, told_by}
 use Rattle.page_lines.proofs.Ends.{ended-feed, open-feed, ended-plain, open-plain, open_line-plain, lines_of-more, lines_of-open, lines_of-end, clean-none}
 use Rattle.page_lines.proofs.TellingOn.{told_goes_on}
 use Rattle.page_lines.proofs.Telling.{told_line-short, told_line-long, told-short, told-long, told-feed, told-feed_long, told-plain, told-plain_past, told-plain_long}

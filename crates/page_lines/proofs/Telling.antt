@@ -1,11 +1,11 @@
 -- What is told as bytes come: one law for a line feed, and one for bytes that are none.
-use Rattle.std.proofs.Common.{◌≡◌, ℕ, ◌+◌, ◌<◌, ◌≤◌, Bool, true, false, List, [], ◌∷◌, ◌++◌, refl, sym, ap, subst, ◌∙◌, arith, length, length-append}
-use Rattle.std.specs.Prelude.{map, nat_le, nat_lt, if◌then◌else◌}
-use Rattle.std.proofs.lemmas.List.{append-nil, append_assoc, map-append, length-map}
+use Rattle.std.proofs.Common.{◌≡◌, ℕ, ◌+◌, ◌<◌, ◌≤◌, true, false, List, [], ◌∷◌, ◌++◌, refl, sym, ap, ◌∙◌, arith, length, length-append}
+use Rattle.std.specs.Prelude.{map, nat_le, nat_lt}
+use Rattle.std.proofs.lemmas.List.{append-nil, map-append}
 use Rattle.std.proofs.lemmas.Bool.Decides.{nat_tests}
-use Rattle.page_lines.specs.Lines.{Plain, ended_lines, open_line, lines_of, without_empty_last}
-use Rattle.page_lines.specs.Told.{Told, whole, too_long, told_line, told_open, told_of}
-use Rattle.page_lines.proofs.Ends.{ended-feed, open-feed, ended-plain, open-plain, lines_of-more, lines_of-end, open_line-plain}
+use Rattle.page_lines.specs.Lines.{Plain, ended_lines, open_line}
+use Rattle.page_lines.specs.Told.{whole, too_long, told_line, told_open, told_of}
+use Rattle.page_lines.proofs.Ends.{ended-feed, open-feed, ended-plain, open-plain}
 
 pub told_line-short : (most : ℕ) (line : List ℕ) → length line ≤ most → told_line most line ≡ whole line
 told_line-short most line h = let e : nat_le (length line) most ≡ true = grind (arith, nat_tests) in rw e refl

@@ -1,7 +1,7 @@
 -- What was told of a page against its lines, however it goes on.
-use Rattle.std.proofs.Common.{◌≡◌, ℕ, Bool, true, false, ◌<◌, ◌≤◌, ◌⊎◌, inl, inr, List, [], ◌∷◌, ◌++◌, refl, sym, ap, subst, ◌∙◌, arith, length, map}
+use Rattle.std.proofs.Common.{◌≡◌, ℕ, ◌<◌, ◌⊎◌, inl, inr, List, [], ◌∷◌, ◌++◌, refl, sym, ap, subst, ◌∙◌, arith, length, map}
 use Rattle.std.proofs.lemmas.Bool.{cases_lt}
-use Rattle.std.proofs.lemmas.List.{append-nil, append_assoc, length-append, map-append, same_from_push}
+use Rattle.std.proofs.lemmas.List.{append_assoc, length-append, map-append, same_from_push}
 use Rattle.page_lines.specs.Lines.{Plain, lines_of, ended_lines, open_line}
 use Rattle.page_lines.specs.Told.{Told, whole, too_long, told_line, told_open, told_of}
 use Rattle.page_lines.specs.Laws.{ToldGoesOn, ToldAreFirst, TooLongIsNext, WholeLinesAreLines}

@@ -6,9 +6,8 @@ ghost use Rattle.page_lines.specs.Lines.{Plain};
 
 pub mod laws;
 
-use label_sets::Memory;
 use memchr::memchr;
-use std::alloc::Global;
+use std::alloc::{AllocError, Global};
 use std::marker::Model;
 
 /// What a piece held.
@@ -81,7 +80,7 @@ impl Lines {
 
     /// A reader that was fed nothing, of lines of at most `most` bytes each. It takes the memory of
     /// one line here, and no later call takes memory.
-    pub fn new(alloc: Global, most: u32) -> Result<Lines, Memory>
+    pub fn new(alloc: Global, most: u32) -> Result<Lines, AllocError>
         ensures value { IfOk result (λ lines. lines ≡
             record { most = most; fed = 0; line = []; number = 1; place = Within }) }
         ensures stands { IfOk result (λ lines. Stands [] lines) }

@@ -1,7 +1,5 @@
 -- A step behind the line that was told of before.
-use Rattle.std.proofs.Common.{◌≡◌, ℕ, ◌+◌, ◌-◌, List, ◌++◌, sym, ap, ◌∙◌, subst, length, take, drop}
-use Rattle.page_lines.specs.declared.Step.{Step}
-use Rattle.page_lines.specs.Told.{told_of}
+use Rattle.std.proofs.Common.{◌+◌}
 use Rattle.page_lines.specs.Feeding.{IsStep}
 use Rattle.page_lines.proofs.Standing.{step-reached, step-only, step-number, step-line_stays, step-past_stays}
 use Rattle.page_lines.proofs.Lines.feed.Goals as goal

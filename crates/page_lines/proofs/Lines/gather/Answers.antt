@@ -1,5 +1,5 @@
 -- Each return is a step of a line that is under way.
-use Rattle.std.proofs.Common.{◌≡◌, ℕ, ◌+◌, ◌-◌, ◌<◌, ◌≤◌, arith, length, min, subst, vec_len, length-take}
+use Rattle.std.proofs.Common.{◌≡◌, ◌-◌, ◌<◌, arith, length, min, subst, length-take}
 use Rattle.std.proofs.lemmas.List.{take_all}
 use Rattle.page_lines.specs.Lines.{Plain}
 use Rattle.page_lines.proofs.Standing.{feed_in_front, step-line, step-more, step-past}
