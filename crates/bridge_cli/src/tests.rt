@@ -89,6 +89,57 @@ fn empty_page(rt: HostRuntime) {
     assert!(rt; run.output.held() == text.as_bytes());
 }
 
+// Tokens and their literals, or none where a token is no number or is out of range.
+const TOKENS: [(&str, Option<&str>); 18] = [
+    ("+Inf", Some("\"Infinity\"")),
+    ("-inf", Some("\"-Infinity\"")),
+    ("nan", Some("\"NaN\"")),
+    ("-0.0", Some("0")),
+    (".5", Some("0.5")),
+    ("5.", Some("5")),
+    ("1e+06", Some("1000000")),
+    ("0e999999", Some("0")),
+    ("0x1p3", None),
+    ("1.7976931348623157e+308", Some("1.7976931348623157e308")),
+    ("5e-324", Some("5e-324")),
+    ("1e309", None),
+    ("999999999999999999999999999999999999999", None),
+    ("10000000000000000000000000000000000000000", Some("1e40")),
+    ("1e20", Some("100000000000000000000")),
+    ("0.00001", Some("0.00001")),
+    ("0.000001", Some("1e-6")),
+    (".", None),
+];
+
+const BEFORE_VALUE: &str =
+    r#"{"scope":{"name":"bridge"},"metrics":[{"name":"t","gauge":{"dataPoints":[{"timeUnixNano":"1000","asDouble":"#;
+
+const BEHIND_VALUE: &str = "}]}}]},";
+
+#[test]
+fn number_literals(rt: HostRuntime) {
+    let alloc = rt.alloc();
+    for (token, literal) in &TOKENS {
+        let page = joined(alloc, &["# TYPE t gauge\nt ", token, "\n"]).expect(&rt, "memory");
+        let run = run(alloc, &CONVERT, page.as_bytes(), None, ROOM).expect(&rt, "memory");
+        match literal {
+            Some(literal) => {
+                let text = [
+                    RESOURCE,
+                    BEFORE_VALUE,
+                    literal,
+                    BEHIND_VALUE,
+                    ONE_SAMPLE,
+                    "]}]}\n",
+                ];
+                let text = joined(alloc, &text).expect(&rt, "memory");
+                assert!(rt; run.output.held() == text.as_bytes(), "{token}");
+            }
+            None => assert!(rt; run.output.held() == b"not plain\n".as_slice(), "{token}"),
+        }
+    }
+}
+
 const NOT_PLAIN: [&[u8]; 8] = [
     b"# TYPE t gauge\nt 1",
     b"# TYPE t gauge\nt  1\n",
