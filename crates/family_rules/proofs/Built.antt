@@ -428,14 +428,14 @@ all_pairs st (n ∷ above) fit =
 
 pub end_text : (st : Setting) (c : Checking) (earlier : List Item) (clean : Bool) → Stands st c earlier → end_fault st earlier clean ≡ cond (not clean) (Some rules.NoNewline) None
 unfolding end_fault end_breaks is_without_eof
-end_text st c earlier clean s = rw (nothing_left st (owned_lines st.format earlier) None (fit_lines st earlier s.text s.faultless), s.text) refl
+end_text st c earlier clean s = rw (nothing_left st (owned_lines st.format earlier) None (fit_lines st earlier s.text s.text_items s.faultless), s.text) refl
 
 -- the page of what is kept is that of the lines
 pub page_built : (st : Setting) (c : Checking) (earlier : List Item) → Stands st c earlier → page_at c ≡ page_of st earlier
 unfolding page_at page_of
 page_built st c earlier s =
     let above : List Owned = owned_lines st.format earlier in
-    let fit : AreFit st above = fit_lines st earlier s.text s.faultless in
+    let fit : AreFit st above = fit_lines st earlier s.text s.text_items s.faultless in
     let kept_is : with_left c.left c.current ≡ pairs (so_far above) (families_of (reverse above)) = (λ i. with_left (s.left i) (s.current i)) ∙ all_pairs st above fit in
     let seen_is : c.seen ≡ flat_map (keys_in st above) (families_of (reverse above)) = s.seen ∙ together st above fit in
     let families : families_at (with_left c.left c.current) c.seen ≡ map (family_of st (reverse above)) (families_of (reverse above)) =

@@ -18,8 +18,9 @@ use Rattle.page_model.specs.Items.{sample_of_line, kind_of_line}
 use Rattle.page_model.specs.Suffixes.{is_sample_name}
 use Rattle.page_model.specs.Owners.{Owned, is_of, declared_kind, kind_of, sample_owner, owner_of, with_owner, owned_lines, samples_of}
 use Rattle.page_model.specs.Rules.{is_histogram, is_info_or_state_set, is_after_eof, is_late_descriptor, is_split, is_foreign_unit, has_forbidden_unit, is_bad_unit, is_bad_exemplar, is_interleaved, has_wrong_suffix, is_duplicate, has_forbidden_value, has_bad_value, has_bad_threshold, is_out_of_order, is_past_limit, is_not_built, is_incomplete, leaves_incomplete}
+use Rattle.page_model.specs.Pages.{AreFaultless}
 use Rattle.page_model.specs.Faults.{sample_breaks, owned_breaks, item_breaks, item_fault}
-use Rattle.family_rules.specs.Checking.{IsTextItem, AreFaultless}
+use Rattle.family_rules.specs.Checking.{IsTextItem, AreTextItems}
 use Rattle.family_rules.proofs.Lists.{and_false, or_false, cond_none}
 
 -- ---- the kinds of the text format that are read
@@ -188,44 +189,44 @@ value_allowed st k s text plain = rw (plain_value k s plain, text) refl
 -- ---- the fault of an item
 
 module _ (st : Setting) (earlier : List Item) (format : st.format ≡ Text) (fit : AreFit st (owned_lines st.format earlier)) where
-  abbrev above : List Owned
-  above = owned_lines st.format earlier
+  abbrev lines : List Owned
+  lines = owned_lines st.format earlier
 
   pub help_fault : (name text : List ℕ) → let line : Owned = record { family = name; item = items.Help name text } in
-      item_fault st earlier (items.Help name text) ≡ cond (is_late_descriptor above line) (Some rules.Descriptor) (cond (is_split above line) (Some rules.Split) None)
+      item_fault st earlier (items.Help name text) ≡ cond (is_late_descriptor lines line) (Some rules.Descriptor) (cond (is_split lines line) (Some rules.Split) None)
   unfolding item_fault item_breaks owned_breaks is_bad_unit
-  help_fault name text = rw (not_behind_end st earlier format, nothing_left st above (Some name) fit, no_unit_forbidden st above (record { family = name; item = items.Help name text }) fit tt) refl
+  help_fault name text = rw (not_behind_end st earlier format, nothing_left st lines (Some name) fit, no_unit_forbidden st lines (record { family = name; item = items.Help name text }) fit tt) refl
 
   pub kind_fault : (name : List ℕ) (kind : Kind) → IsTextItem (items.KindOf name kind) → let line : Owned = record { family = name; item = items.KindOf name kind } in
       item_fault st earlier (items.KindOf name kind)
-      ≡ cond (is_late_descriptor above line) (Some rules.Descriptor) (cond (is_split above line) (Some rules.Split) (cond (is_not_built kind) (Some rules.NotBuilt) None))
+      ≡ cond (is_late_descriptor lines line) (Some rules.Descriptor) (cond (is_split lines line) (Some rules.Split) (cond (is_not_built kind) (Some rules.NotBuilt) None))
   unfolding item_fault item_breaks owned_breaks is_bad_unit
-  kind_fault name kind text = rw (not_behind_end st earlier format, nothing_left st above (Some name) fit, no_unit_forbidden st above (record { family = name; item = items.KindOf name kind }) fit text) refl
+  kind_fault name kind text = rw (not_behind_end st earlier format, nothing_left st lines (Some name) fit, no_unit_forbidden st lines (record { family = name; item = items.KindOf name kind }) fit text) refl
 
   pub unit_fault : (name unit : List ℕ) → let line : Owned = record { family = name; item = items.Unit name unit } in
       item_fault st earlier (items.Unit name unit)
-      ≡ cond (is_late_descriptor above line) (Some rules.Descriptor) (cond (is_split above line) (Some rules.Split) (cond (is_foreign_unit name unit) (Some rules.Unit) None))
+      ≡ cond (is_late_descriptor lines line) (Some rules.Descriptor) (cond (is_split lines line) (Some rules.Split) (cond (is_foreign_unit name unit) (Some rules.Unit) None))
   unfolding item_fault item_breaks owned_breaks is_bad_unit
-  unit_fault name unit = rw (not_behind_end st earlier format, nothing_left st above (Some name) fit, no_unit_forbidden st above (record { family = name; item = items.Unit name unit }) fit tt)
+  unit_fault name unit = rw (not_behind_end st earlier format, nothing_left st lines (Some name) fit, no_unit_forbidden st lines (record { family = name; item = items.Unit name unit }) fit tt)
       (rw (or_false (is_foreign_unit name unit)) refl)
 
-  pub sample_fault : (s : Sample) → s.exemplar ≡ None → let line : Owned = record { family = sample_owner st.format above s.name; item = items.Sample s } in
+  pub sample_fault : (s : Sample) → s.exemplar ≡ None → let line : Owned = record { family = sample_owner st.format lines s.name; item = items.Sample s } in
       item_fault st earlier (items.Sample s)
-      ≡ cond (is_split above line) (Some rules.Split) (cond (has_wrong_suffix st (kind_of above line.family) line.family s) (Some rules.Suffix)
-      (cond (is_duplicate st above s) (Some rules.Duplicate) (cond (is_past_limit st earlier) (Some rules.TooMany) None)))
+      ≡ cond (is_split lines line) (Some rules.Split) (cond (has_wrong_suffix st (kind_of lines line.family) line.family s) (Some rules.Suffix)
+      (cond (is_duplicate st lines s) (Some rules.Duplicate) (cond (is_past_limit st earlier) (Some rules.TooMany) None)))
   unfolding item_fault item_breaks owned_breaks sample_breaks is_late_descriptor is_bad_unit
   sample_fault s plain =
-      let owner : sample_owner st.format above s.name ≡ s.name = ap (λ f. sample_owner f above s.name) format ∙ text_owner st above s.name fit in
-      let kind : is_plain (kind_of above s.name) ≡ true = plain_kind st above s.name fit in
+      let owner : sample_owner st.format lines s.name ≡ s.name = ap (λ f. sample_owner f lines s.name) format ∙ text_owner st lines s.name fit in
+      let kind : is_plain (kind_of lines s.name) ≡ true = plain_kind st lines s.name fit in
       rw (
         owner,
         not_behind_end st earlier format,
-        nothing_left st above (Some s.name) fit,
-        no_exemplar (kind_of above s.name) s.name s plain,
-        not_interleaved st (kind_of above s.name) s.name (samples_of above s.name) s format,
-        value_allowed st (kind_of above s.name) s format kind,
-        plain_threshold (kind_of above s.name) s.name s kind,
-        plain_order st (kind_of above s.name) s.name (samples_of above s.name) s kind,
+        nothing_left st lines (Some s.name) fit,
+        no_exemplar (kind_of lines s.name) s.name s plain,
+        not_interleaved st (kind_of lines s.name) s.name (samples_of lines s.name) s format,
+        value_allowed st (kind_of lines s.name) s format kind,
+        plain_threshold (kind_of lines s.name) s.name s kind,
+        plain_order st (kind_of lines s.name) s.name (samples_of lines s.name) s kind,
       ) refl
 
   pub comment_fault : item_fault st earlier items.Comment ≡ None
@@ -238,7 +239,7 @@ module _ (st : Setting) (earlier : List Item) (format : st.format ≡ Text) (fit
 
   pub eof_fault : item_fault st earlier items.Eof ≡ None
   unfolding item_fault item_breaks
-  eof_fault = rw (not_behind_end st earlier format, nothing_left st above None fit) refl
+  eof_fault = rw (not_behind_end st earlier format, nothing_left st lines None fit) refl
 
 -- ---- lines without a fault
 
@@ -295,7 +296,7 @@ module _ (st : Setting) (earlier : List Item) (format : st.format ≡ Text) (fit
         fit,
       )
 
-pub fit_lines : (st : Setting) (earlier : List Item) → st.format ≡ Text → AreFaultless st earlier → AreFit st (owned_lines st.format earlier)
+pub fit_lines : (st : Setting) (earlier : List Item) → st.format ≡ Text → AreTextItems earlier → AreFaultless st earlier → AreFit st (owned_lines st.format earlier)
 unfolding owned_lines
-fit_lines st [] format h = tt
-fit_lines st (item ∷ earlier) format h = fit_item st earlier format (fit_lines st earlier format h.2) item h.0 h.1
+fit_lines st [] format texts h = tt
+fit_lines st (item ∷ earlier) format texts h = fit_item st earlier format (fit_lines st earlier format texts.1 h.1) item texts.0 h.0

@@ -139,33 +139,33 @@ ready_current st F item (n ∷ above) h = by (bytes_eq n.family F) refl h
     by false e none = ap (λ f. Some (record { name = F; family = f })) (sym (so_far-none (n ∷ above) F (rw e none)))
 
 module _ (st : Setting) (c : Checking) (earlier : List Item) (s : Stands st c earlier) where
-  abbrev above : List Owned
-  above = owned_lines st.format earlier
+  abbrev lines : List Owned
+  lines = owned_lines st.format earlier
 
-  fit : AreFit st above
-  fit = fit_lines st earlier s.text s.faultless
+  fit : AreFit st lines
+  fit = fit_lines st earlier s.text s.text_items s.faultless
 
   -- Split, by what is kept
-  pub split_kept : (F : List ℕ) (item : Item) → (not (is_current_family c.current F) && is_some (lookup (bytes_eq F) c.left)) ≡ is_split above (record { family = F; item = item })
-  split_kept F item = sym (rw (s.left, s.current) (split_above above F item))
+  pub split_kept : (F : List ℕ) (item : Item) → (not (is_current_family c.current F) && is_some (lookup (bytes_eq F) c.left)) ≡ is_split lines (record { family = F; item = item })
+  split_kept F item = sym (rw (s.left, s.current) (split_above lines F item))
 
   -- Descriptor, by what is kept
-  pub late_kept : (F : List ℕ) (item : Item) → is_descriptor item ≡ true → is_late item (known_in c.left c.current F) ≡ is_late_descriptor above (record { family = F; item = item })
-  late_kept F item h = sym (rw (s.left, s.current) (late_above above F item h))
+  pub late_kept : (F : List ℕ) (item : Item) → is_descriptor item ≡ true → is_late item (known_in c.left c.current F) ≡ is_late_descriptor lines (record { family = F; item = item })
+  late_kept F item h = sym (rw (s.left, s.current) (late_above lines F item h))
 
-  pub kind_kept : (F : List ℕ) → known_kind (known_in c.left c.current F) ≡ kind_of above F
-  kind_kept F = sym (rw (s.left, s.current) (kind_above above F))
+  pub kind_kept : (F : List ℕ) → known_kind (known_in c.left c.current F) ≡ kind_of lines F
+  kind_kept F = sym (rw (s.left, s.current) (kind_above lines F))
 
   -- ready for a line that doesn't split its family
-  pub ready_reached : (F : List ℕ) (item : Item) → is_split above (record { family = F; item = item }) ≡ false → IsReady st (reached c F) earlier F
+  pub ready_reached : (F : List ℕ) (item : Item) → is_split lines (record { family = F; item = item }) ≡ false → IsReady st (reached c F) earlier F
   unfolding reached
   ready_reached F item h = by (is_current_family c.current F) refl
     where
-      left : cond (is_current_family c.current F) c.left (with_left c.left c.current) ≡ pairs (so_far above) (left_before F above)
-      left = rw (s.left, s.current) (ready_left st F item above fit h)
+      left : cond (is_current_family c.current F) c.left (with_left c.left c.current) ≡ pairs (so_far lines) (left_before F lines)
+      left = rw (s.left, s.current) (ready_left st F item lines fit h)
 
-      current : cond (is_current_family c.current F) c.current (begun F) ≡ Some (record { name = F; family = so_far above F })
-      current = rw s.current (ready_current st F item above h)
+      current : cond (is_current_family c.current F) c.current (begun F) ≡ Some (record { name = F; family = so_far lines F })
+      current = rw s.current (ready_current st F item lines h)
 
       by : (b : Bool) → is_current_family c.current F ≡ b
           → IsReady st (cond b c (record c { left = with_left c.left c.current; current = begun F })) earlier F
@@ -177,6 +177,7 @@ module _ (st : Setting) (c : Checking) (earlier : List Item) (s : Stands st c ea
         seen = s.seen;
         samples = s.samples;
         working = s.working;
+        text_items = s.text_items;
         faultless = s.faultless;
       }
       by false e = record {
@@ -187,6 +188,7 @@ module _ (st : Setting) (c : Checking) (earlier : List Item) (s : Stands st c ea
         seen = s.seen;
         samples = s.samples;
         working = s.working;
+        text_items = s.text_items;
         faultless = s.faultless;
       }
 
@@ -203,7 +205,7 @@ module _ (st : Setting) (c : Checking) (earlier : List Item) (F : List ℕ) (r :
       let above : List Owned = owned_lines st.format earlier in
       let o : Owned = record { family = F; item = item } in
       let lines : owned_lines st.format (item ∷ earlier) ≡ o ∷ above = ap (λ w. with_owner w item above) owner in
-      let fit : AreFit st (o ∷ above) = subst (AreFit st) lines (fit_lines st (item ∷ earlier) r.text (text, none, r.faultless)) in
+      let fit : AreFit st (o ∷ above) = subst (AreFit st) lines (fit_lines st (item ∷ earlier) r.text (text, r.text_items) (none, r.faultless)) in
       let pairs_same : pairs (so_far above) (left_before F above) ≡ pairs (so_far (o ∷ above)) (left_before F above) =
       map-pairs (so_far above) (so_far (o ∷ above)) F (left_before F above) (fresh st F item above fit.1 fit.0.together) (λ name e. sym (so_far-other o above name e)) in
       let placed : Stands st d (item ∷ earlier) = record {
@@ -214,7 +216,8 @@ module _ (st : Setting) (c : Checking) (earlier : List Item) (F : List ℕ) (r :
         seen = seen ∙ ap (keys_of st) (sym lines);
         samples = samples;
         working = stopped ∙ r.working;
-        faultless = (text, none, r.faultless);
+        text_items = (text, r.text_items);
+        faultless = (none, r.faultless);
       } in placed
 
   unseen : (item : Item) → sample_of_line item ≡ None → c.seen ≡ keys_of st (record { family = F; item = item } ∷ owned_lines st.format earlier)
@@ -280,20 +283,19 @@ late_of_sort st c earlier s F sort item h o known =
 
 -- ---- the owner of a sample
 
-module _ (f : Format) where
-  -- the current family owns it: it is its owner, and no rule on places and names is broken
-  pub record OwnedByCurrent (st : Setting) (above : List Owned) (name owner : List ℕ) : Type 0 where
-    pub current : is_current_family (current_family above) owner ≡ true
-    pub together : (item : Item) → is_split above (record { family = owner; item = item }) ≡ false
-    pub fits : is_sample_name f (kind_of above owner) owner name ≡ true
+-- the current family owns it: it is its owner, and no rule on places and names is broken
+pub record OwnedByCurrent (f : Format) (above : List Owned) (name owner : List ℕ) : Type 0 where
+  pub current : is_current_family (current_family above) owner ≡ true
+  pub together : (item : Item) → is_split above (record { family = owner; item = item }) ≡ false
+  pub fits : is_sample_name f (kind_of above owner) owner name ≡ true
 
 owner_current : (st : Setting) (above : List Owned) (name : List ℕ) → is_current_sample st.format (current_family above) name ≡ true
-    → OwnedByCurrent st.format st above name (sample_owner st.format above name)
+    → OwnedByCurrent st.format above name (sample_owner st.format above name)
 unfolding current_family sample_owner is_split so_far kind_of
 owner_current st [] name h = absurd (let e : false ≡ true = h in cc)
 owner_current st (n ∷ above) name h =
     let owner : cond (is_sample_name st.format (kind_of (n ∷ above) n.family) n.family name) n.family name ≡ n.family = ap (λ b. cond b n.family name) h in
-    subst (λ F. OwnedByCurrent st.format st (n ∷ above) name F) (sym owner) (record {
+    subst (λ F. OwnedByCurrent st.format (n ∷ above) name F) (sym owner) (record {
       current = bytes_same n.family;
       together = λ item. rw (bytes_same n.family) refl;
       fits = h;
@@ -349,7 +351,7 @@ module _ (st : Setting) (c : Checking) (earlier : List Item) (s : Stands st c ea
   own_owner name h = owner_own st (owned_lines st.format earlier) name (current_here name false h)
 
   pub current_owner : (name : List ℕ) → is_current_sample c.setting.format c.current name ≡ true
-      → OwnedByCurrent st.format st (owned_lines st.format earlier) name (sample_owner st.format (owned_lines st.format earlier) name)
+      → OwnedByCurrent st.format (owned_lines st.format earlier) name (sample_owner st.format (owned_lines st.format earlier) name)
   current_owner name h = owner_current st (owned_lines st.format earlier) name (current_here name true h)
 
   -- the checker is ready for its current family

@@ -70,13 +70,13 @@ refused item c d rule h = record { broken_is = h; stands = λ st earlier s text 
 module _ (c : Checking) (F : List ℕ) where
   pub help_refused : (text : List ℕ) (d : Checking) (rule : Rule) → TellsPlace c F sorts.Help (Some rule) → Takes (items.Help F text) c d (Some rule)
   help_refused text d rule told = refused (items.Help F text) c d rule (λ st earlier s t.
-      told st earlier (items.Help F text) s refl ∙ sym (help_fault st earlier s.text (fit_lines st earlier s.text s.faultless) F text))
+      told st earlier (items.Help F text) s refl ∙ sym (help_fault st earlier s.text (fit_lines st earlier s.text s.text_items s.faultless) F text))
 
   pub help_taken : (text : List ℕ) (d : Checking) → TellsPlace c F sorts.Help None
       → d ≡ with_current (reached c F) (current_with (λ f. record f { help = Some text }) (reached c F).current) → Takes (items.Help F text) c d None
   help_taken text d told step =
       let fault : (st : Setting) (earlier : List Item) → Stands st c earlier → None ≡ item_fault st earlier (items.Help F text) = λ st earlier s.
-      told st earlier (items.Help F text) s refl ∙ sym (help_fault st earlier s.text (fit_lines st earlier s.text s.faultless) F text) in
+      told st earlier (items.Help F text) s refl ∙ sym (help_fault st earlier s.text (fit_lines st earlier s.text s.text_items s.faultless) F text) in
       record {
         broken_is = λ st earlier s t. fault st earlier s;
         stands = λ st earlier s t none.
@@ -92,14 +92,14 @@ module _ (c : Checking) (F : List ℕ) where
       let above : List Owned = owned_lines st.format earlier in
       let line : Owned = record { family = F; item = items.KindOf F kind } in
       first (is_late_descriptor above line) (is_split above line) (cond (is_not_built kind) (Some rules.NotBuilt) None) rule (told st earlier (items.KindOf F kind) s refl)
-      ∙ sym (kind_fault st earlier s.text (fit_lines st earlier s.text s.faultless) F kind t))
+      ∙ sym (kind_fault st earlier s.text (fit_lines st earlier s.text s.text_items s.faultless) F kind t))
 
   kind_left : (kind : Kind) → TellsPlace c F sorts.Type None → (st : Setting) (earlier : List Item) → Stands st c earlier → IsTextItem (items.KindOf F kind)
       → item_fault st earlier (items.KindOf F kind) ≡ cond (is_not_built kind) (Some rules.NotBuilt) None
   kind_left kind told st earlier s t =
       let above : List Owned = owned_lines st.format earlier in
       let line : Owned = record { family = F; item = items.KindOf F kind } in
-      kind_fault st earlier s.text (fit_lines st earlier s.text s.faultless) F kind t
+      kind_fault st earlier s.text (fit_lines st earlier s.text s.text_items s.faultless) F kind t
       ∙ (placed (is_late_descriptor above line) (is_split above line) (cond (is_not_built kind) (Some rules.NotBuilt) None) (told st earlier (items.KindOf F kind) s refl)).0
 
   pub kind_not_built : (kind : Kind) (d : Checking) → TellsPlace c F sorts.Type None → is_not_built kind ≡ true → Takes (items.KindOf F kind) c d (Some rules.NotBuilt)
@@ -126,14 +126,14 @@ module _ (c : Checking) (F : List ℕ) where
       let above : List Owned = owned_lines st.format earlier in
       let line : Owned = record { family = F; item = items.Unit F unit } in
       first (is_late_descriptor above line) (is_split above line) (cond (is_foreign_unit F unit) (Some rules.Unit) None) rule (told st earlier (items.Unit F unit) s refl)
-      ∙ sym (unit_fault st earlier s.text (fit_lines st earlier s.text s.faultless) F unit))
+      ∙ sym (unit_fault st earlier s.text (fit_lines st earlier s.text s.text_items s.faultless) F unit))
 
   unit_left : (unit : List ℕ) → TellsPlace c F sorts.Unit None → (st : Setting) (earlier : List Item) → Stands st c earlier
       → item_fault st earlier (items.Unit F unit) ≡ cond (is_foreign_unit F unit) (Some rules.Unit) None
   unit_left unit told st earlier s =
       let above : List Owned = owned_lines st.format earlier in
       let line : Owned = record { family = F; item = items.Unit F unit } in
-      unit_fault st earlier s.text (fit_lines st earlier s.text s.faultless) F unit
+      unit_fault st earlier s.text (fit_lines st earlier s.text s.text_items s.faultless) F unit
       ∙ (placed (is_late_descriptor above line) (is_split above line) (cond (is_foreign_unit F unit) (Some rules.Unit) None) (told st earlier (items.Unit F unit) s refl)).0
 
   pub unit_foreign : (unit : List ℕ) (d : Checking) → TellsPlace c F sorts.Unit None → is_foreign_unit F unit ≡ true → Takes (items.Unit F unit) c d (Some rules.Unit)
@@ -245,7 +245,7 @@ sample_refused s c mid d rule r = refused (items.Sample s) c d rule (λ st earli
     let above : List Owned = owned_lines st.format earlier in
     let owner : List ℕ = sample_owner st.format above s.name in
     named_first (is_split above (record { family = owner; item = items.Sample s })) (has_wrong_suffix st (kind_of above owner) owner s) _ rule (r.broken_is st earlier s stands refl)
-    ∙ sym (sample_fault st earlier stands.text (fit_lines st earlier stands.text stands.faultless) s t))
+    ∙ sym (sample_fault st earlier stands.text (fit_lines st earlier stands.text stands.text_items stands.faultless) s t))
 
 pub sample_takes : (s : Sample) (c mid d : Checking) (key : SampleKey) (broken : Option Rule) → ReachesOwner s.name c mid None
     → key.name ≡ s.name → key.labels ≡ kept_labels mid.setting.treatment s.labels → broken ≡ sample_stop mid key → (broken ≡ None → d ≡ with_sample mid key s.value) → Takes (items.Sample s) c d broken
@@ -260,7 +260,7 @@ sample_takes s c mid d key broken r name labels stop step =
     let ready : IsReady st mid earlier owner = r.ready st earlier s stands refl refl in
     stop ∙ ap (sample_stop mid) (key_is st earlier owner ready) ∙ stop_rest st mid earlier owner s ready
     ∙ sym (named (is_split above (record { family = owner; item = items.Sample s })) (has_wrong_suffix st (kind_of above owner) owner s) (rest_fault st earlier s) (r.broken_is st earlier s stands refl))
-    ∙ sym (sample_fault st earlier stands.text (fit_lines st earlier stands.text stands.faultless) s t) in
+    ∙ sym (sample_fault st earlier stands.text (fit_lines st earlier stands.text stands.text_items stands.faultless) s t) in
     record {
       broken_is = fault;
       stands = λ st earlier stands t none.
@@ -308,7 +308,7 @@ module _ (c : Checking) where
   blank_taken : Takes items.Blank c c None
   unfolding owned_lines
   blank_taken = record {
-    broken_is = λ st earlier s t. sym (blank_fault st earlier s.text (fit_lines st earlier s.text s.faultless));
+    broken_is = λ st earlier s t. sym (blank_fault st earlier s.text (fit_lines st earlier s.text s.text_items s.faultless));
     stands = λ st earlier s t none. record {
       setting = s.setting;
       text = s.text;
@@ -317,14 +317,15 @@ module _ (c : Checking) where
       seen = s.seen;
       samples = s.samples;
       working = s.working;
-      faultless = (tt, blank_fault st earlier s.text (fit_lines st earlier s.text s.faultless), s.faultless);
+      text_items = (tt, s.text_items);
+      faultless = (blank_fault st earlier s.text (fit_lines st earlier s.text s.text_items s.faultless), s.faultless);
     };
   }
 
   comment_taken : Takes items.Comment c c None
   unfolding owned_lines
   comment_taken = record {
-    broken_is = λ st earlier s t. sym (comment_fault st earlier s.text (fit_lines st earlier s.text s.faultless));
+    broken_is = λ st earlier s t. sym (comment_fault st earlier s.text (fit_lines st earlier s.text s.text_items s.faultless));
     stands = λ st earlier s t none. record {
       setting = s.setting;
       text = s.text;
@@ -333,14 +334,15 @@ module _ (c : Checking) where
       seen = s.seen;
       samples = s.samples;
       working = s.working;
-      faultless = (tt, comment_fault st earlier s.text (fit_lines st earlier s.text s.faultless), s.faultless);
+      text_items = (tt, s.text_items);
+      faultless = (comment_fault st earlier s.text (fit_lines st earlier s.text s.text_items s.faultless), s.faultless);
     };
   }
 
   eof_taken : Takes items.Eof c c None
   unfolding owned_lines
   eof_taken = record {
-    broken_is = λ st earlier s t. sym (eof_fault st earlier s.text (fit_lines st earlier s.text s.faultless));
+    broken_is = λ st earlier s t. sym (eof_fault st earlier s.text (fit_lines st earlier s.text s.text_items s.faultless));
     stands = λ st earlier s t none. record {
       setting = s.setting;
       text = s.text;
@@ -349,7 +351,8 @@ module _ (c : Checking) where
       seen = s.seen;
       samples = s.samples;
       working = s.working;
-      faultless = (tt, eof_fault st earlier s.text (fit_lines st earlier s.text s.faultless), s.faultless);
+      text_items = (tt, s.text_items);
+      faultless = (eof_fault st earlier s.text (fit_lines st earlier s.text s.text_items s.faultless), s.faultless);
     };
   }
 

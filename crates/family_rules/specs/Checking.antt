@@ -14,7 +14,7 @@ use Rattle.page_model.specs.Written.{Setting}
 use Rattle.page_model.specs.Items.{is_sample, sample_of_line}
 use Rattle.page_model.specs.Owners.{Owned, is_of, declared_kind, owned_lines, samples_of, kept_labels}
 use Rattle.page_model.specs.Rules.{is_info_or_state_set}
-use Rattle.page_model.specs.Faults.{item_fault}
+use Rattle.page_model.specs.Pages.{AreFaultless}
 use Rattle.page_model.specs.Readings.{help_in, unit_in}
 use Rattle.family_rules.specs.declared.family.Current.{Current}
 use Rattle.family_rules.specs.declared.family.FamilySoFar.{FamilySoFar}
@@ -90,10 +90,10 @@ IsTextItem (items.KindOf name kind) = IsTrue (not (is_info_or_state_set kind))
 IsTextItem (items.Sample s) = s.exemplar ≡ None
 IsTextItem _ = ⊤
 
--- each item is one of the text format and breaks no rule under those above it
-abbrev pub AreFaultless : Setting → List Item → Type 0
-AreFaultless st [] = ⊤
-AreFaultless st (item ∷ earlier) = IsTextItem item × (item_fault st earlier item ≡ None) × AreFaultless st earlier
+-- each of the items is one of the text format
+abbrev pub AreTextItems : List Item → Type 0
+AreTextItems [] = ⊤
+AreTextItems (item ∷ earlier) = IsTextItem item × AreTextItems earlier
 
 -- the checker has taken these items, the nearest first, and refused none
 pub record Stands (st : Setting) (c : Checking) (earlier : List Item) : Type 0 where
@@ -104,6 +104,7 @@ pub record Stands (st : Setting) (c : Checking) (earlier : List Item) : Type 0 w
   pub seen : c.seen ≡ keys_of st (owned_lines st.format earlier)
   pub samples : c.samples ≡ count_by is_sample earlier
   pub working : c.stopped ≡ None
+  pub text_items : AreTextItems earlier
   pub faultless : AreFaultless st earlier
 
 -- the checker has refused, or wanted memory, and answers this

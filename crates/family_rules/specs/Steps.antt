@@ -25,12 +25,13 @@ use Rattle.page_model.specs.declared.item.Sample.{Sample}
 use Rattle.page_model.specs.Owners.{Owned, owned_lines, kind_of, sample_owner}
 use Rattle.page_model.specs.Rules.{is_late_descriptor, is_split, has_wrong_suffix}
 use Rattle.page_model.specs.Faults.{item_fault}
+use Rattle.page_model.specs.Pages.{AreFaultless}
 use Rattle.family_rules.specs.declared.family.Current.{Current}
 use Rattle.family_rules.specs.declared.family.Descriptor.{Descriptor}
 use Rattle.family_rules.specs.declared.family.Descriptor.TheVariants as sorts
 use Rattle.family_rules.specs.declared.family.FamilySoFar.{FamilySoFar}
 use Rattle.family_rules.specs.declared.sample_key.SampleKey.{SampleKey}
-use Rattle.family_rules.specs.Checking.{Checking, no_lines, so_far, left_before, keys_of, IsTextItem, AreFaultless, Stands}
+use Rattle.family_rules.specs.Checking.{Checking, no_lines, so_far, left_before, keys_of, IsTextItem, AreTextItems, Stands}
 
 -- ---- reading
 
@@ -115,6 +116,7 @@ pub record IsReady (st : Setting) (c : Checking) (earlier : List Item) (family :
   pub seen : c.seen ≡ keys_of st (owned_lines st.format earlier)
   pub samples : c.samples ≡ count_by is_sample earlier
   pub working : c.stopped ≡ None
+  pub text_items : AreTextItems earlier
   pub faultless : AreFaultless st earlier
 
 -- the rule that an item breaks, where it breaks one; where it breaks none, the checker stands for it too

@@ -396,10 +396,7 @@ impl Checker {
                 rule: Rule::NoNewline,
             });
         }
-        match self.into_page() {
-            Ok(page) => Ok(page),
-            Err(_) => Err(PageFault::Memory),
-        }
+        Ok(self.into_page()?)
     }
 }
 

@@ -7,6 +7,8 @@ mod family;
 mod pages;
 mod sample_key;
 mod suffix;
+#[cfg(test)]
+mod tests;
 
 pub use checker::Checker;
 pub use page_model::{

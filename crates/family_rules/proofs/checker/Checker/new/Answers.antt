@@ -13,5 +13,6 @@ returns c = record {
   seen = c.new-2.ensures.empty;
   samples = refl;
   working = refl;
+  text_items = tt;
   faultless = tt;
 }

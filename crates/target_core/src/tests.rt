@@ -1,0 +1,118 @@
+use crate::{Target, event_request};
+use exact_decimal::of;
+use label_sets::{Kind, LabelSet, List, Memory, Name, SeriesKey, Text};
+use otlp_tree::{Metric, NumberPoint, Request, Shape};
+use page_model::{Cause, Family, Outcome, Page, Reading, Value};
+use std::alloc::Global;
+
+const MOMENT: u64 = 10_000_000_000;
+
+fn reading(alloc: Global, name: &str, kind: Kind, created: Option<u64>) -> Result<Reading, Memory> {
+    let key = SeriesKey {
+        name: Name::from_str(alloc, name)?,
+        kind,
+        unit: Text::from_str(alloc, "seconds")?,
+        labels: LabelSet::empty(alloc),
+    };
+    Ok(Reading {
+        key,
+        value: Value::Plain(of(7)),
+        created: created.map(|seconds| of(seconds)),
+        stamp: None,
+        exemplars: List::new(alloc),
+    })
+}
+
+fn family(alloc: Global, kind: Kind, readings: Vec<Reading>) -> Result<Family, Memory> {
+    Ok(Family {
+        name: Name::from_str(alloc, "c")?,
+        kind,
+        help: Text::from_str(alloc, "Help.")?,
+        unit: Text::from_str(alloc, "seconds")?,
+        readings: List::from_vec(readings),
+    })
+}
+
+// A counter that was created at 5 s, after the moment and at no known time; a family without readings; a gauge.
+fn page(alloc: Global) -> Result<Page, Memory> {
+    let known = reading(alloc, "c_total", Kind::Counter, Some(5))?;
+    let later = reading(alloc, "c_total", Kind::Counter, Some(11))?;
+    let unknown = reading(alloc, "c_total", Kind::Counter, None)?;
+    let gauge = reading(alloc, "g", Kind::Gauge, Some(5))?;
+    let counters = Vec::from_array(alloc, [known, later, unknown])?;
+    let counter = family(alloc, Kind::Counter, counters)?;
+    let nothing = family(alloc, Kind::Counter, Vec::new(alloc))?;
+    let gauge = family(alloc, Kind::Gauge, Vec::from_array(alloc, [gauge])?)?;
+    let families = Vec::from_array(alloc, [counter, nothing, gauge])?;
+    Ok(Page {
+        families: List::from_vec(families),
+        samples: 6,
+    })
+}
+
+fn request(alloc: Global, outcome: Outcome) -> Result<Request, Memory> {
+    let target = Target::copied(alloc, "j", "h:1", "h", 1)?;
+    event_request(alloc, &target, MOMENT, outcome)
+}
+
+fn metric(request: &Request, scope: usize, place: usize) -> Option<&Metric> {
+    request
+        .scopes
+        .as_slice()
+        .get(scope)?
+        .metrics
+        .as_slice()
+        .get(place)
+}
+
+fn point(metric: &Metric, place: usize) -> Option<&NumberPoint> {
+    match &metric.shape {
+        Shape::Gauge(points) | Shape::Sum { points, .. } => points.as_slice().get(place),
+    }
+}
+
+// The start of a point, or none where the metric has no such point.
+fn start(metric: &Metric, place: usize) -> Option<Option<u64>> {
+    Some(point(metric, place)?.start)
+}
+
+fn value_is(metric: &Metric, number: u64) -> bool {
+    match point(metric, 0) {
+        Some(point) => point.value == Some(of(number)) && point.time == MOMENT,
+        None => false,
+    }
+}
+
+#[test]
+fn counter_and_gauge(rt: HostRuntime) {
+    let alloc = rt.alloc();
+    let page = page(alloc).expect(&rt, "memory");
+    let request = request(alloc, Outcome::Page(page)).expect(&rt, "memory");
+    assert_eq!(rt; request.resource.len(), 5);
+    let counter = metric(&request, 0, 0).expect(&rt, "counter");
+    assert!(rt; counter.name.as_str() == "c_total");
+    assert!(rt; counter.description.as_str() == "Help.");
+    assert!(rt; counter.unit.as_str() == "seconds");
+    assert_eq!(rt; start(counter, 0), Some(Some(5_000_000_000)));
+    assert_eq!(rt; start(counter, 1), Some(Some(MOMENT)));
+    assert_eq!(rt; start(counter, 2), Some(Some(MOMENT)));
+    let gauge = metric(&request, 0, 1).expect(&rt, "gauge");
+    assert!(rt; gauge.name.as_str() == "g");
+    assert_eq!(rt; start(gauge, 0), Some(None));
+    assert!(rt; value_is(gauge, 7));
+    assert!(rt; metric(&request, 0, 2).is_none());
+    let up = metric(&request, 1, 0).expect(&rt, "up");
+    assert!(rt; value_is(up, 1));
+    let scraped = metric(&request, 1, 1).expect(&rt, "samples");
+    assert!(rt; value_is(scraped, 6));
+}
+
+#[test]
+fn failed_scrape(rt: HostRuntime) {
+    let alloc = rt.alloc();
+    let request = request(alloc, Outcome::Failed(Cause::Connect)).expect(&rt, "memory");
+    assert_eq!(rt; request.scopes.len(), 1);
+    let up = metric(&request, 0, 0).expect(&rt, "up");
+    assert!(rt; up.name.as_str() == "up");
+    assert!(rt; value_is(up, 0));
+}

@@ -1,0 +1,167 @@
+-- How a reader of a page answers at the end.
+use Rattle.std.proofs.Common.{◌≡◌, ◌≢◌, ℕ, zero, suc, ◌+◌, ◌-◌, ◌^◌, ◌<◌, ◌≤◌, ◌↔◌, Bool, true, false, cond, nat_lt, List, [], ◌∷◌, ◌++◌, length, map, Option, Some, None, Result, Ok, Err, refl, sym, ap, subst, ◌∙◌, arith}
+use Rattle.std.specs.Prelude.{option_map, ⊤, IfOk}
+use Rattle.std.specs.Option.{option_or}
+use Rattle.std.specs.List.{slice_split, onto_first, fold}
+use Rattle.std.proofs.lemmas.List.{append-nil, append_assoc, map-append, length-map, length-append}
+use Rattle.std.proofs.lemmas.Bool.Decides.{nat_tests}
+use Rattle.page_lines.specs.declared.Last.TheVariants.{Clean, Open}
+use Rattle.page_lines.specs.declared.Place.{Place}
+use Rattle.page_lines.specs.declared.Place.TheVariants.{Within, Behind, Passing}
+use Rattle.page_lines.specs.Feeding.{Feeding, IsEnd, told_at_end}
+use Rattle.page_lines.specs.Feeding as feeding
+use Rattle.page_lines.specs.Told.{Told, told_of, told_line, told_open, whole, too_long}
+use Rattle.page_lines.specs.Lines.{lines_of, ends_clean, ended_lines, open_line, is_line_feed, without_empty_last}
+use Rattle.page_lines.proofs.TellingOn.{whole_lines}
+use Rattle.page_model.specs.declared.format.Format.TheVariants.{Text}
+use Rattle.page_model.specs.declared.format.Treatment.{Treatment}
+use Rattle.page_model.specs.declared.item.Item.{Item}
+use Rattle.page_model.specs.declared.page.Page.{Page}
+use Rattle.page_model.specs.declared.rule.Rule.{Rule}
+use Rattle.page_model.specs.declared.fault.PageFault.{PageFault}
+use Rattle.page_model.specs.declared.fault.PageFault.TheVariants as faults
+use Rattle.page_model.specs.Written.{Setting, text_setting, line_limit}
+use Rattle.page_model.specs.Faults.{Line as PageLine, Fault, line_fault, lines_fault, end_fault, fault_from, fault_of, with_line, with_lines}
+use Rattle.page_model.specs.Readings.{page_of}
+use Rattle.page_model.specs.Pages.{FirstFault, IsPageOf, items_of}
+use Rattle.page_model.specs.PageReading.{line_read, text_fault, text_page}
+use Rattle.page_model.proofs.Decides.{front_fault, first_fault_read, page_is_read}
+use Rattle.page_model.proofs.Prefixes.{fault_from-append}
+use Rattle.family_rules.specs.Checking.{Checking}
+use Rattle.family_rules.specs.Checking as checking
+use Rattle.text_grammar.specs.PageFeeding.{Fed, Stands, Answers, LineAnswer, TakesLine, AtLast}
+use Rattle.text_grammar.proofs.PageSteps.{fault_at, fault_snoc, with_snoc}
+
+-- ---- how many lines there are
+
+count_behind : (s : List (List ℕ)) (n : ℕ) → length (without_empty_last s) ≤ n → length (without_empty_last ([] ∷ s)) ≤ suc n
+count_behind [] n h = omega arith
+count_behind (q ∷ qs) n h = omega arith
+
+count_onto : (x : ℕ) (s : List (List ℕ)) (n : ℕ) → length (without_empty_last s) ≤ n → length (without_empty_last (onto_first x s)) ≤ suc n
+count_onto x [] n h = omega arith
+count_onto x (q ∷ []) n h = omega arith
+count_onto x ([] ∷ r ∷ rs) n h = omega arith
+count_onto x ((y ∷ ys) ∷ r ∷ rs) n h = omega arith
+
+count_split : (c : ℕ) (s : List (List ℕ)) (n : ℕ) (b : Bool) → length (without_empty_last s) ≤ n → length (without_empty_last (cond b ([] ∷ s) (onto_first c s))) ≤ suc n
+count_split c s n true h = count_behind s n h
+count_split c s n false h = count_onto c s n h
+
+few_lines : (page : List ℕ) → length (lines_of page) ≤ length page
+unfolding lines_of
+few_lines [] = omega arith
+few_lines (c ∷ cs) = count_split c (slice_split is_line_feed cs) (length cs) (is_line_feed c) (few_lines cs)
+
+-- ---- the fault and the page of lines that were taken
+
+folded : (ls : List PageLine) (earlier : List Item) → fold (λ above l. with_line Text l above) earlier ls ≡ with_lines Text ls earlier
+unfolding with_lines
+folded [] earlier = refl
+folded (l ∷ ls) earlier = folded ls (with_line Text l earlier)
+
+module _ (t : Treatment) (limit : ℕ) (fed : List ℕ) (told : List (List ℕ)) (clean : Bool) (lines : lines_of fed ≡ told) (ends : ends_clean fed ≡ clean)
+    (free : lines_fault (text_setting t limit) [] 1 (map (line_read Text) told) ≡ None) where
+  end_is : text_fault (text_setting t limit) fed ≡ option_map (λ rule. fault_at (1 + length told) rule) (end_fault (text_setting t limit) (with_lines Text (map (line_read Text) told) []) clean)
+  unfolding text_fault fault_from
+  end_is =
+      ap (λ (ls : List (List ℕ)). fault_of (text_setting t limit) (map (line_read Text) ls) (ends_clean fed)) lines
+      ∙ ap (λ b. fault_of (text_setting t limit) (map (line_read Text) told) b) ends
+      ∙ ap (λ (ls : List PageLine). fault_of (text_setting t limit) ls clean) (sym (append-nil (map (line_read Text) told)))
+      ∙ fault_from-append (text_setting t limit) [] 1 (map (line_read Text) told) [] clean
+      ∙ ap (λ o. option_or o (fault_from (text_setting t limit) (with_lines Text (map (line_read Text) told) []) (1 + length (map (line_read Text) told)) [] clean)) free
+      ∙ ap (λ k. option_map (λ rule. fault_at (1 + k) rule) (end_fault (text_setting t limit) (with_lines Text (map (line_read Text) told) []) clean)) (length-map told (line_read Text))
+
+  page_is : text_page (text_setting t limit) fed ≡ page_of (text_setting t limit) (with_lines Text (map (line_read Text) told) [])
+  unfolding text_page
+  page_is = ap (λ (ls : List (List ℕ)). page_of (text_setting t limit) (items_of Text (map (line_read Text) ls))) lines ∙ ap (page_of (text_setting t limit)) (folded (map (line_read Text) told) [])
+
+  pub close-answers : (number : ℕ) (result : Result Page PageFault) → number ≡ 1 + length told
+      → checking.Answers number (end_fault (text_setting t limit) (with_lines Text (map (line_read Text) told) []) clean) result
+      → IfOk result (λ page. page ≡ page_of (text_setting t limit) (with_lines Text (map (line_read Text) told) [])) → Answers (text_setting t limit) fed result
+  close-answers number (Ok page) e answer is = (page_is_read (text_setting t limit) fed page).1 (end_is ∙ rw answer refl, is ∙ sym page_is)
+  close-answers number (Err (faults.Refused n rule)) e answer is = (first_fault_read (text_setting t limit) fed (n, rule)).1 (end_is ∙ rw answer.1 (ap (λ k. Some (fault_at k rule)) (sym (answer.0 ∙ e))))
+  close-answers number (Err faults.Memory) e answer is = tt
+
+-- ---- the last line
+
+module _ (t : Treatment) (limit : ℕ) (fed : List ℕ) (old new : Fed) (a : AtLast t limit fed old) where
+  last_read : List PageLine
+  last_read = map (line_read Text) a.told
+
+  snoc_fault : lines_fault (text_setting t limit) [] 1 (map (line_read Text) (a.told ++ old.lines.line ∷ [])) ≡ option_map (λ rule. fault_at (1 + length a.told) rule) (line_fault (text_setting t limit) (with_lines Text (map (line_read Text) a.told) []) (line_read Text old.lines.line))
+  snoc_fault = ap (lines_fault (text_setting t limit) [] 1) (map-append (line_read Text) a.told (old.lines.line ∷ [])) ∙ fault_snoc (text_setting t limit) [] 1 (map (line_read Text) a.told) (line_read Text old.lines.line) a.without_fault
+      ∙ ap (λ k. option_map (λ rule. fault_at (1 + k) rule) (line_fault (text_setting t limit) (with_lines Text (map (line_read Text) a.told) []) (line_read Text old.lines.line))) (length-map a.told (line_read Text))
+
+  of_t : (result : Result ⊤ PageFault) → TakesLine old new result → LineAnswer (text_setting t limit) (with_lines Text (map (line_read Text) a.told) []) old.lines.line old.lines.number new.checker result
+  of_t result takes = subst (λ (x : Treatment). LineAnswer (text_setting x limit) (with_lines Text (map (line_read Text) a.told) []) old.lines.line old.lines.number new.checker result) a.treatment
+      (takes.answer limit (with_lines Text (map (line_read Text) a.told) []) (subst (λ (x : Treatment). checking.Stands (text_setting x limit) old.checker (with_lines Text (map (line_read Text) a.told) [])) (sym a.treatment) a.checker_stands))
+
+  pub last-refused : (fault : PageFault) → TakesLine old new (Err fault) → Answers (text_setting t limit) fed (Err fault)
+  last-refused (faults.Refused n rule) takes =
+      let answer = of_t (Err (faults.Refused n rule)) takes in
+      front_fault (text_setting t limit) fed (a.told ++ old.lines.line ∷ []) [] (n, rule) (a.lines_are ∙ sym (append-nil (a.told ++ old.lines.line ∷ [])))
+      (snoc_fault ∙ rw answer.1 (ap (λ k. Some (fault_at k rule)) (sym (answer.0 ∙ a.number))))
+  last-refused faults.Memory takes = tt
+
+  pub last-taken : (u : ⊤) → TakesLine old new (Ok u) → (number : ℕ) → number ≡ 1 + (length a.told + 1) → (result : Result Page PageFault)
+      → ((st : Setting) (earlier : List Item) → checking.Stands st new.checker earlier → checking.Answers number (end_fault st earlier false) result)
+      → ((st : Setting) (earlier : List Item) → checking.Stands st new.checker earlier → IfOk result (λ page. page ≡ page_of st earlier)) → Answers (text_setting t limit) fed result
+  last-taken u takes number e result answer page =
+      let taken = of_t (Ok u) takes in
+      let items : with_lines Text (map (line_read Text) (a.told ++ old.lines.line ∷ [])) [] ≡ with_line Text (line_read Text old.lines.line) (with_lines Text (map (line_read Text) a.told) []) =
+      ap (λ (ls : List PageLine). with_lines Text ls []) (map-append (line_read Text) a.told (old.lines.line ∷ [])) ∙ with_snoc (map (line_read Text) a.told) (line_read Text old.lines.line) [] in
+      let stands = subst (λ (x : List Item). checking.Stands (text_setting t limit) new.checker x) (sym items) taken.1 in
+      close-answers t limit fed (a.told ++ old.lines.line ∷ []) false a.lines_are a.not_clean (snoc_fault ∙ rw taken.0 refl) number result
+      (e ∙ ap (λ k. 1 + k) (sym (length-append a.told (old.lines.line ∷ [])))) (answer (text_setting t limit) _ stands) (page (text_setting t limit) _ stands)
+
+-- ---- the end of the lines
+
+no_too_long : (xs : List Told) (told : List (List ℕ)) → xs ++ too_long ∷ [] ≡ map whole told → ⊥
+no_too_long [] [] e = absurd cc
+no_too_long [] (l ∷ ls) e = absurd cc
+no_too_long (x ∷ xs) [] e = absurd cc
+no_too_long (x ∷ xs) (l ∷ ls) e = no_too_long xs ls cc
+
+module _ (t : Treatment) (limit : ℕ) (fed : List ℕ) (old mid : Fed) (s : Stands t limit fed old) (most : mid.lines.most ≡ old.lines.most) where
+  pub clean-lines : IsEnd fed mid.lines Clean → lines_of fed ≡ s.told
+  clean-lines e = whole_lines (line_limit t) (lines_of fed) s.told (rw (most, s.most, append-nil, s.told_is) at e.told)
+
+  told_passing : feeding.Stands fed mid.lines → mid.lines.place ≡ Passing → ⊥
+  unfolding told_of
+  told_passing stand is =
+      let long : nat_lt (line_limit t) (length (open_line fed)) ≡ true = (let p = (stand.passing is).long in grind (arith, nat_tests, most, s.most)) in
+      no_too_long (map (told_line (line_limit t)) (ended_lines fed)) s.told ((let e = s.told_is in rw long at e))
+
+  pub at_last : feeding.Stands fed mid.lines → IsEnd fed mid.lines Open → mid.treatment ≡ old.treatment → mid.checker ≡ old.checker → length fed < 2 ^ 32 - 1 → AtLast t limit fed mid
+  at_last stand e treatment checker few = go mid.lines.place refl
+    where
+      lines : told_at_end Open mid.lines.place mid.lines.line ≡ whole mid.lines.line ∷ [] → lines_of fed ≡ s.told ++ mid.lines.line ∷ []
+      lines h = whole_lines (line_limit t) (lines_of fed) (s.told ++ mid.lines.line ∷ []) ((rw (most, s.most, s.told_is, h) at e.told) ∙ sym (map-append whole s.told (mid.lines.line ∷ [])))
+
+      not_clean : ends_clean fed ≡ false
+      not_clean = open_ends (ends_clean fed) refl
+        where
+          open_ends : (b : Bool) → ends_clean fed ≡ b → ends_clean fed ≡ false
+          open_ends true h = absurd (let k = e.clean.1 h in cc)
+          open_ends false h = h
+
+      made : told_at_end Open mid.lines.place mid.lines.line ≡ whole mid.lines.line ∷ [] → AtLast t limit fed mid
+      made h =
+          let are = lines h in
+          let size = ap length are ∙ length-append s.told (mid.lines.line ∷ []) in
+          record {
+            treatment = treatment ∙ s.treatment;
+            told = s.told;
+            lines_are = are;
+            number = (e.last refl).0 ∙ size ∙ (let k : length s.told + 1 ≡ 1 + length s.told = omega arith in k);
+            few = omega (arith, size, few_lines fed);
+            not_clean = not_clean;
+            without_fault = s.without_fault;
+            checker_stands = rw checker s.checker_stands;
+          }
+
+      go : (place : Place) → mid.lines.place ≡ place → AtLast t limit fed mid
+      go Within is = made (rw is refl)
+      go Behind is = made (rw is refl)
+      go Passing is = absurd (told_passing stand is)

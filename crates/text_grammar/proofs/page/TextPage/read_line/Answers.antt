@@ -1,0 +1,15 @@
+use Rattle.std.proofs.Common.{◌≡◌, refl, sym, subst}
+use Rattle.text_grammar.specs.PageFeeding.{Fed, TakesLine}
+use Rattle.text_grammar.proofs.PageSteps.{takes-item, takes-refusal, read_item}
+use Rattle.text_grammar.proofs.page.TextPage.read_line.Goals as goal
+
+pub item-requires : goal.item-requires
+item-requires c = read_item c.self.inside.treatment c.line.result.now c.in-Ok-Item.item (rw c.in-Ok-Item.field-0-is at c.in-Ok-Item.ensures)
+
+pub returns-in-Ok-Item : goal.returns-in-Ok-Item
+returns-in-Ok-Item c = subst (λ (x : Fed). TakesLine x (record { treatment = c.self.inside.treatment; lines = c.self.inside.lines; checker = c.item.new.self; stopped = c.self.inside.stopped }) c.item.result) c.self.view_is
+    (takes-item c.self.inside.treatment c.self.inside.lines c.self.inside.checker c.self.inside.stopped c.line.result.now c.number-line.result c.in-Ok-Item.item c.item.new.self c.item.result
+    c.line.ensures.value c.number-line.ensures (rw c.in-Ok-Item.field-0-is at c.in-Ok-Item.ensures) c.item.ensures.answer c.item.ensures.stands)
+
+pub returns-in-Ok-Refused : goal.returns-in-Ok-Refused
+returns-in-Ok-Refused c = rw (← c.self.view_is) (takes-refusal (record { treatment = c.self.inside.treatment; lines = c.self.inside.lines; checker = c.self.inside.checker; stopped = c.self.inside.stopped }) c.line.result.now c.number-line.result c.in-Ok-Refused.rule c.line.ensures.value c.number-line.ensures (rw c.in-Ok-Refused.field-0-is at c.in-Ok-Refused.ensures))

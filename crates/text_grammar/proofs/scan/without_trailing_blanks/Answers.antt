@@ -1,0 +1,14 @@
+use Rattle.std.proofs.Common.{◌≡◌, ◌+◌, ◌≤◌, arith, length, take, subst, sym, ◌∙◌}
+use Rattle.std.proofs.lemmas.Grind.{common_steps}
+use Rattle.std.proofs.lemmas.List.{take_all}
+use Rattle.text_grammar.proofs.Utf8.{utf8_shorter, blank_small}
+use Rattle.std.specs.List.{suffix_len}
+use Rattle.std.proofs.lemmas.List.Sums.{suffix_len-take_yes}
+use Rattle.text_grammar.proofs.scan.without_trailing_blanks.Goals as goal
+
+pub loop-end-preserved : goal.loop-end-preserved
+loop-end-preserved c = record {
+  within = omega arith;
+  value = grind (arith, suffix_len-take_yes);
+  utf8 = λ u. utf8_shorter c.args.bytes.now c.loop-end.end (omega arith) (omega arith) (blank_small _ (sym c.is_blank.ensures ∙ c.if-is_blank.true)) (c.loop-end.invariant.utf8 u);
+}

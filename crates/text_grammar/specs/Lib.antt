@@ -1,0 +1,5 @@
+pub mod Cuts
+pub mod Marks
+pub mod LabelReading
+pub mod LineReading
+pub mod PageFeeding

@@ -1,0 +1,167 @@
+//! The labels of a sample (Prometheus text format 0.0.4, "Line format").
+ghost use Rattle.std.specs.Prelude.{◌≡◌, [], length, option_map, IfOk, IsUtf8, MatchOption, None};
+ghost use Rattle.std.specs.Option.{option_copied};
+ghost use Rattle.page_model.specs.TextReading.{begins_blank, label_at, labels_at, middle_at};
+ghost use Rattle.page_model.specs.TextItems.{without_leading_blanks};
+ghost use Rattle.label_sets.specs.Lists.{when_true};
+ghost use Rattle.label_sets.specs.Escapes.{quote_escape, unescaped};
+ghost use Rattle.text_grammar.specs.LabelReading.{IsLabelAt, IsNext, IsAfter, then_blanks};
+
+use crate::quoted::{Escapes, quoted_at, unescaped_text, utf8_name};
+use crate::scan::{behind, cut_label_name, is_blank, without_leading_blanks};
+use label_sets::{Label, List, Memory};
+use std::alloc::Global;
+
+/// A label as it is written.
+#[derive(Clone, Copy)]
+struct LabelParts<'a> {
+    name: &'a [u8],
+    /// The value between the quotes, with its escapes.
+    written: &'a [u8],
+    /// What stands behind the label and the blanks that follow it.
+    rest: &'a [u8],
+}
+
+/// What follows a label, or the opening brace.
+#[derive(Clone, Copy)]
+enum Next<'a> {
+    /// The closing brace, and what stands behind it.
+    End(&'a [u8]),
+    /// A comma, and what stands behind it.
+    More(&'a [u8]),
+    /// Neither.
+    Broken,
+}
+
+/// The label at the front.
+fn label_at(bytes: &[u8]) -> Option<LabelParts<'_>>
+    ensures { MatchOption result (label_at bytes.now ≡ None) (IsLabelAt bytes.now) }
+{
+    let Some(name) = cut_label_name(bytes) else {
+        return None;
+    };
+    let Some(value) = behind(b'=', without_leading_blanks(name.rest)) else {
+        return None;
+    };
+    let Some(opened) = behind(b'"', without_leading_blanks(value)) else {
+        return None;
+    };
+    let Some(quoted) = quoted_at(opened) else {
+        return None;
+    };
+    Some(LabelParts {
+        name: name.front,
+        written: quoted.written,
+        rest: without_leading_blanks(quoted.rest),
+    })
+}
+
+/// The label of a name and a written value.
+fn label_of(alloc: Global, name: &[u8], written: &[u8]) -> Result<Label, Memory>
+    requires name { IsUtf8 name.now }
+    requires written { IsUtf8 written.now }
+    ensures { IfOk result (λ label. label ≡ record { name = name.now; value = unescaped quote_escape written.now }) }
+{
+    let name = utf8_name(alloc, name)?;
+    let value = unescaped_text(alloc, Escapes::Quoted, written)?;
+    Ok(Label { name, value })
+}
+
+/// What follows a label.
+fn after_label(bytes: &[u8]) -> Next<'_>
+    ensures { IsAfter bytes.now result }
+{
+    if let Some(after) = behind(b'}', bytes) {
+        return Next::End(after);
+    }
+    match behind(b',', bytes) {
+        Some(more) => Next::More(more),
+        None => Next::Broken,
+    }
+}
+
+/// Adds the label at the front, and answers what follows it; at a closing brace there is none.
+fn next_label<'a>(
+    alloc: Global,
+    bytes: &'a [u8],
+    labels: &mut List<Label>,
+) -> Result<Next<'a>, Memory>
+    requires { IsUtf8 bytes.now }
+    ensures { IfOk result (IsNext bytes.now labels.old labels.new) }
+{
+    let bytes = without_leading_blanks(bytes);
+    if let Some(after) = behind(b'}', bytes) {
+        return Ok(Next::End(after));
+    }
+    let Some(parts) = label_at(bytes) else {
+        return Ok(Next::Broken);
+    };
+    let label = label_of(alloc, parts.name, parts.written)?;
+    labels.push(label)?;
+    Ok(after_label(parts.rest))
+}
+
+/// Adds the labels up to the closing brace, and answers what stands behind it.
+fn labels_at<'a>(
+    alloc: Global,
+    bytes: &'a [u8],
+    labels: &mut List<Label>,
+) -> Result<Option<&'a [u8]>, Memory>
+    requires text { IsUtf8 bytes.now }
+    requires none { labels.old ≡ [] }
+    ensures { IfOk result (λ rest. option_map (λ cs. (labels.new, cs)) (option_copied rest) ≡ labels_at (length bytes.now) bytes.now) }
+{
+    let mut rest = bytes;
+    // Each label takes bytes, so there are no more labels than bytes.
+    for _ in 0..bytes.len() {
+        match next_label(alloc, rest, labels)? {
+            Next::End(after) => return Ok(Some(after)),
+            Next::More(more) => rest = more,
+            Next::Broken => return Ok(None),
+        }
+    }
+    Ok(None)
+}
+
+/// What stands behind blanks, of which there is one at least.
+fn behind_blanks(bytes: &[u8]) -> Option<&[u8]>
+    ensures { option_copied result ≡ when_true (begins_blank bytes.now) (without_leading_blanks bytes.now) }
+{
+    match bytes.split_first() {
+        Some((first, _)) if is_blank(*first) => Some(without_leading_blanks(bytes)),
+        _ => None,
+    }
+}
+
+/// Adds the labels behind an opening brace, and answers what stands behind them and blanks.
+fn braced_labels<'a>(
+    alloc: Global,
+    inner: &'a [u8],
+    labels: &mut List<Label>,
+) -> Result<Option<&'a [u8]>, Memory>
+    requires text { IsUtf8 inner.now }
+    requires none { labels.old ≡ [] }
+    ensures { IfOk result (λ rest. option_map (λ cs. (labels.new, cs)) (option_copied rest)
+        ≡ then_blanks (labels_at (length inner.now) inner.now)) }
+{
+    let Some(rest) = labels_at(alloc, inner, labels)? else {
+        return Ok(None);
+    };
+    Ok(Some(without_leading_blanks(rest)))
+}
+
+/// Adds the labels between a name and a value, and answers what stands behind them.
+pub(crate) fn middle_at<'a>(
+    alloc: Global,
+    bytes: &'a [u8],
+    labels: &mut List<Label>,
+) -> Result<Option<&'a [u8]>, Memory>
+    requires text { IsUtf8 bytes.now }
+    requires none { labels.old ≡ [] }
+    ensures { IfOk result (λ rest. option_map (λ cs. (labels.new, cs)) (option_copied rest) ≡ middle_at bytes.now) }
+{
+    match behind(b'{', without_leading_blanks(bytes)) {
+        Some(inner) => braced_labels(alloc, inner, labels),
+        None => Ok(behind_blanks(bytes)),
+    }
+}

@@ -1,0 +1,11 @@
+//! Reads pages of the Prometheus text format 0.0.4 in pieces of any size.
+#![tactic(auto)]
+
+mod labels;
+mod line;
+mod page;
+mod quoted;
+mod scan;
+mod stamp;
+
+pub use page::TextPage;

@@ -1,0 +1,240 @@
+//! What a line says (Prometheus text format 0.0.4, "Text format details").
+ghost use Rattle.std.specs.Prelude.{◌≡◌, ◌≤◌, ◌&&◌, ℕ, [], length, option_map, IfOk, IfSome, IsUtf8, MatchOption, true, false, None, Some, if◌then◌else◌};
+ghost use Rattle.std.specs.Option.{option_copied};
+ghost use Rattle.std.specs.Str.{bytes_eq};
+ghost use Rattle.label_sets.specs.Lists.{when_true};
+ghost use Rattle.exact_decimal.specs.Tokens.{is_number_token};
+ghost use Rattle.page_model.specs.TextItems.{is_integer_token};
+ghost use Rattle.page_model.specs.TextReading.{at_blank, kind_named, marked_of, named_at, sample_of, trimmed_of};
+ghost use Rattle.page_model.specs.Written.{line_limit, label_limit};
+ghost use Rattle.page_model.specs.declared.format.Treatment.{Treatment as AnyTreatment};
+ghost use Rattle.text_grammar.specs.LineReading.{Reads, IsRead, IsNamedAt, Makes, help_of, type_of, written_sample};
+
+use crate::labels::middle_at;
+use crate::quoted::{Escapes, unescaped_text, utf8_name};
+use crate::scan::{
+    Cut, behind, cut_metric_name, cut_word, is_blank, trimmed, without_leading_blanks,
+};
+use crate::stamp::{optional_number, stamp_of};
+use exact_decimal::{Number, NumberFault};
+use label_sets::{Kind, Label, LabelFault, LabelSet, List, Memory};
+use page_model::{Item, Rule, Sample, Treatment};
+use std::alloc::{AllocError, Global};
+
+/// What a line gives.
+#[derive(Drop)]
+pub(crate) enum LineRead {
+    Item(Item),
+    /// The least rule that the line alone breaks.
+    Refused(Rule),
+}
+
+/// Whether bytes are empty or begin with a blank.
+fn at_blank(bytes: &[u8]) -> bool
+    ensures { result ≡ at_blank bytes.now }
+{
+    match bytes.split_first() {
+        Some((first, _)) => is_blank(*first),
+        None => true,
+    }
+}
+
+/// The metric name behind the word of a descriptor, and what stands behind the blanks that follow it.
+fn named_at(bytes: &[u8]) -> Option<Cut<'_>>
+    ensures { MatchOption result (named_at bytes.now ≡ None) (IsNamedAt bytes.now) }
+{
+    let Some(cut) = cut_metric_name(without_leading_blanks(bytes)) else {
+        return None;
+    };
+    if !at_blank(cut.rest) {
+        return None;
+    }
+    Some(Cut {
+        front: cut.front,
+        rest: without_leading_blanks(cut.rest),
+    })
+}
+
+/// Whether bytes are this word.
+fn is_word(bytes: &[u8], word: &str) -> bool
+    ensures { result ≡ bytes_eq bytes.now word.now }
+{
+    bytes == word.as_bytes()
+}
+
+/// The kind of a word.
+#[tactic(auto, unfolding(page_model::specs::TextReading::kind_named))]
+fn kind_named(word: &[u8]) -> Option<Kind>
+    ensures { result ≡ kind_named word.now }
+{
+    if is_word(word, "counter") {
+        return Some(Kind::Counter);
+    }
+    if is_word(word, "gauge") {
+        return Some(Kind::Gauge);
+    }
+    if is_word(word, "histogram") {
+        return Some(Kind::Histogram);
+    }
+    if is_word(word, "summary") {
+        return Some(Kind::Summary);
+    }
+    if is_word(word, "untyped") {
+        return Some(Kind::Unknown);
+    }
+    None
+}
+
+/// A HELP line, from behind its word.
+fn help_line(alloc: Global, bytes: &[u8]) -> Result<LineRead, Memory>
+    requires { IsUtf8 bytes.now }
+    ensures { (t : AnyTreatment) → IfOk result (Reads t (help_of bytes.now)) }
+{
+    let Some(cut) = named_at(bytes) else {
+        return Ok(LineRead::Refused(Rule::Syntax));
+    };
+    let name = utf8_name(alloc, cut.front)?;
+    let text = unescaped_text(alloc, Escapes::Help, cut.rest)?;
+    Ok(LineRead::Item(Item::Help { name, text }))
+}
+
+/// A TYPE line, from behind its word.
+fn type_line(alloc: Global, bytes: &[u8]) -> Result<LineRead, Memory>
+    ensures { (t : AnyTreatment) → IfOk result (Reads t (type_of bytes.now)) }
+{
+    let Some(cut) = named_at(bytes) else {
+        return Ok(LineRead::Refused(Rule::Syntax));
+    };
+    let Some(kind) = kind_named(cut.rest) else {
+        return Ok(LineRead::Refused(Rule::Syntax));
+    };
+    let name = utf8_name(alloc, cut.front)?;
+    Ok(LineRead::Item(Item::KindOf { name, kind }))
+}
+
+/// A line that begins with `#`, from behind that.
+fn marked_line(alloc: Global, bytes: &[u8]) -> Result<LineRead, Memory>
+    requires { IsUtf8 bytes.now }
+    ensures { (t : AnyTreatment) → IfOk result (Reads t (marked_of bytes.now)) }
+{
+    let word = cut_word(without_leading_blanks(bytes));
+    if is_word(word.front, "HELP") {
+        return help_line(alloc, word.rest);
+    }
+    if is_word(word.front, "TYPE") {
+        return type_line(alloc, word.rest);
+    }
+    Ok(LineRead::Item(Item::Comment))
+}
+
+/// The most labels of a list.
+fn label_limit(treatment: Treatment) -> u32
+    ensures { result ≡ label_limit treatment }
+{
+    match treatment {
+        Treatment::Scraped => 64,
+        Treatment::Written => 66,
+    }
+}
+
+/// The sample of a name, labels and numbers. The labels are refused where two have one name or there are
+/// too many.
+fn made_sample(
+    alloc: Global,
+    treatment: Treatment,
+    name: &[u8],
+    labels: List<Label>,
+    value: Number,
+    stamp: Option<Number>,
+) -> Result<LineRead, Memory>
+    requires { IsUtf8 name.now }
+    ensures { IfOk result (Makes treatment name.now labels value stamp) }
+{
+    let labels = match LabelSet::build(alloc, labels, label_limit(treatment)) {
+        Ok(labels) => labels,
+        Err(LabelFault::Memory) => return Err(AllocError),
+        Err(LabelFault::TooMany) => return Ok(LineRead::Refused(Rule::Labels)),
+        Err(LabelFault::Twice(_)) => return Ok(LineRead::Refused(Rule::Labels)),
+    };
+    let name = utf8_name(alloc, name)?;
+    Ok(LineRead::Item(Item::Sample(Sample {
+        name,
+        labels,
+        value,
+        stamp,
+        exemplar: None,
+    })))
+}
+
+/// The sample of a name, labels and two tokens: first it is refused where the value is no number, then
+/// where one of them is out of range, then by its labels.
+fn read_sample(
+    alloc: Global,
+    treatment: Treatment,
+    name: &[u8],
+    labels: List<Label>,
+    value: &[u8],
+    stamp: Option<&[u8]>,
+) -> Result<LineRead, Memory>
+    requires name { IsUtf8 name.now }
+    requires stamp { IfSome stamp (λ token. is_integer_token token.now ≡ true) }
+    ensures { IfOk result (Reads treatment (when_true (is_number_token value.now) (written_sample name.now labels value.now (option_copied stamp.entry)))) }
+{
+    let value = match exact_decimal::read(value) {
+        Ok(value) => value,
+        Err(NumberFault::NotANumber) => return Ok(LineRead::Refused(Rule::Syntax)),
+        Err(NumberFault::OutOfRange) => return Ok(LineRead::Refused(Rule::Range)),
+    };
+    let Some(stamp) = optional_number(stamp) else {
+        return Ok(LineRead::Refused(Rule::Range));
+    };
+    made_sample(alloc, treatment, name, labels, value, stamp)
+}
+
+/// A sample line.
+fn sample_line(alloc: Global, treatment: Treatment, bytes: &[u8]) -> Result<LineRead, Memory>
+    requires { IsUtf8 bytes.now }
+    ensures { IfOk result (Reads treatment (sample_of bytes.now)) }
+{
+    let Some(name) = cut_metric_name(bytes) else {
+        return Ok(LineRead::Refused(Rule::Syntax));
+    };
+    let mut labels = List::new(alloc);
+    let Some(rest) = middle_at(alloc, name.rest, &mut labels)? else {
+        return Ok(LineRead::Refused(Rule::Syntax));
+    };
+    let value = cut_word(rest);
+    let Some(stamp) = stamp_of(value.rest) else {
+        return Ok(LineRead::Refused(Rule::Syntax));
+    };
+    read_sample(alloc, treatment, name.front, labels, value.front, stamp)
+}
+
+/// A line without the blanks at its ends.
+fn trimmed_line(alloc: Global, treatment: Treatment, line: &[u8]) -> Result<LineRead, Memory>
+    requires { IsUtf8 line.now }
+    ensures { IfOk result (Reads treatment (trimmed_of line.now)) }
+{
+    if line.is_empty() {
+        return Ok(LineRead::Item(Item::Blank));
+    }
+    match behind(b'#', line) {
+        Some(rest) => marked_line(alloc, rest),
+        None => sample_line(alloc, treatment, line),
+    }
+}
+
+/// The item of a line without its line feed, or the least rule that the line alone breaks.
+pub(crate) fn text_line(
+    alloc: Global,
+    treatment: Treatment,
+    line: &[u8],
+) -> Result<LineRead, Memory>
+    requires { length line.now ≤ line_limit treatment }
+    ensures { IfOk result (IsRead treatment line.now) }
+{
+    match std::str::from_utf8(line) {
+        Ok(_) => trimmed_line(alloc, treatment, trimmed(line)),
+        Err(_) => Ok(LineRead::Refused(Rule::Utf8)),
+    }
+}
