@@ -9,3 +9,6 @@ mod scan;
 mod stamp;
 
 pub use page::TextPage;
+
+#[cfg(test)]
+mod tests;
