@@ -83,28 +83,36 @@ fn value_is(metric: &Metric, number: u64) -> bool {
     }
 }
 
+fn scraped(alloc: Global) -> Result<Request, Memory> {
+    let page = page(alloc)?;
+    request(alloc, Outcome::Page(page))
+}
+
 #[test]
-fn counter_and_gauge(rt: HostRuntime) {
-    let alloc = rt.alloc();
-    let page = page(alloc).expect(&rt, "memory");
-    let request = request(alloc, Outcome::Page(page)).expect(&rt, "memory");
-    assert_eq!(rt; request.resource.len(), 5);
+fn counter_with_its_starts(rt: HostRuntime) {
+    let request = scraped(rt.alloc()).expect(&rt, "memory");
     let counter = metric(&request, 0, 0).expect(&rt, "counter");
     assert!(rt; counter.name.as_str() == "c_total");
     assert!(rt; counter.description.as_str() == "Help.");
-    assert!(rt; counter.unit.as_str() == "seconds");
     assert_eq!(rt; start(counter, 0), Some(Some(5_000_000_000)));
     assert_eq!(rt; start(counter, 1), Some(Some(MOMENT)));
     assert_eq!(rt; start(counter, 2), Some(Some(MOMENT)));
+}
+
+#[test]
+fn gauge_without_start(rt: HostRuntime) {
+    let request = scraped(rt.alloc()).expect(&rt, "memory");
     let gauge = metric(&request, 0, 1).expect(&rt, "gauge");
-    assert!(rt; gauge.name.as_str() == "g");
     assert_eq!(rt; start(gauge, 0), Some(None));
     assert!(rt; value_is(gauge, 7));
     assert!(rt; metric(&request, 0, 2).is_none());
-    let up = metric(&request, 1, 0).expect(&rt, "up");
-    assert!(rt; value_is(up, 1));
-    let scraped = metric(&request, 1, 1).expect(&rt, "samples");
-    assert!(rt; value_is(scraped, 6));
+}
+
+#[test]
+fn samples_of_the_scrape(rt: HostRuntime) {
+    let request = scraped(rt.alloc()).expect(&rt, "memory");
+    let samples = metric(&request, 1, 1).expect(&rt, "samples");
+    assert!(rt; value_is(samples, 6));
 }
 
 #[test]
