@@ -1,5 +1,3 @@
-mod ScanLaws
-mod PageLaws
 mod WordLaws
 mod IoLaws
 mod AnswerLaws
