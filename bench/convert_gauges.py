@@ -46,15 +46,21 @@ def peak_bytes(words, path) -> int:
     return int(out.stdout) * 1024
 
 
+def built_program() -> str:
+    """The program, built where it isn't yet."""
+    program = os.path.join(TOP, "crates", "bridge", "out", "bridge")
+    if not os.path.exists(program):
+        subprocess.run([os.path.join(TOP, "bridge"), "--version"], check=True, stdout=subprocess.DEVNULL)
+    return program
+
+
 def main() -> int:
     rounds = int(sys.argv[1]) if len(sys.argv) > 1 else 7
     promtool = shutil.which("promtool")
     if promtool is None:
         print("promtool is missing: install Debian's package prometheus", file=sys.stderr)
         return 1
-    program = os.path.join(TOP, "crates", "bridge", "out", "bridge")
-    if not os.path.exists(program):
-        subprocess.run([os.path.join(TOP, "bridge"), "--version"], check=True, stdout=subprocess.DEVNULL)
+    program = built_program()
     data = page(GAUGES)
     with tempfile.TemporaryDirectory() as folder:
         path = os.path.join(folder, "gauges.prom")
