@@ -3,7 +3,7 @@ use Rattle.std.proofs.Common.{◌≡◌, ℕ, ◌+◌, ◌-◌, ◌<◌, ◌≤�
 use Rattle.std.specs.Io.KnownBytes.{Appends, Consumes, Keeps, IsAtEnd}
 use Rattle.std.proofs.lemmas.List.{append-nil, length-take, take_rest, take-append-drop}
 use Rattle.std.proofs.Math.Seq.{take-add}
-use Rattle.bridge_cli.specs.Inputs.{IsOverlong, WroteFront, IsInput}
+use Rattle.bridge_cli.specs.Inputs.{IsOverlong, WroteFront, IsPageOf}
 
 -- bytes that grow and then stay
 appends_keeps : (a b c : Option (List ℕ)) (xs : List ℕ) → Appends a b xs → Keeps b c → Appends a c xs
@@ -51,7 +51,7 @@ one_too_many a b c most count bytes block first second fits inside many small = 
 }
 
 -- what was taken up to the end is all that was left
-pub all_taken : (a b : Option (List ℕ)) (bytes : List ℕ) → Consumes a b bytes → IsAtEnd b → IsInput a bytes
+pub all_taken : (a b : Option (List ℕ)) (bytes : List ℕ) → Consumes a b bytes → IsAtEnd b → IsPageOf a bytes
 all_taken None b bytes taken end = tt
 all_taken (Some us) None bytes taken end = absurd taken
 all_taken (Some us) (Some bs) bytes taken end = sym (taken ∙ ap (λ zs. bytes ++ zs) end ∙ append-nil bytes)

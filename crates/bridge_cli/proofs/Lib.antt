@@ -1,3 +1,5 @@
+mod ScanLaws
+mod PageLaws
 mod WordLaws
 mod IoLaws
 mod AnswerLaws

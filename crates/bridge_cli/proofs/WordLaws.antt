@@ -10,9 +10,9 @@ use Rattle.std.proofs.lemmas.List.{get_or-append-add, get_or_at, take_at, drop_a
 use Rattle.std.proofs.lemmas.Slice.Eq.{bytes_eq-Decides}
 use Rattle.std.specs.Str.{bytes_eq}
 use Rattle.bridge_cli.specs.CommandWords.{IsPlace, IsCommand, words_of}
-use Rattle.target_core.specs.declared.target.Target.{Target}
+use Rattle.bridge_cli.specs.declared.target.Target.{Target}
 use Rattle.bridge_cli.specs.declared.words.Command.{Command}
-use Rattle.bridge_cli.specs.declared.words.Command.TheVariants.{Help, Version, CheckText, ConvertText}
+use Rattle.bridge_cli.specs.declared.words.Command.TheVariants.{Help, Version, ConvertText}
 
 -- a text that isn't read as a number is no number's
 pub unread : {E : Type 0} (bs : List ℕ) (r : Result ℕ E) (fault : E) → ParsesUnsigned 64 10 bs r → r ≡ Err fault → (most : ℕ) → most < 2 ^ 64 → (n : ℕ) → n ≤ most → bs ≢ decimal n
@@ -135,19 +135,12 @@ from_start xs n = let same : n - 0 ≡ n = omega arith in ap (λ k. take k xs) s
 pub one_command : (words : List (List ℕ)) (c d : Command) → IsCommand words c → IsCommand words d → c ≡ d
 one_command words Help Help a b = refl
 one_command words Help Version a b = let e : words_of Help ≡ words_of Version = sym a.spelled ∙ b.spelled in cc
-one_command words Help CheckText a b = let e : words_of Help ≡ words_of CheckText = sym a.spelled ∙ b.spelled in cc
 one_command words Help (ConvertText target nanos) a b = let e : words_of Help ≡ words_of (ConvertText target nanos) = sym a.spelled ∙ b.spelled in cc
 one_command words Version Help a b = let e : words_of Version ≡ words_of Help = sym a.spelled ∙ b.spelled in cc
 one_command words Version Version a b = refl
-one_command words Version CheckText a b = let e : words_of Version ≡ words_of CheckText = sym a.spelled ∙ b.spelled in cc
 one_command words Version (ConvertText target nanos) a b = let e : words_of Version ≡ words_of (ConvertText target nanos) = sym a.spelled ∙ b.spelled in cc
-one_command words CheckText Help a b = let e : words_of CheckText ≡ words_of Help = sym a.spelled ∙ b.spelled in cc
-one_command words CheckText Version a b = let e : words_of CheckText ≡ words_of Version = sym a.spelled ∙ b.spelled in cc
-one_command words CheckText CheckText a b = refl
-one_command words CheckText (ConvertText target nanos) a b = let e : words_of CheckText ≡ words_of (ConvertText target nanos) = sym a.spelled ∙ b.spelled in cc
 one_command words (ConvertText target nanos) Help a b = let e : words_of (ConvertText target nanos) ≡ words_of Help = sym a.spelled ∙ b.spelled in cc
 one_command words (ConvertText target nanos) Version a b = let e : words_of (ConvertText target nanos) ≡ words_of Version = sym a.spelled ∙ b.spelled in cc
-one_command words (ConvertText target nanos) CheckText a b = let e : words_of (ConvertText target nanos) ≡ words_of CheckText = sym a.spelled ∙ b.spelled in cc
 one_command words (ConvertText target nanos) (ConvertText other time) a b =
     let e : words_of (ConvertText target nanos) ≡ words_of (ConvertText other time) = sym a.spelled ∙ b.spelled in
     let job : target.job ≡ other.job = cc in

@@ -2,11 +2,6 @@
 use Rattle.std.specs.Prelude.{◌≡◌, ℕ, ◌+◌, ◌<◌, ◌≤◌, List, ◌++◌, length, Option, IfSome, Result, Ok, Err, ◌⊎◌, ◌^◌}
 use Rattle.std.specs.Io.KnownBytes.{Consumes, Appends, IsAtEnd}
 use Rattle.bridge_ports.specs.Causes.{Rose}
-use Rattle.page_model.specs.declared.format.Treatment.TheVariants.{Scraped}
-use Rattle.page_model.specs.Written.{Setting, text_setting}
-use Rattle.page_model.specs.Pages.{FirstFault, IsPageOf}
-use Rattle.bridge_cli.specs.declared.pages.PageRead.{PageRead}
-use Rattle.bridge_cli.specs.declared.pages.PageRead.TheVariants as reads
 use Rattle.bridge_cli.specs.declared.stop.Stop.{Stop}
 use Rattle.bridge_cli.specs.declared.stop.Stop.TheVariants.{Memory, Read}
 
@@ -30,9 +25,9 @@ pub record WroteFront (before after : Option (List ℕ)) (whole : List ℕ) : Ty
   pub text : whole ≡ front ++ rest
   pub written : Appends before after front
 
--- the bytes that were on the input: where the input tells, what it had left
-abbrev pub IsInput : Option (List ℕ) → List ℕ → Type 0
-IsInput left bytes = IfSome left (λ told. bytes ≡ told)
+-- the page that was on the input: where the input tells, what it had left
+abbrev pub IsPageOf : Option (List ℕ) → List ℕ → Type 0
+IsPageOf left page = IfSome left (λ told. page ≡ told)
 
 -- the input was read to its end, or more than 64 MiB were taken: by at most one read of 64 KiB
 pub record IsReadThrough (left after : Option (List ℕ)) : Type 0 where
@@ -40,20 +35,3 @@ pub record IsReadThrough (left after : Option (List ℕ)) : Type 0 where
   pub from : Consumes left after taken
   pub ends : IsAtEnd after ⊎ (2 ^ 26 < length taken)
   pub soon : length taken ≤ 2 ^ 26 + 65536
-
--- how pages are read: as a target wrote them, with at most 200,000 samples
-abbrev pub page_setting : Setting
-page_setting = text_setting Scraped 200000
-
--- the bytes are this page, have this fault, or are more than 64 MiB
-abbrev pub Says : List ℕ → PageRead → Type 0
-Says bytes (reads.Page page) = (length bytes ≤ 2 ^ 26) × IsPageOf page_setting bytes page
-Says bytes (reads.Refused line rule) = (length bytes ≤ 2 ^ 26) × FirstFault page_setting bytes (line, rule)
-Says bytes reads.TooLong = 2 ^ 26 < length bytes
-
--- an input was read through and its bytes say this
-pub record WasRead (left after : Option (List ℕ)) (read : PageRead) : Type 0 where
-  pub bytes : List ℕ
-  pub on_input : IsInput left bytes
-  pub says : Says bytes read
-  pub through : IsReadThrough left after

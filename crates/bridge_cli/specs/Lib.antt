@@ -1,3 +1,6 @@
 pub mod CommandWords
+pub mod PlainPages
+pub mod PlainScan
 pub mod Inputs
+pub mod EventTrees
 pub mod ProgramOutputs
