@@ -1,6 +1,7 @@
 #!/bin/sh
-# Times LabelSet::build against plain Rust over strings: 200,000 sets of 5 labels, both pinned to
-# one processor and run in turn. Prints the least time of each and their ratio.
+# Times label sets against plain Rust over strings: 200,000 sets of 5 labels made of slices, built,
+# copied and dropped, both pinned to one processor and run in turn. Prints the least time of each
+# step and their ratio.
 # Needs rt and rustc. Words: how often each runs (11).
 set -eu
 runs=${1:-11}
@@ -12,10 +13,8 @@ mkdir "$work/crates/label_sets"
 for part in src specs proofs; do
     cp -r "$here/../crates/label_sets/$part" "$work/crates/label_sets/$part"
 done
-cat > "$work/crates.txt" <<'TEXT'
-label_sets:
-time_sets: label_sets
-TEXT
+grep '^label_sets:' "$here/../crates.txt" > "$work/crates.txt"
+echo 'time_sets: label_sets' >> "$work/crates.txt"
 cat > "$work/crates/time_sets/src/main.rt" <<'TEXT'
 #![tactic(auto)]
 use label_sets::{Label, LabelSet, List, Name, Text};
@@ -24,24 +23,45 @@ use std::env;
 use std::io;
 use std::time::Instant;
 
-fn pairs(alloc: Global, names: &[String], n: u32) -> Result<List<Label>, AllocError> {
-    let mut labels = Vec::with_capacity(alloc, names.len())?;
+fn values_of(alloc: Global, names: &[String], n: u32) -> Result<Vec<String>, AllocError> {
+    let mut values = Vec::new(alloc);
     for name in names {
-        let number = n % 1000;
-        let value = format!(in alloc; "{name}-{number}")?;
-        let name = Name::from_str(alloc, name.as_str())?;
+        values.push(format!(in alloc; "{name}-{n}")?)?;
+    }
+    Ok(values)
+}
+
+fn all_values(alloc: Global, names: &[String]) -> Result<Vec<Vec<String>>, AllocError> {
+    let mut all = Vec::new(alloc);
+    for n in 0..1000 {
+        all.push(values_of(alloc, names, n)?)?;
+    }
+    Ok(all)
+}
+
+#[inline(never)]
+fn pairs(alloc: Global, names: &[String], values: &[String]) -> Result<List<Label>, AllocError> {
+    let mut labels = Vec::with_capacity(alloc, names.len())?;
+    for (name, value) in names.iter().zip(values.iter()) {
         labels.push(Label {
-            name,
-            value: Text::from_string(value),
+            name: Name::from_str(alloc, name.as_str())?,
+            value: Text::from_str(alloc, value.as_str())?,
         })?;
     }
     Ok(List::from_vec(labels))
 }
 
-fn inputs(alloc: Global, names: &[String], count: u32) -> Result<Vec<List<Label>>, AllocError> {
-    let mut all = Vec::new(alloc);
+fn made(
+    alloc: Global,
+    names: &[String],
+    values: &[Vec<String>],
+    count: usize,
+) -> Result<Vec<List<Label>>, AllocError> {
+    let mut all = Vec::with_capacity(alloc, count)?;
     for n in 0..count {
-        all.push(pairs(alloc, names, n)?)?;
+        if let Some(values) = values.get(n % 1000) {
+            all.push(pairs(alloc, names, values.as_slice())?)?;
+        }
     }
     Ok(all)
 }
@@ -61,27 +81,46 @@ fn built(alloc: Global, all: Vec<List<Label>>) -> Result<Vec<LabelSet>, AllocErr
     Ok(sets)
 }
 
+fn copied(alloc: Global, sets: &[LabelSet]) -> Result<Vec<LabelSet>, AllocError> {
+    let mut copies = Vec::with_capacity(alloc, sets.len())?;
+    for set in sets {
+        copies.push(set.copy()?)?;
+    }
+    Ok(copies)
+}
+
+fn labels_in(sets: &[LabelSet]) -> u64 {
+    let mut labels = 0u64;
+    for set in sets {
+        labels = labels.saturating_add(set.len() as u64);
+    }
+    labels
+}
+
 fn main(rt: HostRuntime) -> io::Result<()> {
     let alloc = rt.alloc();
     let mut words = env::args(&rt)?.into_iter();
     let _program = words.next();
-    let count = words.next().and_then(|word| word.parse::<u32>().ok()).unwrap_or(200_000);
+    let count = words.next().and_then(|word| word.parse::<usize>().ok()).unwrap_or(200_000);
     let mut names = Vec::new(alloc);
     for word in words {
         names.push(word)?;
     }
-    let all = inputs(alloc, names.as_slice(), count)?;
+    let values = all_values(alloc, names.as_slice())?;
+    let start = Instant::now(&rt)?;
+    let all = made(alloc, names.as_slice(), values.as_slice(), count)?;
+    let made = start.elapsed(&rt)?.as_nanos();
     let start = Instant::now(&rt)?;
     let sets = built(alloc, all)?;
-    let time = start.elapsed(&rt)?.as_nanos();
+    let built = start.elapsed(&rt)?.as_nanos();
     let start = Instant::now(&rt)?;
-    let mut labels = 0u64;
-    for set in &sets {
-        labels = labels.saturating_add(set.len() as u64);
-    }
+    let copies = copied(alloc, sets.as_slice())?;
+    let copied = start.elapsed(&rt)?.as_nanos();
+    let labels = labels_in(copies.as_slice());
+    let start = Instant::now(&rt)?;
     drop(sets);
     let dropped = start.elapsed(&rt)?.as_nanos();
-    println!(rt; "{time} {dropped} {labels}")
+    println!(rt; "{made} {built} {copied} {dropped} {labels}")
 }
 TEXT
 rustc -C opt-level=3 --edition 2021 -o "$work/plain" "$here/label_sets/main.rs"
@@ -97,10 +136,12 @@ each() {
     done
     awk -v names="$*" '
         FNR == 1 { file++ }
-        { if (!(file in low) || $1 < low[file]) low[file] = $1; labels[file] = $3; if (!(file in let) || $2 < let[file]) let[file] = $2 }
+        { labels[file] = $5; for (i = 1; i <= 4; i++) if (FNR == 1 || $i < low[file, i]) low[file, i] = $i }
         END {
             if (labels[1] != labels[2]) { print "the sets differ"; exit 1 }
-            printf "%s: plain %.1f ms, proved %.1f ms, ratio %.2f; dropping %.1f ms, %.1f ms\n", names, low[1] / 1e6, low[2] / 1e6, low[2] / low[1], let[1] / 1e6, let[2] / 1e6
+            print names
+            split("making building copying dropping", step, " ")
+            for (i = 1; i <= 4; i++) printf "  %s: plain %.1f ms, proved %.1f ms, ratio %.2f\n", step[i], low[1, i] / 1e6, low[2, i] / 1e6, low[2, i] / low[1, i]
         }' "$work/plain.times" "$work/proved.times"
 }
 each code handler instance job method

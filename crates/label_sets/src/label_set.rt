@@ -54,7 +54,7 @@ impl Model for LabelSet {
 
 impl LabelSet {
     ghost use Rattle.label_sets.specs.Sets.{IsLabelSet};
-    ghost use Rattle.label_sets.specs.Labels.{label_set, label_value, renamed, repeated_at, without_label};
+    ghost use Rattle.label_sets.specs.Labels.{label_set, label_sets_eq, label_value, renamed, repeated_at, without_label};
     ghost use Rattle.label_sets.specs.Building.{FaultOf};
 
     /// The set without labels. It takes no memory.
@@ -153,6 +153,26 @@ impl LabelSet {
             }
         }
         Ok(LabelSet { labels })
+    }
+
+    /// Whether this set without the label of this name is the other set. It takes no memory.
+    pub fn is_without(&self, name: &[u8], other: &LabelSet) -> bool
+        ensures { result ≡ label_sets_eq (without_label name.now self.now) other.now }
+    {
+        let mut others = other.labels.as_slice();
+        for label in &self.labels {
+            if label.name.as_bytes() == name {
+                continue;
+            }
+            let Some((first, rest)) = others.split_first() else {
+                return false;
+            };
+            if label != first {
+                return false;
+            }
+            others = rest;
+        }
+        others.is_empty()
     }
 
     /// An equal set in memory of its own.

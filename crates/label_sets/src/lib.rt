@@ -10,6 +10,7 @@ mod label_set;
 pub mod laws;
 mod list;
 mod renaming;
+mod repr;
 mod series_key;
 mod sorting;
 #[cfg(test)]

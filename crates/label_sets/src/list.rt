@@ -28,6 +28,15 @@ impl<T> List<T> {
         }
     }
 
+    /// A list without values, with room for so many.
+    pub fn with_capacity(alloc: Global, capacity: usize) -> Result<List<T>, AllocError>
+        ensures { IfOk result (λ l. l ≡ []) }
+    {
+        Ok(List {
+            items: Vec::with_capacity(alloc, capacity)?,
+        })
+    }
+
     /// The values of a vector, without a copy.
     pub fn from_vec(items: Vec<T>) -> List<T>
         ensures { result ≡ items.items }

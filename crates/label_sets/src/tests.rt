@@ -41,7 +41,12 @@ fn drops_empty_values_and_sorts(rt: HostRuntime) -> Result<(), LabelFault> {
         "an empty value says that the label is absent"
     );
     assert!(rt; first.copy()? == first, "a copy is equal");
-    assert_eq!(rt; shown(alloc, &first.without(alloc, b"a")?)?.as_str(), "b=1");
+    let rest = first.without(alloc, b"a")?;
+    assert_eq!(rt; shown(alloc, &rest)?.as_str(), "b=1");
+    assert!(rt; first.is_without(b"a", &rest), "the label left out");
+    assert!(rt; rest.is_without(b"a", &rest), "no label of this name");
+    assert!(rt; !first.is_without(b"b", &rest), "another label left out");
+    assert!(rt; !rest.is_without(b"b", &rest), "a label too many");
     Ok(())
 }
 
@@ -158,9 +163,29 @@ fn texts_of_bytes(rt: HostRuntime) -> Result<(), AllocError> {
         names.contains(&Name::from_str(alloc, "a")?),
         "an equal name"
     );
-    let mut list = List::new(alloc);
+    let mut list = List::with_capacity(alloc, 1)?;
     assert!(rt; list.push(7u64).is_ok(), "ample memory");
     let copies = List::from_vec(list.into_vec()).copied()?;
     assert_eq!(rt; copies.as_slice(), [7].as_slice());
+    Ok(())
+}
+
+/// Whether a text stays what it was, made and copied in each way.
+fn stays(alloc: Global, text: &str) -> Result<bool, AllocError> {
+    let name = Name::from_utf8(alloc, text.as_bytes())?;
+    let same_name = name.copy()?.as_str() == text;
+    let first = name.into_text();
+    let second = Text::from_string(String::from_str(alloc, text)?);
+    let third = Text::from_utf8(alloc, text.as_bytes())?.copy()?;
+    let same_text = first.as_str() == text && first == second && second == third;
+    Ok(same_name && same_text && third.len() == text.len())
+}
+
+#[test]
+fn texts_of_any_length(rt: HostRuntime) -> Result<(), AllocError> {
+    let alloc = rt.alloc();
+    for text in ["", "qé", "just sixteen ...", "just seventeen .."] {
+        assert!(rt; stays(alloc, text)?, "{text}");
+    }
     Ok(())
 }

@@ -8,6 +8,7 @@ ghost use Rattle.std.specs.Hash as fed;
 ghost use Rattle.std.proofs.Common.{rules};
 
 use crate::copied::Copied;
+use crate::repr::Repr;
 use std::alloc::{AllocError, Global};
 use std::cmp::Ordering;
 use std::hash::{Hash, Hasher};
@@ -16,7 +17,7 @@ use std::marker::Model;
 /// A text of UTF-8.
 #[derive(Drop)]
 pub struct Text {
-    text: String,
+    text: Repr,
 }
 
 impl Model for Text {
@@ -24,7 +25,7 @@ impl Model for Text {
 
     ghost Value = { spec.List spec.ℕ };
 
-    ghost view = { λ t. spec.string_bytes t.text };
+    ghost view = { λ t. t.text };
 }
 
 impl Text {
@@ -32,14 +33,9 @@ impl Text {
     pub fn from_string(text: String) -> Text
         ensures { result ≡ string_bytes text }
     {
-        Text { text }
-    }
-
-    /// The string of the text, without a copy.
-    pub fn into_string(self) -> String
-        ensures { string_bytes result ≡ self }
-    {
-        self.text
+        Text {
+            text: Repr::from_string(text),
+        }
     }
 
     /// A copy of a text.
@@ -47,7 +43,7 @@ impl Text {
         ensures { IfOk result (λ t. t ≡ text.now) }
     {
         Ok(Text {
-            text: String::from_str(alloc, text)?,
+            text: Repr::from_str(alloc, text)?,
         })
     }
 
@@ -63,11 +59,22 @@ impl Text {
         }
     }
 
+    /// The text that bytes spell, for bytes that are known to be UTF-8 (RFC 3629): they are not
+    /// tested again.
+    pub fn from_utf8(alloc: Global, bytes: &[u8]) -> Result<Text, AllocError>
+        requires { IsUtf8 bytes.now }
+        ensures { IfOk result (λ t. t ≡ bytes.now) }
+    {
+        Ok(Text {
+            text: Repr::from_utf8(alloc, bytes)?,
+        })
+    }
+
     /// The bytes of the text.
     pub fn as_bytes(&self) -> &[u8]
         ensures { result.now ≡ self.now }
     {
-        self.text.as_bytes()
+        self.text.as_str().as_bytes()
     }
 
     /// The text as a slice.
@@ -81,14 +88,14 @@ impl Text {
     pub fn len(&self) -> usize
         ensures { result ≡ length self.now }
     {
-        self.text.len()
+        self.text.as_str().len()
     }
 
     /// Whether the text has no byte.
     pub fn is_empty(&self) -> bool
         ensures { result ≡ (length self.now == 0) }
     {
-        self.text.is_empty()
+        self.text.as_str().is_empty()
     }
 
     /// An equal text in memory of its own.
@@ -96,7 +103,7 @@ impl Text {
         ensures { IfOk result (λ t. t ≡ self.now) }
     {
         Ok(Text {
-            text: self.text.clone()?,
+            text: self.text.copy()?,
         })
     }
 }
@@ -158,7 +165,7 @@ impl Hash for Text {
 /// A name: a text of UTF-8 that stands for a metric, a label or a family.
 #[derive(Drop)]
 pub struct Name {
-    text: String,
+    text: Repr,
 }
 
 impl Model for Name {
@@ -166,7 +173,7 @@ impl Model for Name {
 
     ghost Value = { spec.List spec.ℕ };
 
-    ghost view = { λ n. spec.string_bytes n.text };
+    ghost view = { λ n. n.text };
 }
 
 impl Name {
@@ -174,14 +181,16 @@ impl Name {
     pub fn from_string(text: String) -> Name
         ensures { result ≡ string_bytes text }
     {
-        Name { text }
+        Name {
+            text: Repr::from_string(text),
+        }
     }
 
-    /// The string of the name, without a copy.
-    pub fn into_string(self) -> String
-        ensures { string_bytes result ≡ self }
+    /// The text of the name, without a copy.
+    pub fn into_text(self) -> Text
+        ensures { result ≡ self }
     {
-        self.text
+        Text { text: self.text }
     }
 
     /// A copy of a name.
@@ -189,7 +198,7 @@ impl Name {
         ensures { IfOk result (λ n. n ≡ text.now) }
     {
         Ok(Name {
-            text: String::from_str(alloc, text)?,
+            text: Repr::from_str(alloc, text)?,
         })
     }
 
@@ -205,11 +214,22 @@ impl Name {
         }
     }
 
+    /// The name that bytes spell, for bytes that are known to be UTF-8 (RFC 3629): they are not
+    /// tested again.
+    pub fn from_utf8(alloc: Global, bytes: &[u8]) -> Result<Name, AllocError>
+        requires { IsUtf8 bytes.now }
+        ensures { IfOk result (λ n. n ≡ bytes.now) }
+    {
+        Ok(Name {
+            text: Repr::from_utf8(alloc, bytes)?,
+        })
+    }
+
     /// The bytes of the name.
     pub fn as_bytes(&self) -> &[u8]
         ensures { result.now ≡ self.now }
     {
-        self.text.as_bytes()
+        self.text.as_str().as_bytes()
     }
 
     /// The name as a slice.
@@ -223,14 +243,14 @@ impl Name {
     pub fn len(&self) -> usize
         ensures { result ≡ length self.now }
     {
-        self.text.len()
+        self.text.as_str().len()
     }
 
     /// Whether the name has no byte.
     pub fn is_empty(&self) -> bool
         ensures { result ≡ (length self.now == 0) }
     {
-        self.text.is_empty()
+        self.text.as_str().is_empty()
     }
 
     /// An equal name in memory of its own.
@@ -238,7 +258,7 @@ impl Name {
         ensures { IfOk result (λ n. n ≡ self.now) }
     {
         Ok(Name {
-            text: self.text.clone()?,
+            text: self.text.copy()?,
         })
     }
 }
