@@ -14,6 +14,8 @@ pub mod Comparing
 pub mod Flooring
 pub mod Texts
 pub mod OrderLaws
+pub mod LiteralLengths
+pub mod NumberOrder
 pub mod Shown
 pub mod ReadBack
 mod LiteralCases

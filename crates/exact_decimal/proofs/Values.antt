@@ -23,7 +23,7 @@ cmp_equal x y h = go (ltb x y) (eqb x y) refl refl h
     go false true e f k = eqb-true x y f
     go false false e f k = absurd cc
 
-same_size : (s : Bool) (x y : ℕ) → x ≡ y → signed_cmp s x s y ≡ Equal
+pub same_size : (s : Bool) (x y : ℕ) → x ≡ y → signed_cmp s x s y ≡ Equal
 same_size true x y e = same_number y x (sym e)
 same_size false x y e = same_number x y e
 

@@ -7,7 +7,7 @@ use std::marker::Model;
 /// A decimal in its one form: `digits` is not divisible by 10 unless it is 0, and zero has no sign
 /// and power 0. There are at most 38 digits, and the leading one stands at a power of ten from -400
 /// to 308.
-#[derive(Clone, Copy, Debug, PartialEq, Eq)]
+#[derive(Clone, Copy, Debug, PartialEq, Eq, Hash)]
 pub struct Decimal {
     digits: u128,
     up: u16,

@@ -1,15 +1,17 @@
 //! Laws about numbers: what their definitions promise to each reader of a contract.
 
-ghost use Rattle.std.specs.Prelude.{◌≡◌, ◌↔◌, ℕ, ◌^◌, ◌<◌, true, false, List, Ok, Err};
+ghost use Rattle.std.specs.Prelude.{◌≡◌, ◌↔◌, ℕ, ◌^◌, ◌<◌, ◌==◌, nat_lt, true, false, List, Some, Ok, Err};
 ghost use Rattle.std.specs.Fmt.{decimal};
 ghost use Rattle.std.specs.Cmp.{IsTotalOrder};
 ghost use Rattle.std.specs.List.{list_all};
+ghost use Rattle.exact_decimal.specs.declared.number.Number.{Number};
 ghost use Rattle.exact_decimal.specs.declared.number.Number.TheVariants.{Finite};
 ghost use Rattle.exact_decimal.specs.declared.number.NumberFault.TheVariants as faults;
 ghost use Rattle.exact_decimal.specs.Decimals.{DecimalValue, IsNormal, SameValue, decimal_cmp};
 ghost use Rattle.exact_decimal.specs.Literals.{decimal_text};
 ghost use Rattle.exact_decimal.specs.Tokens.{is_number_token, is_token_char, is_real, is_in_limits, written_decimal};
 ghost use Rattle.exact_decimal.specs.Numbers.{number_read, number_of};
+ghost use Rattle.exact_decimal.specs.Order.{less, same, whole};
 
 /// A token is not a number exactly where the grammar does not have it.
 pub fn not_a_number_law()
@@ -60,4 +62,20 @@ pub fn read_back_law()
 /// The order of decimals is total: it turns round, goes on from one to the next, and equal ones compare alike.
 pub fn total_order_law()
     ensures { IsTotalOrder decimal_cmp }
+{}
+
+/// A number below one that is below a third is below the third.
+pub fn less_law()
+    ensures { (a b c : Number) → less a b ≡ true → less b c ≡ true → less a c ≡ true }
+{}
+
+/// Two decimals in the one form are the same number exactly where they are one.
+pub fn same_law()
+    ensures { (a b : DecimalValue) → IsNormal a → IsNormal b → (same (Finite a) (Finite b) ≡ true) ↔ (a ≡ b) }
+{}
+
+/// Numbers that are whole are ordered as the whole numbers are.
+pub fn whole_order_law()
+    ensures same { (a b : Number) (n m : ℕ) → whole a ≡ Some n → whole b ≡ Some m → same a b ≡ (n == m) }
+    ensures less { (a b : Number) (n m : ℕ) → whole a ≡ Some n → whole b ≡ Some m → less a b ≡ nat_lt n m }
 {}

@@ -25,7 +25,7 @@ const MOST_POWER: u32 = 308;
 const LEAST_POWER: u32 = 400;
 
 /// The value of a sample: a decimal, an infinity, or not a number.
-#[derive(Clone, Copy, Debug, PartialEq, Eq)]
+#[derive(Clone, Copy, Debug, PartialEq, Eq, Hash)]
 pub enum Number {
     Finite(Decimal),
     /// The infinity above all decimals.

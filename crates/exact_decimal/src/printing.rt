@@ -80,7 +80,7 @@ fn push_size(digits: &[u8], up: usize, down: usize, to: &mut Buffer)
 }
 
 #[tactic(auto, unfolding(crate::specs::Literals::is_plain))]
-fn prints_plainly(places: usize, up: usize, down: usize) -> bool
+pub(crate) fn prints_plainly(places: usize, up: usize, down: usize) -> bool
     requires some { 0 < places }
     requires small { up + down + places < 2 ^ 32 }
     ensures { result ≡ is_plain places up down }
