@@ -88,7 +88,6 @@ line_rule st l rules.Order k = absurd (no_truth k)
 line_rule st l rules.Incomplete k = absurd (no_truth k)
 line_rule st l rules.Unit k = absurd (no_truth k)
 line_rule st l rules.TooMany k = absurd (no_truth k)
-line_rule st l rules.NotBuilt k = absurd (no_truth k)
 
 -- a rule that the end breaks is one of its list
 end_rule : (st : Setting) (earlier : List Item) (clean : Bool) (rule : Rule) → end_breaks st earlier clean rule ≡ true → Member rule end_rules
@@ -113,7 +112,6 @@ end_rule st earlier clean rules.Order k = absurd (no_truth k)
 end_rule st earlier clean rules.Incomplete k = inr (inr (inl refl))
 end_rule st earlier clean rules.Unit k = absurd (no_truth k)
 end_rule st earlier clean rules.TooMany k = absurd (no_truth k)
-end_rule st earlier clean rules.NotBuilt k = absurd (no_truth k)
 
 -- no item breaks the rule TooLong
 no_toolong : (st : Setting) (earlier : List Item) (item : Item) → item_breaks st earlier item rules.TooLong ≡ true → ⊥
@@ -214,7 +212,6 @@ item_rule st earlier item rules.Order k = inr (inr (inr (inr (inr (inr (inr (inr
 item_rule st earlier item rules.Incomplete k = inr (inr (inr (inr (inr (inr (inr (inr (inr (inr (inl refl))))))))))
 item_rule st earlier item rules.Unit k = inr (inr (inr (inr (inr (inr (inr (inr (inr (inr (inr (inl refl)))))))))))
 item_rule st earlier item rules.TooMany k = inr (inr (inr (inr (inr (inr (inr (inr (inr (inr (inr (inr (inl refl))))))))))))
-item_rule st earlier item rules.NotBuilt k = inr (inr (inr (inr (inr (inr (inr (inr (inr (inr (inr (inr (inr (inl refl)))))))))))))
 
 line_rules_ascend : Ascend 0 line_rules
 unfolding rule_number
@@ -222,7 +219,7 @@ line_rules_ascend = (omega arith, (omega arith, (omega arith, (omega arith, (ome
 
 item_rules_ascend : Ascend 7 item_rules
 unfolding rule_number
-item_rules_ascend = (omega arith, (omega arith, (omega arith, (omega arith, (omega arith, (omega arith, (omega arith, (omega arith, (omega arith, (omega arith, (omega arith, (omega arith, (omega arith, (omega arith, tt))))))))))))))
+item_rules_ascend = (omega arith, (omega arith, (omega arith, (omega arith, (omega arith, (omega arith, (omega arith, (omega arith, (omega arith, (omega arith, (omega arith, (omega arith, (omega arith, tt)))))))))))))
 
 end_rules_ascend : Ascend 0 end_rules
 unfolding rule_number
@@ -391,7 +388,7 @@ from_least st earlier n (l ∷ ls) clean fault e = go (line_fault st earlier l) 
 
 -- the rule of a number
 unfoldable rule_at : ℕ → Rule
-rule_at n = cond (n == 1) rules.TooLong (cond (n == 2) rules.Utf8 (cond (n == 3) rules.NoNewline (cond (n == 4) rules.Syntax (cond (n == 5) rules.Range (cond (n == 6) rules.Labels (cond (n == 7) rules.AfterEof (cond (n == 8) rules.NoEof (cond (n == 9) rules.Descriptor (cond (n == 10) rules.Exemplar (cond (n == 11) rules.Split (cond (n == 12) rules.Interleaved (cond (n == 13) rules.Suffix (cond (n == 14) rules.Duplicate (cond (n == 15) rules.Value (cond (n == 16) rules.Threshold (cond (n == 17) rules.Order (cond (n == 18) rules.Incomplete (cond (n == 19) rules.Unit (cond (n == 20) rules.TooMany rules.NotBuilt)))))))))))))))))))
+rule_at n = cond (n == 1) rules.TooLong (cond (n == 2) rules.Utf8 (cond (n == 3) rules.NoNewline (cond (n == 4) rules.Syntax (cond (n == 5) rules.Range (cond (n == 6) rules.Labels (cond (n == 7) rules.AfterEof (cond (n == 8) rules.NoEof (cond (n == 9) rules.Descriptor (cond (n == 10) rules.Exemplar (cond (n == 11) rules.Split (cond (n == 12) rules.Interleaved (cond (n == 13) rules.Suffix (cond (n == 14) rules.Duplicate (cond (n == 15) rules.Value (cond (n == 16) rules.Threshold (cond (n == 17) rules.Order (cond (n == 18) rules.Incomplete (cond (n == 19) rules.Unit rules.TooMany))))))))))))))))))
 
 rule_at-number : (r : Rule) → rule_at (rule_number r) ≡ r
 unfolding rule_at rule_number
@@ -415,7 +412,6 @@ rule_at-number rules.Order = refl
 rule_at-number rules.Incomplete = refl
 rule_at-number rules.Unit = refl
 rule_at-number rules.TooMany = refl
-rule_at-number rules.NotBuilt = refl
 
 -- a rule is told by its number
 pub same_rule : (r s : Rule) → rule_number r ≡ rule_number s → r ≡ s

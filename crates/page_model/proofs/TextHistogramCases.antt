@@ -1,4 +1,4 @@
--- Pages of the text format with histograms and summaries, by computation: the fault of each by the twenty rules, or none.
+-- Pages of the text format with histograms and summaries, by computation: the fault of each, or none.
 use Rattle.std.proofs.Common.{◌≡◌, ℕ, List, [], ◌∷◌, map, Option, Some, None, codes, refl}
 use Rattle.std.specs.Str.{is_utf8, chars}
 use Rattle.std.specs.Char.{encode_utf8}
@@ -14,9 +14,10 @@ use Rattle.page_model.specs.Written.{text_setting}
 use Rattle.page_model.specs.TextItems.{trimmed, is_integer_token}
 use Rattle.page_model.specs.TextReading.{label_at, labels_at, middle_from, middle_at, stamp_of, sample_of, kind_named, named_at, marked_of, trimmed_of, text_line_of}
 use Rattle.page_model.specs.Owners.{kind_of, sample_owner, owned_lines, samples_of}
-use Rattle.page_model.specs.Rules.{is_after_eof, is_without_eof, is_late_descriptor, is_split, is_bad_unit, has_forbidden_unit, is_bad_exemplar, is_interleaved, has_wrong_suffix, is_duplicate, has_bad_value, has_forbidden_value, has_bad_threshold, is_out_of_order, is_past_limit, buckets_of_group, infinite_bucket, is_complete_at, is_incomplete, leaves_incomplete, exemplar_characters, is_not_built}
-use Rattle.page_model.specs.Faults.{Fault, line_breaks, own_fault, sample_breaks, owned_breaks, item_breaks, end_breaks, end_fault}
-use Rattle.page_model.proofs.Words.{Case, fault_by_twenty}
+use Rattle.page_model.specs.Rules.{is_after_eof, is_without_eof, is_late_descriptor, is_split, is_bad_unit, has_forbidden_unit, is_bad_exemplar, is_interleaved, has_wrong_suffix, is_duplicate, has_bad_value, has_forbidden_value, has_bad_threshold, is_out_of_order, is_past_limit, buckets_of_group, infinite_bucket, is_complete_at, is_incomplete, leaves_incomplete, exemplar_characters}
+use Rattle.page_model.specs.Faults.{Fault, line_breaks, own_fault, sample_breaks, owned_breaks, item_breaks, item_fault, end_breaks, end_fault, line_fault, fault_from}
+use Rattle.page_model.specs.PageReading.{text_fault}
+use Rattle.page_model.proofs.Words.{Case}
 
 abbrev case : List ℕ → Option Fault → Case
 case page fault = record { limit = 200000; page = page; fault = fault }
@@ -109,6 +110,6 @@ pages =
     []
 
 -- each page has its fault
-faults : map (λ (c : Case). fault_by_twenty (text_setting Scraped c.limit) c.page) pages ≡ map (λ (c : Case). c.fault) pages
-unfolding lines_of ends_clean is_integer_token unsigned has_minus mantissa whole_part fraction_part has_exponent exponent_part is_digits is_real is_infinity is_nan_token is_number_token multiplies_by divides_by without_leading_zeros trailing_zeros without_trailing_zeros significant_digits one_form is_within decimal_of is_in_limits is_utf8 digits chars encode_utf8 number_read number_of decimal_cmp less same whole trimmed label_at labels_at middle_from middle_at stamp_of sample_of kind_named named_at marked_of trimmed_of text_line_of kind_of sample_owner owned_lines samples_of is_after_eof is_without_eof is_late_descriptor is_split is_bad_unit has_forbidden_unit is_bad_exemplar is_interleaved has_wrong_suffix is_duplicate has_bad_value has_forbidden_value has_bad_threshold is_out_of_order is_past_limit buckets_of_group infinite_bucket is_complete_at is_incomplete leaves_incomplete exemplar_characters is_not_built line_breaks own_fault sample_breaks owned_breaks item_breaks end_breaks end_fault
+faults : map (λ (c : Case). text_fault (text_setting Scraped c.limit) c.page) pages ≡ map (λ (c : Case). c.fault) pages
+unfolding lines_of ends_clean text_fault is_integer_token unsigned has_minus mantissa whole_part fraction_part has_exponent exponent_part is_digits is_real is_infinity is_nan_token is_number_token multiplies_by divides_by without_leading_zeros trailing_zeros without_trailing_zeros significant_digits one_form is_within decimal_of is_in_limits is_utf8 digits chars encode_utf8 number_read number_of decimal_cmp less same whole trimmed label_at labels_at middle_from middle_at stamp_of sample_of kind_named named_at marked_of trimmed_of text_line_of kind_of sample_owner owned_lines samples_of is_after_eof is_without_eof is_late_descriptor is_split is_bad_unit has_forbidden_unit is_bad_exemplar is_interleaved has_wrong_suffix is_duplicate has_bad_value has_forbidden_value has_bad_threshold is_out_of_order is_past_limit buckets_of_group infinite_bucket is_complete_at is_incomplete leaves_incomplete exemplar_characters line_breaks own_fault sample_breaks owned_breaks item_breaks item_fault end_breaks end_fault line_fault fault_from
 faults = refl

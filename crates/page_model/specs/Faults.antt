@@ -15,7 +15,7 @@ use Rattle.page_model.specs.Written.{Written, Setting, line_limit, has_out_of_ra
 use Rattle.page_model.specs.RuleNames.{rule_number}
 use Rattle.page_model.specs.Items.{sample_of_line}
 use Rattle.page_model.specs.Owners.{Owned, kind_of, owner_of, owned_lines, samples_of}
-use Rattle.page_model.specs.Rules.{is_open_metrics, is_after_eof, is_without_eof, is_late_descriptor, is_bad_exemplar, is_split, is_interleaved, has_wrong_suffix, is_duplicate, has_bad_value, has_bad_threshold, is_out_of_order, leaves_incomplete, is_bad_unit, is_past_limit, is_not_built}
+use Rattle.page_model.specs.Rules.{is_open_metrics, is_after_eof, is_without_eof, is_late_descriptor, is_bad_exemplar, is_split, is_interleaved, has_wrong_suffix, is_duplicate, has_bad_value, has_bad_threshold, is_out_of_order, leaves_incomplete, is_bad_unit, is_past_limit}
 
 -- ---- the rules of a line alone
 
@@ -65,7 +65,6 @@ owned_breaks st above line rule = some_passes (λ s. sample_breaks st above (kin
 -- an item breaks a rule, under the items of the lines above, the nearest first
 unfoldable pub item_breaks : Setting → List Item → Item → Rule → Bool
 item_breaks st earlier item rules.AfterEof = is_after_eof st earlier
-item_breaks st earlier (items.KindOf name kind) rules.NotBuilt = is_not_built kind
 item_breaks st earlier (items.Sample s) rules.TooMany = is_past_limit st earlier
 item_breaks st earlier items.Eof rules.Incomplete = leaves_incomplete st (owned_lines st.format earlier) None
 item_breaks st earlier item rule = let above = owned_lines st.format earlier in
@@ -74,7 +73,7 @@ item_breaks st earlier item rule = let above = owned_lines st.format earlier in
 -- the rules of an item under the lines above it, in the order of their numbers
 abbrev pub item_rules : List Rule
 item_rules = rules.AfterEof ∷ rules.Descriptor ∷ rules.Exemplar ∷ rules.Split ∷ rules.Interleaved ∷ rules.Suffix ∷ rules.Duplicate
-    ∷ rules.Value ∷ rules.Threshold ∷ rules.Order ∷ rules.Incomplete ∷ rules.Unit ∷ rules.TooMany ∷ rules.NotBuilt ∷ []
+    ∷ rules.Value ∷ rules.Threshold ∷ rules.Order ∷ rules.Incomplete ∷ rules.Unit ∷ rules.TooMany ∷ []
 
 -- the least rule that an item breaks
 unfoldable pub item_fault : Setting → List Item → Item → Option Rule

@@ -25,7 +25,6 @@ rule_number rules.Order = 17
 rule_number rules.Incomplete = 18
 rule_number rules.Unit = 19
 rule_number rules.TooMany = 20
-rule_number rules.NotBuilt = 21
 
 -- the name of a rule
 unfoldable pub rule_name : Rule → List ℕ
@@ -49,4 +48,3 @@ rule_name rules.Order = codes "Order"
 rule_name rules.Incomplete = codes "Incomplete"
 rule_name rules.Unit = codes "Unit"
 rule_name rules.TooMany = codes "TooMany"
-rule_name rules.NotBuilt = codes "NotBuilt"

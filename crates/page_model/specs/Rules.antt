@@ -215,10 +215,6 @@ is_out_of_order st _ family samples s = false
 unfoldable pub is_past_limit : Setting → List Item → Bool
 is_past_limit st earlier = nat_le st.limit (count_by is_sample earlier)
 
--- NotBuilt: a kind with buckets or quantiles, which isn't read yet (the bridge's own, for now)
-unfoldable pub is_not_built : Kind → Bool
-is_not_built kind = is_histogram kind || is_summary kind
-
 -- ---- a family that is left
 
 -- the bucket without an upper bound in the group of a sample

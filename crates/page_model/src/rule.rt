@@ -26,8 +26,6 @@ pub enum Rule {
     Incomplete,
     Unit,
     TooMany,
-    /// A kind with buckets or quantiles, which isn't read yet.
-    NotBuilt,
 }
 
 impl Rule {
@@ -59,7 +57,6 @@ impl Rule {
             Rule::Incomplete => 18,
             Rule::Unit => 19,
             Rule::TooMany => 20,
-            Rule::NotBuilt => 21,
         }
     }
 
@@ -89,7 +86,6 @@ impl Rule {
             Rule::Incomplete => "Incomplete",
             Rule::Unit => "Unit",
             Rule::TooMany => "TooMany",
-            Rule::NotBuilt => "NotBuilt",
         }
     }
 }
