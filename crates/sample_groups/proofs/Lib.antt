@@ -1,0 +1,10 @@
+pub mod Members
+pub mod Steps
+pub mod Samples
+pub mod Orders
+pub mod Whole
+pub mod Made
+pub mod Cumulative
+pub mod Finds
+pub mod Adding
+pub mod Placing

@@ -1,0 +1,176 @@
+-- One part more in the groups, and what is kept of a group.
+use Rattle.std.proofs.Common.{◌≡◌, ℕ, Bool, true, false, not, ◌&&◌, ◌||◌, ◌==◌, List, [], ◌∷◌, ◌++◌, map, filter, filter_map, Option, Some, None, refl, sym, ap, ◌∙◌}
+use Rattle.std.proofs.lemmas.List.{append-nil, map-append}
+use Rattle.std.proofs.lemmas.List.Elements.{filter-append, filter_map-append}
+use Rattle.std.proofs.lemmas.List.Folds.{list_all-append}
+use Rattle.std.specs.List.{list_all, cons_option}
+use Rattle.std.specs.Option.{option_or}
+use Rattle.indexmap.specs.IndexMap.{insert_entry}
+use Rattle.label_sets.specs.declared.kind.Kind.{Kind}
+use Rattle.label_sets.specs.declared.kind.Kind.TheVariants.{Counter, Gauge, Histogram, GaugeHistogram, StateSet, Info, Summary, Unknown}
+use Rattle.label_sets.specs.declared.label_set.LabelSet.{LabelSet}
+use Rattle.label_sets.specs.Labels.{label_sets_eq}
+use Rattle.label_sets.specs.Lists.{first_of_each, first_some, some_passes}
+use Rattle.page_model.specs.declared.item.Sample.{Sample}
+use Rattle.page_model.specs.Written.{Setting}
+use Rattle.page_model.specs.Owners.{kept_labels}
+use Rattle.page_model.specs.Rules.{sample_group}
+use Rattle.page_model.proofs.Groups.{label_sets_decide}
+use Rattle.sample_groups.specs.declared.part.Part.{Part}
+use Rattle.sample_groups.specs.declared.part.Part.TheVariants as parts
+use Rattle.sample_groups.specs.Parts.{is_grouped}
+use Rattle.sample_groups.specs.Groups.{Gathered, bucket_in, quantile_in, sum_in, count_in, are_one, group_from, shared_labels, parts_in, groups_from, with_one, known_group, or_empty, with_part}
+use Rattle.sample_groups.proofs.Members.{when, head_of, has_key, has_key-first, eq_swap, keyed, lookup-keyed, with_key, first_of_each-snoc, first_apart, insert_entry-keyed, first_some-head, and_true}
+
+-- ---- the labels of a group
+
+-- the labels that the samples of a group share are those of the sample's group
+pub shared_group : (st : Setting) (kind : Kind) (family : List ℕ) (s : Sample) → is_grouped kind ≡ true → sample_group st kind family s ≡ shared_labels kind (kept_labels st.treatment s.labels)
+shared_group st Histogram family s e = refl
+shared_group st GaugeHistogram family s e = refl
+shared_group st Summary family s e = refl
+shared_group st Counter family s e = absurd cc
+shared_group st Gauge family s e = absurd cc
+shared_group st StateSet family s e = absurd cc
+shared_group st Info family s e = absurd cc
+shared_group st Unknown family s e = absurd cc
+
+-- ---- one part more in its group
+
+or_none : {B : Type 0} (o : Option B) → option_or o None ≡ o
+or_none None = refl
+or_none (Some y) = refl
+
+first_some-snoc : {A B : Type 0} (f : A → Option B) (xs : List A) (x : A) → first_some f (xs ++ x ∷ []) ≡ option_or (first_some f xs) (f x)
+first_some-snoc f [] x = or_none (f x)
+first_some-snoc {A = A} {B = B} f (y ∷ ys) x = ap (option_or (f y)) (first_some-snoc f ys x) ∙ by (f y)
+  where
+    by : (o : Option B) → option_or o (option_or (first_some f ys) (f x)) ≡ option_or (option_or o (first_some f ys)) (f x)
+    by None = refl
+    by (Some z) = refl
+
+-- all are one, with one more
+are_one-snoc : (ns : List ℕ) (n : ℕ) → are_one (ns ++ n ∷ []) ≡ (are_one ns && not (some_passes (λ m. not (m == n)) (head_of ns)))
+are_one-snoc [] n = refl
+are_one-snoc (m ∷ ms) n = list_all-append (λ k. m == k) ms (n ∷ []) ∙ ap (λ b. list_all (λ k. m == k) ms && b) (and_true (m == n) ∙ twice (m == n))
+  where
+    twice : (b : Bool) → b ≡ not (not b)
+    twice true = refl
+    twice false = refl
+
+module _ (ps : List Part) (p : Part) where
+  -- what some of the parts have, where the one more has it
+  some_more : {B : Type 0} (f : Part → Option B) (y : B) → f p ≡ Some y → filter_map f (ps ++ p ∷ []) ≡ filter_map f ps ++ y ∷ []
+  some_more f y e = filter_map-append f ps (p ∷ []) ∙ ap (λ o. filter_map f ps ++ cons_option o []) e
+
+  none_more : {B : Type 0} (f : Part → Option B) → f p ≡ None → filter_map f (ps ++ p ∷ []) ≡ filter_map f ps
+  none_more f e = filter_map-append f ps (p ∷ []) ∙ ap (λ o. filter_map f ps ++ cons_option o []) e ∙ append-nil (filter_map f ps)
+
+  first_more : {B : Type 0} (f : Part → Option B) (o : Option B) → f p ≡ o → first_some f (ps ++ p ∷ []) ≡ option_or (first_some f ps) o
+  first_more f o e = first_some-snoc f ps p ∙ ap (option_or (first_some f ps)) e
+
+  no_first_more : {B : Type 0} (f : Part → Option B) → f p ≡ None → first_some f (ps ++ p ∷ []) ≡ first_some f ps
+  no_first_more f e = first_more f None e ∙ or_none (first_some f ps)
+
+-- a group of parts and one more
+pub group_from-snoc : (ps : List Part) (p : Part) → group_from (ps ++ p ∷ []) ≡ with_one (group_from ps) p
+unfolding group_from with_one
+group_from-snoc ps (parts.Bucket b) =
+    let p : Part = parts.Bucket b in
+    let buckets = some_more ps p bucket_in b refl in
+    let quantiles = none_more ps p quantile_in refl in
+    let sum = no_first_more ps p sum_in refl in
+    let count = no_first_more ps p count_in refl in
+    let counts = none_more ps p count_in refl in
+    λ i. record { buckets = buckets i; quantiles = quantiles i; sum = sum i; count = count i; counts_agree = are_one (counts i) }
+group_from-snoc ps (parts.Quantile q) =
+    let p : Part = parts.Quantile q in
+    let buckets = none_more ps p bucket_in refl in
+    let quantiles = some_more ps p quantile_in q refl in
+    let sum = no_first_more ps p sum_in refl in
+    let count = no_first_more ps p count_in refl in
+    let counts = none_more ps p count_in refl in
+    λ i. record { buckets = buckets i; quantiles = quantiles i; sum = sum i; count = count i; counts_agree = are_one (counts i) }
+group_from-snoc ps (parts.Sum n) =
+    let p : Part = parts.Sum n in
+    let buckets = none_more ps p bucket_in refl in
+    let quantiles = none_more ps p quantile_in refl in
+    let sum = first_more ps p sum_in (Some n) refl in
+    let count = no_first_more ps p count_in refl in
+    let counts = none_more ps p count_in refl in
+    λ i. record { buckets = buckets i; quantiles = quantiles i; sum = sum i; count = count i; counts_agree = are_one (counts i) }
+group_from-snoc ps (parts.Count n) =
+    let p : Part = parts.Count n in
+    let buckets = none_more ps p bucket_in refl in
+    let quantiles = none_more ps p quantile_in refl in
+    let sum = no_first_more ps p sum_in refl in
+    let count = first_more ps p count_in (Some n) refl in
+    let counts : filter_map count_in (ps ++ p ∷ []) ≡ filter_map count_in ps ++ n ∷ [] = some_more ps p count_in n refl in
+    let agree : are_one (filter_map count_in (ps ++ p ∷ [])) ≡ (are_one (filter_map count_in ps) && not (some_passes (λ m. not (m == n)) (first_some count_in ps))) =
+    ap are_one counts ∙ are_one-snoc (filter_map count_in ps) n ∙ ap (λ o. are_one (filter_map count_in ps) && not (some_passes (λ m. not (m == n)) o)) (sym (first_some-head count_in ps)) in
+    λ i. record { buckets = buckets i; quantiles = quantiles i; sum = sum i; count = count i; counts_agree = agree i }
+
+-- ---- the parts of one group
+
+-- the labels of the parts
+abbrev pub labels_of : List (LabelSet × Part) → List LabelSet
+labels_of es = map (λ (e : LabelSet × Part). e.0) es
+
+-- the group with these labels
+abbrev pub group_at : List (LabelSet × Part) → LabelSet → Gathered
+group_at es labels = group_from (parts_in labels es)
+
+parts_in-other : (es : List (LabelSet × Part)) (e : LabelSet × Part) (labels : LabelSet) → label_sets_eq e.0 labels ≡ false → parts_in labels (es ++ e ∷ []) ≡ parts_in labels es
+unfolding parts_in
+parts_in-other es e labels f = ap (map (λ (x : LabelSet × Part). x.1)) (filter-append (λ (x : LabelSet × Part). label_sets_eq x.0 labels) es (e ∷ [])
+    ∙ rw f (append-nil (filter (λ (x : LabelSet × Part). label_sets_eq x.0 labels) es)))
+
+parts_in-own : (es : List (LabelSet × Part)) (e : LabelSet × Part) → parts_in e.0 (es ++ e ∷ []) ≡ parts_in e.0 es ++ e.1 ∷ []
+unfolding parts_in
+parts_in-own es e =
+    let own : label_sets_eq e.0 e.0 ≡ true = (label_sets_decide e.0 e.0).1 refl in
+    ap (map (λ (x : LabelSet × Part). x.1)) (filter-append (λ (x : LabelSet × Part). label_sets_eq x.0 e.0) es (e ∷ []))
+    ∙ rw own (map-append (λ (x : LabelSet × Part). x.1) (filter (λ (x : LabelSet × Part). label_sets_eq x.0 e.0) es) (e ∷ []))
+
+-- a group that has no part yet
+parts_in-none : (es : List (LabelSet × Part)) (labels : LabelSet) → has_key label_sets_eq label_sets_decide labels (labels_of es) ≡ false → parts_in labels es ≡ []
+unfolding parts_in
+parts_in-none [] labels none = refl
+parts_in-none (e ∷ es) labels none = by (label_sets_eq labels e.0) refl none (parts_in-none es labels)
+  where
+    by : (b : Bool) → label_sets_eq labels e.0 ≡ b → (b || has_key label_sets_eq label_sets_decide labels (labels_of es)) ≡ false
+        → (has_key label_sets_eq label_sets_decide labels (labels_of es) ≡ false → parts_in labels es ≡ []) → parts_in labels (e ∷ es) ≡ []
+    by true f h more = absurd (let c : true ≡ false = h in cc)
+    by false f h more = rw (eq_swap label_sets_eq label_sets_decide e.0 labels ∙ f) (more h)
+
+-- ---- the groups
+
+-- the groups are the labels of the parts, each once, with what their parts come to
+pub groups_are_keyed : (es : List (LabelSet × Part)) → groups_from es ≡ keyed label_sets_eq label_sets_decide (group_at es) (first_of_each label_sets_eq (labels_of es))
+unfolding groups_from
+groups_are_keyed es = refl
+
+-- what is kept of a group is what its parts come to
+pub group_is_kept : (es : List (LabelSet × Part)) (labels : LabelSet) → or_empty (known_group (groups_from es) labels) ≡ group_at es labels
+group_is_kept es labels = ap (λ gs. or_empty (known_group gs labels)) (groups_are_keyed es)
+    ∙ ap or_empty (lookup-keyed label_sets_eq label_sets_decide (group_at es) labels (first_of_each label_sets_eq (labels_of es)) ∙ ap (λ b. when b (Some (group_at es labels))) (has_key-first label_sets_eq label_sets_decide labels (labels_of es)))
+    ∙ by (has_key label_sets_eq label_sets_decide labels (labels_of es)) refl
+  where
+    by : (b : Bool) → has_key label_sets_eq label_sets_decide labels (labels_of es) ≡ b → or_empty (when b (Some (group_at es labels))) ≡ group_at es labels
+    by true f = refl
+    by false f = ap group_from (sym (parts_in-none es labels f))
+
+-- one part more
+pub one_part_more : (es : List (LabelSet × Part)) (e : LabelSet × Part) → groups_from (es ++ e ∷ []) ≡ with_part (groups_from es) e.0 e.1
+unfolding with_part
+one_part_more es e =
+    let labels : labels_of (es ++ e ∷ []) ≡ labels_of es ++ e.0 ∷ [] = map-append (λ (x : LabelSet × Part). x.0) es (e ∷ []) in
+    let firsts : first_of_each label_sets_eq (labels_of (es ++ e ∷ [])) ≡ with_key label_sets_eq label_sets_decide (first_of_each label_sets_eq (labels_of es)) e.0 =
+    ap (first_of_each label_sets_eq) labels ∙ first_of_each-snoc label_sets_eq label_sets_decide (labels_of es) e.0 in
+    let value : group_at (es ++ e ∷ []) e.0 ≡ with_one (or_empty (known_group (groups_from es) e.0)) e.1 =
+    ap group_from (parts_in-own es e) ∙ group_from-snoc (parts_in e.0 es) e.1 ∙ ap (λ g. with_one g e.1) (sym (group_is_kept es e.0)) in
+    groups_are_keyed (es ++ e ∷ []) ∙ ap (keyed label_sets_eq label_sets_decide (group_at (es ++ e ∷ []))) firsts
+    ∙ sym (insert_entry-keyed label_sets_eq label_sets_decide (group_at es) (group_at (es ++ e ∷ [])) e.0 (first_of_each label_sets_eq (labels_of es))
+    (λ l f. ap group_from (parts_in-other es e l f)) (first_apart label_sets_eq label_sets_decide (labels_of es)))
+    ∙ ap (λ v. insert_entry label_sets_eq (keyed label_sets_eq label_sets_decide (group_at es) (first_of_each label_sets_eq (labels_of es))) e.0 v) value
+    ∙ ap (λ gs. insert_entry label_sets_eq gs e.0 (with_one (or_empty (known_group (groups_from es) e.0)) e.1)) (sym (groups_are_keyed es))

@@ -1,0 +1,100 @@
+//! The groups of one family, in the order of their first lines.
+ghost use Rattle.std.specs.Prelude.{◌≡◌, [], true, not, map, IfOk};
+ghost use Rattle.std.specs.List.{list_all};
+ghost use Rattle.label_sets.specs.declared.label_set.LabelSet.{LabelSet as Labels};
+ghost use Rattle.sample_groups.specs.Groups.{Gathered, with_part, known_group, or_empty, breaks_order, is_whole_group, reading_from, shared_labels};
+
+use crate::part::{Part, place_name};
+use crate::table::Table;
+use label_sets::{Kind, LabelSet, List, Memory, Name, Text};
+use page_model::Reading;
+use std::alloc::Global;
+use std::marker::Model;
+use std::mem;
+
+/// The groups of one family's samples, each by the labels that its samples share.
+#[derive(Drop)]
+pub struct Groups {
+    /// Nothing for a family without groups, so that it takes no memory.
+    table: Option<Box<Table>>,
+}
+
+// Each family of a page holds one.
+const _: () = prove!(mem::size_of::<Groups>() <= 24);
+
+impl Model for Groups {
+    ghost use Rattle.std.specs.Prelude as spec;
+    ghost use Rattle.label_sets.specs.declared.label_set.LabelSet.{LabelSet as Shared};
+    ghost use Rattle.sample_groups.specs.Groups.{Gathered as Kept};
+
+    ghost Value = { spec.List (Shared × Kept) };
+
+    ghost use Rattle.sample_groups.specs.Tables.{groups_in};
+
+    ghost view = { λ g. groups_in g.table };
+}
+
+impl Groups {
+    /// No groups. It takes no memory.
+    pub fn new(_alloc: Global) -> Groups
+        ensures { result ≡ [] }
+    {
+        Groups { table: None }
+    }
+
+    /// Adds a part of a sample with these labels to its group, unless it breaks the order of the group: a
+    /// bucket that isn't above the last one, or has fewer observations, or a quantile that the group has
+    /// already. Where it was not added, nothing is said of the groups any more.
+    pub fn add(
+        &mut self,
+        alloc: Global,
+        kind: Kind,
+        labels: &LabelSet,
+        part: Part,
+    ) -> Result<bool, Memory>
+        ensures answer { IfOk result (λ added. added ≡ not (breaks_order (or_empty (known_group self.old (shared_labels kind labels.now))) part)) }
+        ensures added { IfOk result (λ added. added ≡ true → self.new ≡ with_part self.old (shared_labels kind labels.now) part) }
+    {
+        let name = place_name(kind);
+        match &mut self.table {
+            Some(table) => {
+                let added = table.add(alloc, name, labels, part)?;
+                Ok(added)
+            }
+            None => {
+                let shared = labels.without(alloc, name)?;
+                let mut table = Table::of(alloc, shared);
+                let added = table.add(alloc, name, labels, part)?;
+                self.table = Some(Box::new(alloc, table)?);
+                Ok(added)
+            }
+        }
+    }
+
+    /// Whether each group of a histogram has a bucket without an upper bound, as its last, and no other count
+    /// than that bucket's.
+    pub fn are_whole(&self) -> bool
+        ensures { result ≡ list_all (λ (g : Labels × Gathered). is_whole_group g.1) self.now }
+    {
+        match &self.table {
+            Some(table) => table.are_whole(),
+            None => true,
+        }
+    }
+
+    /// The readings of the groups, in their order.
+    pub fn into_readings(
+        self,
+        alloc: Global,
+        kind: Kind,
+        family: &Name,
+        unit: &Text,
+    ) -> Result<List<Reading>, Memory>
+        ensures { IfOk result (λ readings. readings ≡ map (reading_from kind family.now unit.now) self) }
+    {
+        match self.table {
+            Some(table) => Box::into_inner(table).into_readings(alloc, kind, family, unit),
+            None => Ok(List::new(alloc)),
+        }
+    }
+}

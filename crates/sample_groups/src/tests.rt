@@ -1,0 +1,174 @@
+use crate::{Groups, is_grouped, part_of};
+use exact_decimal::{Number, read};
+use label_sets::{Kind, Label, LabelSet, List, Memory, Name, Text};
+use page_model::{Rule, Sample, Value};
+use std::alloc::{AllocError, Global};
+
+/// A name, the value of the label `code`, that of `le` or `quantile`, and a value. A label without a value
+/// isn't there.
+type Row<'a> = (&'a str, &'a str, &'a str, &'a str);
+
+fn number(token: &str) -> Number {
+    read(token.as_bytes()).unwrap_or(Number::NotANumber)
+}
+
+fn label(alloc: Global, name: &str, value: &str) -> Result<Label, Memory> {
+    Ok(Label {
+        name: Name::from_str(alloc, name)?,
+        value: Text::from_str(alloc, value)?,
+    })
+}
+
+fn sample(alloc: Global, kind: Kind, row: Row<'_>) -> Result<Sample, Memory> {
+    let place = if kind == Kind::Summary {
+        "quantile"
+    } else {
+        "le"
+    };
+    let mut pairs = List::new(alloc);
+    pairs.push(label(alloc, "code", row.1)?)?;
+    pairs.push(label(alloc, place, row.2)?)?;
+    let Ok(labels) = LabelSet::build(alloc, pairs, 64) else {
+        return Err(AllocError);
+    };
+    Ok(Sample {
+        name: Name::from_str(alloc, row.0)?,
+        labels,
+        value: number(row.3),
+        stamp: None,
+        exemplar: None,
+    })
+}
+
+/// Gathers the rows of the family `h`, and answers the rule that the first wrong one breaks.
+fn gather(
+    alloc: Global,
+    kind: Kind,
+    rows: &[Row<'_>],
+    groups: &mut Groups,
+) -> Result<Option<Rule>, Memory> {
+    let family = Name::from_str(alloc, "h")?;
+    for row in rows {
+        let sample = sample(alloc, kind, *row)?;
+        match part_of(kind, &family, &sample) {
+            Ok(part) => {
+                if !groups.add(alloc, kind, &sample.labels, part)? {
+                    return Ok(Some(Rule::Order));
+                }
+            }
+            Err(rule) => return Ok(Some(rule)),
+        }
+    }
+    Ok(None)
+}
+
+#[test]
+fn makes_the_readings_of_a_histogram(rt: HostRuntime) -> Result<(), Memory> {
+    let alloc = rt.alloc();
+    let mut groups = Groups::new(alloc);
+    let rows = [
+        ("h_bucket", "", "0.1", "2"),
+        ("h_bucket", "", "1", "5"),
+        ("h_bucket", "a", "1", "7"),
+        ("h_bucket", "", "+Inf", "5"),
+        ("h_sum", "", "", "1.5"),
+        ("h_count", "", "", "5"),
+    ];
+    assert!(rt; gather(alloc, Kind::Histogram, &rows, &mut groups)?.is_none());
+    assert!(rt; !groups.are_whole());
+    let rest = [("h_bucket", "a", "+Inf", "8")];
+    assert!(rt; gather(alloc, Kind::Histogram, &rest, &mut groups)?.is_none());
+    assert!(rt; groups.are_whole());
+
+    let family = Name::from_str(alloc, "h")?;
+    let unit = Text::from_str(alloc, "")?;
+    let readings = groups.into_readings(alloc, Kind::Histogram, &family, &unit)?;
+    let [plain, coded] = readings.as_slice() else {
+        panic!(rt; "not two readings");
+    };
+    assert!(rt; plain.key.labels.is_empty() && plain.key.name == family);
+    assert!(rt; coded.key.labels.value(b"le").is_none());
+    let Value::Buckets { buckets, sum } = &plain.value else {
+        panic!(rt; "no buckets");
+    };
+    let [low, middle, high] = buckets.as_slice() else {
+        panic!(rt; "not three buckets");
+    };
+    assert!(rt; low.le == number("0.1") && low.count == 2);
+    assert!(rt; middle.le == number("1") && middle.count == 5);
+    assert!(rt; high.le == Number::Up && high.count == 5);
+    assert!(rt; *sum == Some(number("1.5")));
+    Ok(())
+}
+
+#[test]
+fn makes_the_reading_of_a_summary(rt: HostRuntime) -> Result<(), Memory> {
+    let alloc = rt.alloc();
+    let mut groups = Groups::new(alloc);
+    let rows = [
+        ("h", "", "0.99", "3"),
+        ("h_count", "", "", "4"),
+        ("h", "", "0.5", "2"),
+    ];
+    assert!(rt; gather(alloc, Kind::Summary, &rows, &mut groups)?.is_none());
+    let family = Name::from_str(alloc, "h")?;
+    let unit = Text::from_str(alloc, "")?;
+    let readings = groups.into_readings(alloc, Kind::Summary, &family, &unit)?;
+    let [reading] = readings.as_slice() else {
+        panic!(rt; "not one reading");
+    };
+    let Value::Quantiles { list, count, sum } = &reading.value else {
+        panic!(rt; "no quantiles");
+    };
+    let [high, middle] = list.as_slice() else {
+        panic!(rt; "not two quantiles");
+    };
+    assert!(rt; Number::Finite(high.at) == number("0.99") && high.value == number("3"));
+    assert!(rt; Number::Finite(middle.at) == number("0.5") && middle.value == number("2"));
+    assert!(rt; *count == Some(4) && sum.is_none());
+    Ok(())
+}
+
+#[test]
+fn names_the_broken_rule(rt: HostRuntime) -> Result<(), Memory> {
+    let alloc = rt.alloc();
+    let cases = [
+        (Kind::Histogram, ("h_bucket", "", "", "1"), Rule::Threshold),
+        (
+            Kind::Histogram,
+            ("h_bucket", "", "-Inf", "1"),
+            Rule::Threshold,
+        ),
+        (Kind::Histogram, ("h_bucket", "", "x", "1.5"), Rule::Value),
+        (Kind::Histogram, ("h_count", "", "1", "1"), Rule::Threshold),
+        (Kind::Histogram, ("h_count", "", "", "-1"), Rule::Value),
+        (Kind::Histogram, ("h_bucket", "", "1.0", "3"), Rule::Order),
+        (Kind::Histogram, ("h_bucket", "", "2", "2"), Rule::Order),
+        (
+            Kind::GaugeHistogram,
+            ("h_gcount", "", "", "0.5"),
+            Rule::Value,
+        ),
+        (
+            Kind::GaugeHistogram,
+            ("h_gsum", "", "1", "1"),
+            Rule::Threshold,
+        ),
+        (Kind::Summary, ("h", "", "+Inf", "1"), Rule::Threshold),
+        (Kind::Summary, ("h_sum", "", "1", "1"), Rule::Threshold),
+        (Kind::Summary, ("h_count", "", "", "NaN"), Rule::Value),
+        (Kind::Summary, ("h", "", "1.00", "1"), Rule::Order),
+    ];
+    for (kind, row, rule) in cases {
+        let first = if kind == Kind::Summary {
+            "h"
+        } else {
+            "h_bucket"
+        };
+        let rows = [(first, "", "1", "3"), row];
+        let mut groups = Groups::new(alloc);
+        let broken = gather(alloc, kind, &rows, &mut groups)?;
+        assert!(rt; is_grouped(kind) && broken == Some(rule), "{}", row.0);
+    }
+    Ok(())
+}
