@@ -1,5 +1,5 @@
 -- The page of what a checker keeps is the page of the lines that it took.
-use Rattle.std.proofs.Common.{◌≡◌, ℕ, Bool, true, false, cond, not, ◌&&◌, ◌||◌, List, [], ◌∷◌, ◌++◌, map, filter, filter_map, drop, length, Option, Some, None, refl, sym, ap, subst, ◌∙◌, reverse, IfSome, is_some}
+use Rattle.std.proofs.Common.{◌≡◌, ℕ, Bool, true, false, cond, not, ◌&&◌, ◌||◌, List, [], ◌∷◌, ◌++◌, map, filter, filter_map, drop, length, Option, Some, None, refl, sym, ap, subst, ◌∙◌, reverse, is_some}
 use Rattle.std.specs.Prelude.{codes, option_map, unwrap_or}
 use Rattle.std.specs.List.{list_any, flat_map, cons_option}
 use Rattle.std.specs.Option.{option_or, option_to_list}
@@ -13,26 +13,32 @@ use Rattle.label_sets.specs.declared.kind.Kind.TheVariants.{Counter, Gauge, Hist
 use Rattle.label_sets.specs.declared.label_set.LabelSet.{LabelSet}
 use Rattle.label_sets.specs.Labels.{label_sets_eq}
 use Rattle.label_sets.specs.Lists.{first_of_each, first_some, some_passes}
+use Rattle.page_model.specs.declared.format.Format.{Format}
 use Rattle.page_model.specs.declared.format.Format.TheVariants.{Text}
 use Rattle.page_model.specs.declared.item.Item.{Item}
 use Rattle.page_model.specs.declared.item.Item.TheVariants as items
 use Rattle.page_model.specs.declared.item.Sample.{Sample}
 use Rattle.page_model.specs.declared.page.Reading.{Reading}
+use Rattle.page_model.specs.declared.rule.Rule.{Rule}
 use Rattle.page_model.specs.declared.rule.Rule.TheVariants as rules
 use Rattle.page_model.specs.Faults.{end_fault, end_breaks}
 use Rattle.page_model.specs.Written.{Setting}
-use Rattle.page_model.specs.Items.{sample_of_line, kind_of_line, help_of_line, unit_of_line, is_descriptor}
-use Rattle.page_model.specs.Owners.{Owned, is_of, declared_kind, kind_of, owned_lines, sample_in, samples_of, kept_labels}
-use Rattle.page_model.specs.Rules.{is_late_descriptor, is_split, is_same_series, is_duplicate, is_without_eof}
+use Rattle.page_model.specs.Items.{is_eof, sample_of_line, kind_of_line, help_of_line, unit_of_line, is_descriptor}
+use Rattle.page_model.specs.Owners.{Owned, is_of, declared_kind, kind_of, owned_lines, samples_of, kept_labels}
+use Rattle.page_model.specs.Rules.{is_late_descriptor, is_split, is_same_series, is_duplicate, is_open_metrics, is_without_eof}
 use Rattle.page_model.specs.Readings.{value_with, value_of, stamp_of, exemplars_of, reading_labels, key_name, reading_of, readings_of, help_in, unit_in, family_of, families_of, page_of}
 use Rattle.family_rules.specs.declared.sample_key.SampleKey.{SampleKey}
-use Rattle.family_rules.specs.Checking.{has_sort, has_samples, so_far, left_before, key_of, keys_of, Checking, Stands, left_families, current_family}
-use Rattle.family_rules.specs.Steps.{page_at, with_left, reading_at, readings_at, family_at, families_at}
+use Rattle.sample_groups.specs.Groups.{groups_from, reading_from}
+use Rattle.sample_groups.specs.Parts.{is_grouped, entry_of}
+use Rattle.sample_groups.specs.Sound.{AreSound}
+use Rattle.sample_groups.proofs.Made.{readings_made}
+use Rattle.family_rules.specs.Checking.{has_sort, has_samples, groups_in, so_far, left_before, key_of, keys_of, Checking, Stands, left_families, current_family}
+use Rattle.family_rules.specs.Steps.{left_stop, page_at, with_left, reading_at, readings_at, readings_in, family_at, families_at}
 use Rattle.family_rules.proofs.Lists.{bytes_same, reverse-cons, first_of_each-snoc, first_some-append, list_any-map, list_any-reverse, pairs, lookup-map, insert_entry-last}
-use Rattle.family_rules.proofs.Standing.{label_sets_swap}
+use Rattle.family_rules.proofs.Standing.{label_sets_swap, left_at_end}
 use Rattle.std.specs.Map.{lookup}
-use Rattle.family_rules.proofs.Faults.{fit_lines, nothing_left, is_plain, AreFit, plain_kind, drop_all}
-use Rattle.family_rules.proofs.Kept.{fresh, families_of-reverse, samples_of-reverse, own_samples, none_of_other, late_known}
+use Rattle.family_rules.proofs.Faults.{fit_lines, or_parts, is_plain, plain_or_grouped, plain_name, text_family, sound_samples, left_fault, AreFit, drop_all}
+use Rattle.family_rules.proofs.Kept.{fresh, families_of-reverse, samples_of-reverse, reversed_samples, own_samples, none_of_other, late_known}
 
 -- ---- one descriptor of a sort
 
@@ -40,13 +46,9 @@ none_of_some : {A : Type 0} (o : Option A) → is_some o ≡ false → o ≡ Non
 none_of_some None h = refl
 none_of_some (Some x) h = absurd (let f : true ≡ false = h in cc)
 
-or_first : (a b : Bool) → (a || b) ≡ false → a ≡ false
-or_first true b h = absurd (let f : true ≡ false = h in cc)
-or_first false b h = refl
-
 -- a late descriptor would have one before it
-no_earlier : (above : List Owned) (o : Owned) → is_descriptor o.item ≡ true → is_late_descriptor above o ≡ false → has_sort o.item (so_far above o.family) ≡ false
-no_earlier above o d h = or_first (has_sort o.item (so_far above o.family)) (has_samples (so_far above o.family)) (sym (late_known above o.family o.item d) ∙ h)
+no_earlier : (st : Setting) (above : List Owned) (o : Owned) → is_descriptor o.item ≡ true → is_late_descriptor above o ≡ false → has_sort o.item (so_far st above o.family) ≡ false
+no_earlier st above o d h = (or_parts (has_sort o.item (so_far st above o.family)) (has_samples (so_far st above o.family)) (sym (late_known st above o.family o.item d) ∙ h)).0
 
 -- what one line says of a family is said by no earlier line
 module _ {A : Type 0} (of_line : Item → Option A) where
@@ -72,50 +74,50 @@ module _ {A : Type 0} (of_line : Item → Option A) where
       ∙ join (is_of F o) (of_line o.item) (first_some (said F) above) (λ x own says.
       subst (λ G. first_some (said G) above ≡ None) ((bytes_decides o.family F).0 own) (h.0 x says))
 
-help_first : (above : List Owned) (F : List ℕ) (item : Item) (x : List ℕ) → is_late_descriptor above (record { family = F; item = item }) ≡ false → help_of_line item ≡ Some x
+help_first : (st : Setting) (above : List Owned) (F : List ℕ) (item : Item) (x : List ℕ) → is_late_descriptor above (record { family = F; item = item }) ≡ false → help_of_line item ≡ Some x
     → first_some (said help_of_line F) above ≡ None
 unfolding so_far
-help_first above F (items.Help n t) x late says = none_of_some (first_some (said help_of_line F) above) (no_earlier above (record { family = F; item = items.Help n t }) refl late)
-help_first above F items.Blank x late says = absurd (let f : None ≡ Some x = says in cc)
-help_first above F items.Comment x late says = absurd (let f : None ≡ Some x = says in cc)
-help_first above F items.Eof x late says = absurd (let f : None ≡ Some x = says in cc)
-help_first above F (items.KindOf n k) x late says = absurd (let f : None ≡ Some x = says in cc)
-help_first above F (items.Unit n u) x late says = absurd (let f : None ≡ Some x = says in cc)
-help_first above F (items.Sample s) x late says = absurd (let f : None ≡ Some x = says in cc)
+help_first st above F (items.Help n t) x late says = none_of_some (first_some (said help_of_line F) above) (no_earlier st above (record { family = F; item = items.Help n t }) refl late)
+help_first st above F items.Blank x late says = absurd (let f : None ≡ Some x = says in cc)
+help_first st above F items.Comment x late says = absurd (let f : None ≡ Some x = says in cc)
+help_first st above F items.Eof x late says = absurd (let f : None ≡ Some x = says in cc)
+help_first st above F (items.KindOf n k) x late says = absurd (let f : None ≡ Some x = says in cc)
+help_first st above F (items.Unit n u) x late says = absurd (let f : None ≡ Some x = says in cc)
+help_first st above F (items.Sample s) x late says = absurd (let f : None ≡ Some x = says in cc)
 
-kind_first : (above : List Owned) (F : List ℕ) (item : Item) (x : Kind) → is_late_descriptor above (record { family = F; item = item }) ≡ false → kind_of_line item ≡ Some x
+kind_first : (st : Setting) (above : List Owned) (F : List ℕ) (item : Item) (x : Kind) → is_late_descriptor above (record { family = F; item = item }) ≡ false → kind_of_line item ≡ Some x
     → first_some (said kind_of_line F) above ≡ None
 unfolding so_far
-kind_first above F (items.KindOf n k) x late says = none_of_some (first_some (said kind_of_line F) above) (no_earlier above (record { family = F; item = items.KindOf n k }) refl late)
-kind_first above F items.Blank x late says = absurd (let f : None ≡ Some x = says in cc)
-kind_first above F items.Comment x late says = absurd (let f : None ≡ Some x = says in cc)
-kind_first above F items.Eof x late says = absurd (let f : None ≡ Some x = says in cc)
-kind_first above F (items.Help n t) x late says = absurd (let f : None ≡ Some x = says in cc)
-kind_first above F (items.Unit n u) x late says = absurd (let f : None ≡ Some x = says in cc)
-kind_first above F (items.Sample s) x late says = absurd (let f : None ≡ Some x = says in cc)
+kind_first st above F (items.KindOf n k) x late says = none_of_some (first_some (said kind_of_line F) above) (no_earlier st above (record { family = F; item = items.KindOf n k }) refl late)
+kind_first st above F items.Blank x late says = absurd (let f : None ≡ Some x = says in cc)
+kind_first st above F items.Comment x late says = absurd (let f : None ≡ Some x = says in cc)
+kind_first st above F items.Eof x late says = absurd (let f : None ≡ Some x = says in cc)
+kind_first st above F (items.Help n t) x late says = absurd (let f : None ≡ Some x = says in cc)
+kind_first st above F (items.Unit n u) x late says = absurd (let f : None ≡ Some x = says in cc)
+kind_first st above F (items.Sample s) x late says = absurd (let f : None ≡ Some x = says in cc)
 
-unit_first : (above : List Owned) (F : List ℕ) (item : Item) (x : List ℕ) → is_late_descriptor above (record { family = F; item = item }) ≡ false → unit_of_line item ≡ Some x
+unit_first : (st : Setting) (above : List Owned) (F : List ℕ) (item : Item) (x : List ℕ) → is_late_descriptor above (record { family = F; item = item }) ≡ false → unit_of_line item ≡ Some x
     → first_some (said unit_of_line F) above ≡ None
 unfolding so_far
-unit_first above F (items.Unit n u) x late says = none_of_some (first_some (said unit_of_line F) above) (no_earlier above (record { family = F; item = items.Unit n u }) refl late)
-unit_first above F items.Blank x late says = absurd (let f : None ≡ Some x = says in cc)
-unit_first above F items.Comment x late says = absurd (let f : None ≡ Some x = says in cc)
-unit_first above F items.Eof x late says = absurd (let f : None ≡ Some x = says in cc)
-unit_first above F (items.Help n t) x late says = absurd (let f : None ≡ Some x = says in cc)
-unit_first above F (items.KindOf n k) x late says = absurd (let f : None ≡ Some x = says in cc)
-unit_first above F (items.Sample s) x late says = absurd (let f : None ≡ Some x = says in cc)
+unit_first st above F (items.Unit n u) x late says = none_of_some (first_some (said unit_of_line F) above) (no_earlier st above (record { family = F; item = items.Unit n u }) refl late)
+unit_first st above F items.Blank x late says = absurd (let f : None ≡ Some x = says in cc)
+unit_first st above F items.Comment x late says = absurd (let f : None ≡ Some x = says in cc)
+unit_first st above F items.Eof x late says = absurd (let f : None ≡ Some x = says in cc)
+unit_first st above F (items.Help n t) x late says = absurd (let f : None ≡ Some x = says in cc)
+unit_first st above F (items.KindOf n k) x late says = absurd (let f : None ≡ Some x = says in cc)
+unit_first st above F (items.Sample s) x late says = absurd (let f : None ≡ Some x = says in cc)
 
 help_once : (st : Setting) (above : List Owned) → AreFit st above → Once help_of_line above
 help_once st [] fit = tt
-help_once st (o ∷ above) fit = (λ x says. help_first above o.family o.item x fit.0.descriptor says, help_once st above fit.1)
+help_once st (o ∷ above) fit = (λ x says. help_first st above o.family o.item x fit.0.descriptor says, help_once st above fit.1)
 
 kind_once : (st : Setting) (above : List Owned) → AreFit st above → Once kind_of_line above
 kind_once st [] fit = tt
-kind_once st (o ∷ above) fit = (λ x says. kind_first above o.family o.item x fit.0.descriptor says, kind_once st above fit.1)
+kind_once st (o ∷ above) fit = (λ x says. kind_first st above o.family o.item x fit.0.descriptor says, kind_once st above fit.1)
 
 unit_once : (st : Setting) (above : List Owned) → AreFit st above → Once unit_of_line above
 unit_once st [] fit = tt
-unit_once st (o ∷ above) fit = (λ x says. unit_first above o.family o.item x fit.0.descriptor says, unit_once st above fit.1)
+unit_once st (o ∷ above) fit = (λ x says. unit_first st above o.family o.item x fit.0.descriptor says, unit_once st above fit.1)
 
 -- ---- lists
 
@@ -174,56 +176,50 @@ module _ (st : Setting) where
   abbrev kept : Sample → LabelSet
   kept s = kept_labels st.treatment s.labels
 
+  -- samples of one name
+  abbrev AreNamed : List ℕ → List Sample → Type 0
+  AreNamed F [] = Unit {0}
+  AreNamed F (y ∷ samples) = (y.name ≡ F) × AreNamed F samples
+
   -- the samples of a family, the nearest first: each has its name, and no two have one label set
   abbrev AreFresh : List ℕ → List Sample → Type 0
   AreFresh F [] = Unit {0}
   AreFresh F (y ∷ samples) = (list_any (λ t. label_sets_eq (kept t) (kept y)) samples ≡ false) × (y.name ≡ F) × AreFresh F samples
 
-  other_labels : (b : Bool) (t y : Sample) (F : List ℕ) → t.name ≡ F → y.name ≡ F → is_same_series st y t ≡ false → label_sets_eq (kept t) (kept y) ≡ false
-  other_labels b t y F n m h =
+  plain_names : (k : Kind) (F : List ℕ) (samples : List Sample) → st.format ≡ Text → is_plain k ≡ true → AreSound st k F samples → AreNamed F samples
+  plain_names k F [] text plain sound = tt
+  plain_names k F (y ∷ samples) text plain sound = (plain_name st k F y text plain sound.0.named, plain_names k F samples text plain sound.1)
+
+  other_labels : (t y : Sample) (F : List ℕ) → t.name ≡ F → y.name ≡ F → is_same_series st y t ≡ false → label_sets_eq (kept t) (kept y) ≡ false
+  other_labels t y F n m h =
       let names : bytes_eq t.name y.name ≡ true = (bytes_decides t.name y.name).1 (n ∙ sym m) in
       sym (ap (λ b. b && label_sets_eq (kept t) (kept y)) names) ∙ h
 
-  no_same : (above : List Owned) (y : Sample) (F : List ℕ) → AreFit st above → y.name ≡ F → is_duplicate st above y ≡ false → list_any (λ t. label_sets_eq (kept t) (kept y)) (samples_of above F) ≡ false
+  no_same : (above : List Owned) (y : Sample) (F : List ℕ) → AreNamed F (samples_of above F) → y.name ≡ F → is_duplicate st above y ≡ false → list_any (λ t. label_sets_eq (kept t) (kept y)) (samples_of above F) ≡ false
   unfolding is_duplicate samples_of
-  no_same [] y F fit name h = refl
-  no_same (o ∷ above) y F fit name h = by (is_of F o) (sample_of_line o.item) refl fit.0.named h (no_same above y F fit.1 name)
+  no_same [] y F names name h = refl
+  no_same (o ∷ above) y F names name h = by (is_of F o) (sample_of_line o.item) names h (λ n. no_same above y F n name)
     where
-      by : (b : Bool) (s : Option Sample) → is_of F o ≡ b → IfSome s (λ t. t.name ≡ o.family) → (some_passes (is_same_series st y) s || is_duplicate st above y) ≡ false
-          → (is_duplicate st above y ≡ false → list_any (λ t. label_sets_eq (kept t) (kept y)) (samples_of above F) ≡ false)
+      by : (b : Bool) (s : Option Sample) → AreNamed F (cons_option (cond b s None) (samples_of above F)) → (some_passes (is_same_series st y) s || is_duplicate st above y) ≡ false
+          → (AreNamed F (samples_of above F) → is_duplicate st above y ≡ false → list_any (λ t. label_sets_eq (kept t) (kept y)) (samples_of above F) ≡ false)
           → list_any (λ t. label_sets_eq (kept t) (kept y)) (cons_option (cond b s None) (samples_of above F)) ≡ false
-      by false None e n h more = more h
-      by false (Some t) e n h more = more (second (is_same_series st y t) (is_duplicate st above y) h)
-        where
-          second : (a b : Bool) → (a || b) ≡ false → b ≡ false
-          second true b h = absurd (let f : true ≡ false = h in cc)
-          second false b h = h
-      by true None e n h more = more h
-      by true (Some t) e n h more = both (is_same_series st y t) refl h
-        where
-          both : (a : Bool) → is_same_series st y t ≡ a → (a || is_duplicate st above y) ≡ false → (label_sets_eq (kept t) (kept y) || list_any (λ t. label_sets_eq (kept t) (kept y)) (samples_of above F)) ≡ false
-          both true f k = absurd (let g : true ≡ false = k in cc)
-          both false f k = ap (λ b. b || list_any (λ t. label_sets_eq (kept t) (kept y)) (samples_of above F)) (other_labels true t y F (n ∙ (bytes_decides o.family F).0 e) name f) ∙ more k
+      by false s n h more = more n (or_parts (some_passes (is_same_series st y) s) (is_duplicate st above y) h).1
+      by true None n h more = more n h
+      by true (Some t) n h more =
+          let parts = or_parts (is_same_series st y t) (is_duplicate st above y) h in
+          ap (λ b. b || list_any (λ t. label_sets_eq (kept t) (kept y)) (samples_of above F)) (other_labels t y F n.0 name parts.0) ∙ more n.1 parts.1
 
-  fresh_samples : (above : List Owned) (F : List ℕ) → AreFit st above → AreFresh F (samples_of above F)
+  fresh_samples : (above : List Owned) (F : List ℕ) → AreFit st above → AreNamed F (samples_of above F) → AreFresh F (samples_of above F)
   unfolding samples_of
-  fresh_samples [] F fit = tt
-  fresh_samples (o ∷ above) F fit = by (is_of F o) (sample_of_line o.item) refl fit.0.named fit.0.single (fresh_samples above F fit.1)
+  fresh_samples [] F fit names = tt
+  fresh_samples (o ∷ above) F fit names = by (is_of F o) (sample_of_line o.item) names fit.0.single (fresh_samples above F fit.1)
     where
-      by : (b : Bool) (s : Option Sample) → is_of F o ≡ b → IfSome s (λ t. t.name ≡ o.family) → some_passes (is_duplicate st above) s ≡ false → AreFresh F (samples_of above F)
+      by : (b : Bool) (s : Option Sample) → AreNamed F (cons_option (cond b s None) (samples_of above F)) → some_passes (is_duplicate st above) s ≡ false
+          → (AreNamed F (samples_of above F) → AreFresh F (samples_of above F))
           → AreFresh F (cons_option (cond b s None) (samples_of above F))
-      by false s e n h more = more
-      by true None e n h more = more
-      by true (Some y) e n h more = let name : y.name ≡ F = n ∙ (bytes_decides o.family F).0 e in (no_same above y F fit.1 name h, name, more)
-
-  reversed_samples : (above : List Owned) (F : List ℕ) → samples_of (reverse above) F ≡ reverse (samples_of above F)
-  unfolding samples_of
-  reversed_samples [] F = refl
-  reversed_samples (o ∷ above) F = samples_of-reverse o above F ∙ ap (λ l. l ++ samples_of (o ∷ []) F) (reversed_samples above F) ∙ by (sample_in F o)
-    where
-      by : (s : Option Sample) → reverse (samples_of above F) ++ cons_option s [] ≡ reverse (cons_option s (samples_of above F))
-      by None = append-nil (reverse (samples_of above F))
-      by (Some t) = sym (reverse-cons t (samples_of above F))
+      by false s n h more = more n
+      by true None n h more = more n
+      by true (Some y) n h more = (no_same above y F n.1 n.0 h, n.0, more n.1)
 
   -- the reading of the samples of one label set
   abbrev made : Kind → List ℕ → List ℕ → List Sample → LabelSet → Option Reading
@@ -306,9 +302,10 @@ module _ (st : Setting) where
         ∙ ap (λ l. l ++ read y ∷ []) (all_read samples h.2) ∙ sym (map-append read (reverse samples) (y ∷ [])) ∙ ap (map read) (sym (reverse-cons y samples))
 
     -- the readings of a family are those of its samples
-    readings_read : (above : List Owned) → AreFit st above → readings_of st k F unit (samples_of (reverse above) F) ≡ map read (samples_of (reverse above) F)
-    readings_read above fit =
-        readings_by_labels (samples_of (reverse above) F) ∙ ap by_labels (reversed_samples above F) ∙ all_read (samples_of above F) (fresh_samples above F fit)
+    readings_read : (above : List Owned) → AreFit st above → AreSound st k F (samples_of above F) → readings_of st k F unit (samples_of (reverse above) F) ≡ map read (samples_of (reverse above) F)
+    readings_read above fit sound =
+        readings_by_labels (samples_of (reverse above) F) ∙ ap by_labels (reversed_samples above F)
+        ∙ all_read (samples_of above F) (fresh_samples above F fit (plain_names k F (samples_of above F) text plain sound))
         ∙ ap (map read) (sym (reversed_samples above F))
 
 -- ---- the lines of a family stand together
@@ -385,18 +382,38 @@ dropped st [] [] = refl
 dropped st [] (key ∷ more) = refl
 dropped st (s ∷ samples) more = dropped st samples more
 
+-- the readings of what is known of a family are those of its samples
+made_readings : (st : Setting) (above : List Owned) (F : List ℕ) (more : List SampleKey) → st.format ≡ Text → AreFit st above
+    → readings_in F (so_far st above F) (keys_in st above F ++ more) ≡ readings_of st (kind_of above F) F (unwrap_or (first_some (unit_in F) above) []) (samples_of (reverse above) F)
+unfolding so_far kind_of groups_in
+made_readings st above F more text fit = by (is_grouped (kind_of above F)) refl
+  where
+    unit : List ℕ
+    unit = unwrap_or (first_some (unit_in F) above) []
+
+    by : (b : Bool) → is_grouped (kind_of above F) ≡ b
+        → cond b (map (reading_from (kind_of above F) F (unwrap_or (first_some (unit_in F) above) [])) (cond b (groups_from (map (entry_of st (kind_of above F) F) (samples_of (reverse above) F))) []))
+        (readings_at (kind_of above F) (unwrap_or (first_some (unit_in F) above) []) (keys_in st above F ++ more) (map (λ (s : Sample). s.value) (samples_of (reverse above) F)))
+        ≡ readings_of st (kind_of above F) F (unwrap_or (first_some (unit_in F) above) []) (samples_of (reverse above) F)
+    by true e =
+        let k : Kind = kind_of above F in
+        ap (λ l. map (reading_from k F unit) (groups_from (map (entry_of st k F) l))) (reversed_samples above F)
+        ∙ sym (readings_made st k F unit (samples_of above F) e text (sound_samples st above F fit))
+        ∙ ap (readings_of st k F unit) (sym (reversed_samples above F))
+    by false e =
+        let k : Kind = kind_of above F in
+        taken st k unit (samples_of (reverse above) F) more
+        ∙ sym (readings_read st text k (plain_or_grouped k (text_family st above F fit) e) F unit above fit (sound_samples st above F fit))
+
 one_family : (st : Setting) (above : List Owned) (F : List ℕ) (more : List SampleKey) → st.format ≡ Text → AreFit st above
-    → family_at F (so_far above F) (keys_in st above F ++ more) ≡ family_of st (reverse above) F
+    → family_at F (so_far st above F) (keys_in st above F ++ more) ≡ family_of st (reverse above) F
 unfolding family_of so_far kind_of
 one_family st above F more text fit =
     let help : first_some (help_in F) above ≡ first_some (help_in F) (reverse above) = sym (once_reverse help_of_line above F (help_once st above fit)) in
     let kinds : first_some (declared_kind F) above ≡ first_some (declared_kind F) (reverse above) = sym (once_reverse kind_of_line above F (kind_once st above fit)) in
     let units : first_some (unit_in F) above ≡ first_some (unit_in F) (reverse above) = sym (once_reverse unit_of_line above F (unit_once st above fit)) in
-    let k : Kind = unwrap_or (first_some (declared_kind F) above) Unknown in
-    let unit : List ℕ = unwrap_or (first_some (unit_in F) above) [] in
-    let rs : readings_at k unit (keys_in st above F ++ more) (map (λ (s : Sample). s.value) (samples_of (reverse above) F)) ≡ readings_of st k F unit (samples_of (reverse above) F) =
-    taken st k unit (samples_of (reverse above) F) more ∙ sym (readings_read st text k (plain_kind st above F fit) F unit above fit) in
-    (λ i. record { name = F; kind = k; help = unwrap_or (first_some (help_in F) above) []; unit = unit; readings = rs i })
+    let rs = made_readings st above F more text fit in
+    (λ i. record { name = F; kind = kind_of above F; help = unwrap_or (first_some (help_in F) above) []; unit = unwrap_or (first_some (unit_in F) above) []; readings = rs i })
     ∙ (λ i. record {
       name = F;
       kind = unwrap_or (kinds i) Unknown;
@@ -406,29 +423,37 @@ one_family st above F more text fit =
     })
 
 all_families : (st : Setting) (above : List Owned) (names : List (List ℕ)) → st.format ≡ Text → AreFit st above
-    → families_at (pairs (so_far above) names) (flat_map (keys_in st above) names) ≡ map (family_of st (reverse above)) names
+    → families_at (pairs (so_far st above) names) (flat_map (keys_in st above) names) ≡ map (family_of st (reverse above)) names
 unfolding families_at so_far
 all_families st above [] text fit = refl
 all_families st above (F ∷ names) text fit =
-    let first : family_at F (so_far above F) (keys_in st above F ++ flat_map (keys_in st above) names) ≡ family_of st (reverse above) F = one_family st above F (flat_map (keys_in st above) names) text fit in
-    let rest : families_at (pairs (so_far above) names) (drop (length (so_far above F).values) (keys_in st above F ++ flat_map (keys_in st above) names)) ≡ map (family_of st (reverse above)) names =
-    ap (families_at (pairs (so_far above) names)) (dropped st (samples_of (reverse above) F) (flat_map (keys_in st above) names)) ∙ all_families st above names text fit in
+    let first : family_at F (so_far st above F) (keys_in st above F ++ flat_map (keys_in st above) names) ≡ family_of st (reverse above) F = one_family st above F (flat_map (keys_in st above) names) text fit in
+    let rest : families_at (pairs (so_far st above) names) (drop (length (so_far st above F).values) (keys_in st above F ++ flat_map (keys_in st above) names)) ≡ map (family_of st (reverse above)) names =
+    ap (families_at (pairs (so_far st above) names)) (dropped st (samples_of (reverse above) F) (flat_map (keys_in st above) names)) ∙ all_families st above names text fit in
     λ i. first i ∷ rest i
 
 -- the families that were left, with the current one, are those of the lines
-all_pairs : (st : Setting) (above : List Owned) → AreFit st above → with_left (pairs (so_far above) (left_families above)) (current_family above) ≡ pairs (so_far above) (families_of (reverse above))
+all_pairs : (st : Setting) (above : List Owned) → AreFit st above → with_left (pairs (so_far st above) (left_families above)) (current_family st above) ≡ pairs (so_far st above) (families_of (reverse above))
 unfolding left_families current_family families_of
 all_pairs st [] fit = refl
 all_pairs st (n ∷ above) fit =
-    let last : lookup (bytes_eq n.family) (pairs (so_far (n ∷ above)) (left_before n.family above)) ≡ None =
-    lookup-map (so_far (n ∷ above)) n.family (left_before n.family above) ∙ ap (λ b. cond b (Some (so_far (n ∷ above) n.family)) None) (fresh st n.family n.item above fit.1 fit.0.together) in
-    insert_entry-last (pairs (so_far (n ∷ above)) (left_before n.family above)) n.family (so_far (n ∷ above) n.family) last
-    ∙ sym (map-append (λ name. (name, so_far (n ∷ above) name)) (left_before n.family above) (n.family ∷ []))
-    ∙ ap (pairs (so_far (n ∷ above))) (sym (families_of-reverse st n above fit))
+    let last : lookup (bytes_eq n.family) (pairs (so_far st (n ∷ above)) (left_before n.family above)) ≡ None =
+    lookup-map (so_far st (n ∷ above)) n.family (left_before n.family above) ∙ ap (λ b. cond b (Some (so_far st (n ∷ above) n.family)) None) (fresh st n.family n.item above fit.1 fit.0.together) in
+    insert_entry-last (pairs (so_far st (n ∷ above)) (left_before n.family above)) n.family (so_far st (n ∷ above) n.family) last
+    ∙ sym (map-append (λ name. (name, so_far st (n ∷ above) name)) (left_before n.family above) (n.family ∷ []))
+    ∙ ap (pairs (so_far st (n ∷ above))) (sym (families_of-reverse st n above fit))
 
-pub end_text : (st : Setting) (c : Checking) (earlier : List Item) (clean : Bool) → Stands st c earlier → end_fault st earlier clean ≡ cond (not clean) (Some rules.NoNewline) None
+-- the rules of the end of a text page
+end_by : (f : Format) (clean ended : Bool) (left : Option Rule) → f ≡ Text
+    → cond (not (is_open_metrics f) && not clean) (Some rules.NoNewline) (cond (is_open_metrics f && not ended) (Some rules.NoEof) left) ≡ cond (not clean) (Some rules.NoNewline) left
+end_by f clean ended left text = rw text refl
+
+-- the fault of the end: a missing line feed, then a histogram that is left
+pub end_text : (st : Setting) (c : Checking) (earlier : List Item) (clean : Bool) → Stands st c earlier → end_fault st earlier clean ≡ cond (not clean) (Some rules.NoNewline) (left_stop c.current)
 unfolding end_fault end_breaks is_without_eof
-end_text st c earlier clean s = rw (nothing_left st (owned_lines st.format earlier) None (fit_lines st earlier s.text s.text_items s.faultless), s.text) refl
+end_text st c earlier clean s =
+    end_by st.format clean (list_any is_eof earlier) (left_fault st (owned_lines st.format earlier) None) s.text
+    ∙ ap (cond (not clean) (Some rules.NoNewline)) (sym (left_at_end st c earlier s))
 
 -- the page of what is kept is that of the lines
 pub page_built : (st : Setting) (c : Checking) (earlier : List Item) → Stands st c earlier → page_at c ≡ page_of st earlier
@@ -436,7 +461,7 @@ unfolding page_at page_of
 page_built st c earlier s =
     let above : List Owned = owned_lines st.format earlier in
     let fit : AreFit st above = fit_lines st earlier s.text s.text_items s.faultless in
-    let kept_is : with_left c.left c.current ≡ pairs (so_far above) (families_of (reverse above)) = (λ i. with_left (s.left i) (s.current i)) ∙ all_pairs st above fit in
+    let kept_is : with_left c.left c.current ≡ pairs (so_far st above) (families_of (reverse above)) = (λ i. with_left (s.left i) (s.current i)) ∙ all_pairs st above fit in
     let seen_is : c.seen ≡ flat_map (keys_in st above) (families_of (reverse above)) = s.seen ∙ together st above fit in
     let families : families_at (with_left c.left c.current) c.seen ≡ map (family_of st (reverse above)) (families_of (reverse above)) =
     (λ i. families_at (kept_is i) (seen_is i)) ∙ all_families st above (families_of (reverse above)) s.text fit in

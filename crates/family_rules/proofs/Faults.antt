@@ -1,6 +1,7 @@
 -- The fault of an item of the text format, by the few rules that such an item can break, and what the lines above keep.
-use Rattle.std.proofs.Common.{◌≡◌, ℕ, Bool, true, false, cond, not, ◌||◌, List, [], ◌∷◌, ◌++◌, drop, length, Option, Some, None, refl, sym, ap, ◌∙◌, IfSome}
+use Rattle.std.proofs.Common.{◌≡◌, ℕ, Bool, true, false, cond, not, ◌&&◌, ◌||◌, List, [], ◌∷◌, ◌++◌, drop, length, Option, Some, None, refl, sym, ap, subst, ◌∙◌, IfSome}
 use Rattle.std.specs.Prelude.{unwrap_or, ⊤}
+use Rattle.std.specs.List.{list_any, cons_option}
 use Rattle.std.specs.Option.{option_or}
 use Rattle.std.specs.Str.{bytes_eq}
 use Rattle.std.specs.Cmp.Lexicographic.{bytes_decides}
@@ -12,18 +13,21 @@ use Rattle.page_model.specs.declared.format.Format.TheVariants.{Text}
 use Rattle.page_model.specs.declared.item.Item.{Item}
 use Rattle.page_model.specs.declared.item.Item.TheVariants as items
 use Rattle.page_model.specs.declared.item.Sample.{Sample}
+use Rattle.page_model.specs.declared.rule.Rule.{Rule}
 use Rattle.page_model.specs.declared.rule.Rule.TheVariants as rules
 use Rattle.page_model.specs.Written.{Setting}
-use Rattle.page_model.specs.Items.{sample_of_line, kind_of_line}
+use Rattle.page_model.specs.Items.{is_sample, sample_of_line, kind_of_line, are_one_sort, is_descriptor}
 use Rattle.page_model.specs.Suffixes.{is_sample_name}
 use Rattle.page_model.specs.Owners.{Owned, is_of, declared_kind, kind_of, sample_owner, owner_of, with_owner, owned_lines, samples_of}
-use Rattle.page_model.specs.Rules.{is_histogram, is_info_or_state_set, is_after_eof, is_late_descriptor, is_split, is_foreign_unit, has_forbidden_unit, is_bad_unit, is_bad_exemplar, is_interleaved, has_wrong_suffix, is_duplicate, has_forbidden_value, has_bad_value, has_bad_threshold, is_out_of_order, is_past_limit, is_not_built, is_incomplete, leaves_incomplete}
+use Rattle.page_model.specs.Rules.{is_info_or_state_set, is_after_eof, is_late_descriptor, is_split, is_foreign_unit, has_forbidden_unit, is_bad_unit, is_bad_exemplar, is_interleaved, has_wrong_suffix, is_duplicate, has_forbidden_value, has_bad_value, has_bad_threshold, is_out_of_order, is_past_limit, leaves_incomplete}
 use Rattle.page_model.specs.Pages.{AreFaultless}
 use Rattle.page_model.specs.Faults.{sample_breaks, owned_breaks, item_breaks, item_fault}
+use Rattle.sample_groups.specs.Parts.{is_grouped}
+use Rattle.sample_groups.specs.Sound.{IsSound, AreSound}
 use Rattle.family_rules.specs.Checking.{IsTextItem, AreTextItems}
-use Rattle.family_rules.proofs.Lists.{and_false, or_false, cond_none}
+use Rattle.family_rules.proofs.Lists.{or_false, cond_none}
 
--- ---- the kinds of the text format that are read
+-- ---- the kinds of the text format
 
 -- one value a sample, and no suffix
 abbrev pub is_plain : Kind → Bool
@@ -32,13 +36,47 @@ is_plain Gauge = true
 is_plain Unknown = true
 is_plain _ = false
 
+pub plain_or_grouped : (k : Kind) → not (is_info_or_state_set k) ≡ true → is_grouped k ≡ false → is_plain k ≡ true
+plain_or_grouped Counter h g = refl
+plain_or_grouped Gauge h g = refl
+plain_or_grouped Unknown h g = refl
+plain_or_grouped Histogram h g = absurd cc
+plain_or_grouped GaugeHistogram h g = absurd cc
+plain_or_grouped StateSet h g = absurd cc
+plain_or_grouped Info h g = absurd cc
+plain_or_grouped Summary h g = absurd cc
+
+plain_suffix : (k : Kind) (F name : List ℕ) → is_plain k ≡ true → is_sample_name Text k F name ≡ (bytes_eq name (F ++ []) || false)
+plain_suffix Counter F name h = refl
+plain_suffix Gauge F name h = refl
+plain_suffix Unknown F name h = refl
+plain_suffix Histogram F name h = absurd cc
+plain_suffix GaugeHistogram F name h = absurd cc
+plain_suffix StateSet F name h = absurd cc
+plain_suffix Info F name h = absurd cc
+plain_suffix Summary F name h = absurd cc
+
+not_false : (b : Bool) → not b ≡ false → b ≡ true
+not_false true h = refl
+not_false false h = absurd (let f : true ≡ false = h in cc)
+
+-- a sample of a plain kind has the name of its family
+pub plain_name : (st : Setting) (k : Kind) (F : List ℕ) (s : Sample) → st.format ≡ Text → is_plain k ≡ true → has_wrong_suffix st k F s ≡ false → s.name ≡ F
+unfolding has_wrong_suffix
+plain_name st k F s text plain h =
+    let fits : is_sample_name Text k F s.name ≡ true = ap (λ f. is_sample_name f k F s.name) (sym text) ∙ not_false (is_sample_name st.format k F s.name) h in
+    let same : bytes_eq s.name (F ++ []) ≡ true = sym (or_false (bytes_eq s.name (F ++ []))) ∙ sym (plain_suffix k F s.name plain) ∙ fits in
+    (bytes_decides s.name (F ++ [])).0 same ∙ append-nil F
+
+-- ---- what the lines above keep
+
 -- what the lines above keep of a line that breaks no rule
 pub record Fits (st : Setting) (above : List Owned) (o : Owned) : Type 0 where
   pub descriptor : is_late_descriptor above o ≡ false
   pub together : is_split above o ≡ false
   pub single : some_passes (is_duplicate st above) (sample_of_line o.item) ≡ false
-  pub named : IfSome (sample_of_line o.item) (λ (s : Sample). s.name ≡ o.family)
-  pub kind : IfSome (kind_of_line o.item) (λ k. is_plain k ≡ true)
+  pub sound : IfSome (sample_of_line o.item) (IsSound st (kind_of above o.family) o.family (samples_of above o.family))
+  pub kind : IfSome (kind_of_line o.item) (λ k. not (is_info_or_state_set k) ≡ true)
 
 -- each of the owned lines breaks no rule under those above it
 abbrev pub AreFit : Setting → List Owned → Type 0
@@ -46,72 +84,71 @@ AreFit st [] = ⊤
 AreFit st (o ∷ above) = Fits st above o × AreFit st above
 
 -- what holds of each kind that is declared, and of an unknown one, holds of the kind of a family
-module _ (P : Kind → Bool) (unknown : P Unknown ≡ true) (F : List ℕ) where
+module _ (P : Kind → Bool) (F : List ℕ) where
   first_kind : (b : Bool) (k : Option Kind) (rest : Option Kind) → IfSome k (λ k. P k ≡ true) → P (unwrap_or rest Unknown) ≡ true
       → P (unwrap_or (option_or (cond b k None) rest) Unknown) ≡ true
   first_kind false k rest h r = r
   first_kind true None rest h r = r
   first_kind true (Some k) rest h r = h
 
-if_some : {A : Type 0} (P Q : A → Type 0) (o : Option A) → ((x : A) → P x → Q x) → IfSome o P → IfSome o Q
-if_some P Q None f h = tt
-if_some P Q (Some x) f h = f x h
-
-pub plain_kind : (st : Setting) (above : List Owned) (F : List ℕ) → AreFit st above → is_plain (kind_of above F) ≡ true
+-- the kind of a family is one of the text format
+pub text_family : (st : Setting) (above : List Owned) (F : List ℕ) → AreFit st above → not (is_info_or_state_set (kind_of above F)) ≡ true
 unfolding kind_of
-plain_kind st [] F fit = refl
-plain_kind st (o ∷ above) F fit = first_kind is_plain refl F (is_of F o) (kind_of_line o.item) (first_some (declared_kind F) above) fit.0.kind (plain_kind st above F fit.1)
+text_family st [] F fit = refl
+text_family st (o ∷ above) F fit = first_kind (λ k. not (is_info_or_state_set k)) F (is_of F o) (kind_of_line o.item) (first_some (declared_kind F) above) fit.0.kind (text_family st above F fit.1)
 
-not_histogram : (k : Kind) → is_plain k ≡ true → is_histogram k ≡ false
-not_histogram Counter h = refl
-not_histogram Gauge h = refl
-not_histogram Unknown h = refl
-not_histogram Histogram h = absurd cc
-not_histogram GaugeHistogram h = absurd cc
-not_histogram StateSet h = absurd cc
-not_histogram Info h = absurd cc
-not_histogram Summary h = absurd cc
+pub or_parts : (a b : Bool) → (a || b) ≡ false → (a ≡ false) × (b ≡ false)
+or_parts true b h = absurd (let f : true ≡ false = h in cc)
+or_parts false b h = (refl, h)
 
-may_have_unit : (k : Kind) → is_plain k ≡ true → not (is_info_or_state_set k) ≡ true
-may_have_unit Counter h = refl
-may_have_unit Gauge h = refl
-may_have_unit Unknown h = refl
-may_have_unit Histogram h = absurd cc
-may_have_unit GaugeHistogram h = absurd cc
-may_have_unit StateSet h = absurd cc
-may_have_unit Info h = absurd cc
-may_have_unit Summary h = absurd cc
-
-plain_name : (k : Kind) (F name : List ℕ) → is_plain k ≡ true → is_sample_name Text k F name ≡ (bytes_eq name (F ++ []) || false)
-plain_name Counter F name h = refl
-plain_name Gauge F name h = refl
-plain_name Unknown F name h = refl
-plain_name Histogram F name h = absurd cc
-plain_name GaugeHistogram F name h = absurd cc
-plain_name StateSet F name h = absurd cc
-plain_name Info F name h = absurd cc
-plain_name Summary F name h = absurd cc
-
--- where all kinds are plain, a sample is owned by the family of its own name
-pub text_owner : (st : Setting) (above : List Owned) (name : List ℕ) → AreFit st above → sample_owner Text above name ≡ name
-unfolding sample_owner
-text_owner st [] name fit = refl
-text_owner st (n ∷ above) name fit =
-    ap (λ b. cond b n.family name) (plain_name (kind_of (n ∷ above) n.family) n.family name (plain_kind st (n ∷ above) n.family fit) ∙ or_false (bytes_eq name (n.family ++ [])))
-    ∙ by (bytes_eq name (n.family ++ [])) refl
+-- a family with a sample has no descriptor below it
+pub none_above : (above : List Owned) (F : List ℕ) (item : Item) → is_descriptor item ≡ true → is_late_descriptor above (record { family = F; item = item }) ≡ false → samples_of above F ≡ []
+unfolding is_late_descriptor samples_of
+none_above above F item d h = each above (sym (ap (λ b. b && list_any (λ o. is_of F o && (are_one_sort item o.item || is_sample o.item)) above) d) ∙ h)
   where
-    by : (b : Bool) → bytes_eq name (n.family ++ []) ≡ b → cond b n.family name ≡ name
-    by true e = sym ((bytes_decides name (n.family ++ [])).0 e ∙ append-nil n.family)
-    by false e = refl
+    no_sample : (p a : Bool) (other : Item) → (p && (a || is_sample other)) ≡ false → cond p (sample_of_line other) None ≡ None
+    no_sample false a other e = refl
+    no_sample true true other e = absurd (let f : true ≡ false = e in cc)
+    no_sample true false (items.Sample s) e = absurd (let f : true ≡ false = e in cc)
+    no_sample true false items.Blank e = refl
+    no_sample true false items.Comment e = refl
+    no_sample true false items.Eof e = refl
+    no_sample true false (items.Help n t) e = refl
+    no_sample true false (items.KindOf n k) e = refl
+    no_sample true false (items.Unit n u) e = refl
+
+    each : (above : List Owned) → list_any (λ o. is_of F o && (are_one_sort item o.item || is_sample o.item)) above ≡ false → samples_of above F ≡ []
+    each [] e = refl
+    each (o ∷ above) e =
+        let parts = or_parts (is_of F o && (are_one_sort item o.item || is_sample o.item)) (list_any (λ o. is_of F o && (are_one_sort item o.item || is_sample o.item)) above) e in
+        ap (λ x. cons_option x (samples_of above F)) (no_sample (is_of F o) (are_one_sort item o.item) o.item parts.0) ∙ each above parts.1
+
+-- the samples of a family break no rule on names, values, thresholds or their order, by the kind that the family has now
+pub sound_samples : (st : Setting) (above : List Owned) (F : List ℕ) → AreFit st above → AreSound st (kind_of above F) F (samples_of above F)
+unfolding kind_of samples_of
+sound_samples st [] F fit = tt
+sound_samples st (o ∷ above) F fit = by (is_of F o) o.item refl refl (sound_samples st above F fit.1)
+  where
+    by : (b : Bool) (item : Item) → is_of F o ≡ b → o.item ≡ item → AreSound st (kind_of above F) F (samples_of above F)
+        → AreSound st (unwrap_or (option_or (cond b (kind_of_line item) None) (first_some (declared_kind F) above)) Unknown) F (cons_option (cond b (sample_of_line item) None) (samples_of above F))
+    by false item e same ih = ih
+    by true items.Blank e same ih = ih
+    by true items.Comment e same ih = ih
+    by true items.Eof e same ih = ih
+    by true (items.Help n t) e same ih = ih
+    by true (items.Unit n u) e same ih = ih
+    by true (items.KindOf n k) e same ih =
+        let late : is_late_descriptor above (record { family = o.family; item = items.KindOf n k }) ≡ false = ap (λ i. is_late_descriptor above (record { family = o.family; item = i })) (sym same) ∙ fit.0.descriptor in
+        let none : samples_of above F ≡ [] = ap (samples_of above) (sym ((bytes_decides o.family F).0 e)) ∙ none_above above o.family (items.KindOf n k) refl late in
+        subst (AreSound st k F) (sym none) tt
+    by true (items.Sample s) e same ih =
+        let own : IfSome (sample_of_line (items.Sample s)) (IsSound st (kind_of above o.family) o.family (samples_of above o.family)) =
+        subst (λ i. IfSome (sample_of_line i) (IsSound st (kind_of above o.family) o.family (samples_of above o.family))) same fit.0.sound in
+        (subst (λ G. IsSound st (kind_of above G) G (samples_of above G) s) ((bytes_decides o.family F).0 e) own, ih)
 
 -- ---- rules that no line of these breaks
 
-pub nothing_left : (st : Setting) (above : List Owned) (owner : Option (List ℕ)) → AreFit st above → leaves_incomplete st above owner ≡ false
-unfolding leaves_incomplete is_incomplete
-nothing_left st [] owner fit = refl
-nothing_left st (n ∷ above) owner fit = rw (not_histogram (kind_of (n ∷ above) n.family) (plain_kind st (n ∷ above) n.family fit)) (and_false (not (some_passes (λ family. is_of family n) owner)))
-
-not_behind_end : (st : Setting) (earlier : List Item) → st.format ≡ Text → is_after_eof st earlier ≡ false
+pub not_behind_end : (st : Setting) (earlier : List Item) → st.format ≡ Text → is_after_eof st earlier ≡ false
 unfolding is_after_eof
 not_behind_end st earlier text = rw text refl
 
@@ -132,8 +169,8 @@ no_unit_forbidden : (st : Setting) (above : List Owned) (line : Owned) → AreFi
 unfolding has_forbidden_unit kind_of
 no_unit_forbidden st above line fit text =
     let allowed : not (is_info_or_state_set (kind_of (line ∷ above) line.family)) ≡ true =
-    first_kind (λ k. not (is_info_or_state_set k)) refl line.family (is_of line.family line) (kind_of_line line.item) (first_some (declared_kind line.family) above)
-    (text_kind line.item text) (may_have_unit (kind_of above line.family) (plain_kind st above line.family fit)) in
+    first_kind (λ k. not (is_info_or_state_set k)) line.family (is_of line.family line) (kind_of_line line.item) (first_some (declared_kind line.family) above)
+    (text_kind line.item text) (text_family st above line.family fit) in
     rw (not_true (is_info_or_state_set (kind_of (line ∷ above) line.family)) allowed) refl
 
 pub drop_all : (xs : List ℕ) → drop (length xs) xs ≡ []
@@ -188,46 +225,96 @@ value_allowed st k s text plain = rw (plain_value k s plain, text) refl
 
 -- ---- the fault of an item
 
+-- Value, Threshold or Order, under the samples of the family above it
+abbrev pub measure_fault : Setting → Kind → List ℕ → List Sample → Sample → Option Rule
+measure_fault st k F samples s = cond (has_bad_value st.format k F s) (Some rules.Value) (cond (has_bad_threshold k F s) (Some rules.Threshold) (cond (is_out_of_order st k F samples s) (Some rules.Order) None))
+
+-- a sample of a plain kind breaks none of them
+pub plain_measure : (st : Setting) (k : Kind) (F : List ℕ) (samples : List Sample) (s : Sample) → st.format ≡ Text → is_plain k ≡ true → s.name ≡ F → measure_fault st k F samples s ≡ None
+plain_measure st k F samples s text plain name =
+    let valued : has_bad_value st.format k F s ≡ false = subst (λ G. has_bad_value st.format k G s ≡ false) name (value_allowed st k s text plain) in
+    rw (valued, plain_threshold k F s plain, plain_order st k F samples s plain) refl
+
+-- Incomplete
+abbrev pub left_fault : Setting → List Owned → Option (List ℕ) → Option Rule
+left_fault st above owner = cond (leaves_incomplete st above owner) (Some rules.Incomplete) None
+
+-- Descriptor, Split or Incomplete
+abbrev pub place_fault : Setting → List Owned → Owned → Option Rule
+place_fault st above line = cond (is_late_descriptor above line) (Some rules.Descriptor) (cond (is_split above line) (Some rules.Split) (left_fault st above (Some line.family)))
+
+-- the family of a descriptor
+abbrev pub described : Item → List ℕ
+described (items.Help name text) = name
+described (items.KindOf name kind) = name
+described (items.Unit name unit) = name
+described _ = []
+
+-- Unit, of a UNIT line
+abbrev pub unit_fault : Item → Option Rule
+unit_fault (items.Unit name unit) = cond (is_foreign_unit name unit) (Some rules.Unit) None
+unit_fault _ = None
+
+-- the rules of a sample of an allowed name
+abbrev pub rest_fault : Setting → List Item → List ℕ → Sample → Option Rule
+rest_fault st earlier F s = let above = owned_lines st.format earlier in
+    cond (is_duplicate st above s) (Some rules.Duplicate)
+    (option_or (option_or (measure_fault st (kind_of above F) F (samples_of above F) s) (left_fault st above (Some F))) (cond (is_past_limit st earlier) (Some rules.TooMany) None))
+
+-- the rules of the rest, one behind the other and in three parts
+chain : (v t o l p : Bool) → cond v (Some rules.Value) (cond t (Some rules.Threshold) (cond o (Some rules.Order) (cond l (Some rules.Incomplete) (cond p (Some rules.TooMany) None))))
+    ≡ option_or (option_or (cond v (Some rules.Value) (cond t (Some rules.Threshold) (cond o (Some rules.Order) None))) (cond l (Some rules.Incomplete) None)) (cond p (Some rules.TooMany) None)
+chain true t o l p = refl
+chain false true o l p = refl
+chain false false true l p = refl
+chain false false false true p = refl
+chain false false false false p = refl
+
+-- the rules of a place and what stands behind them
+chain_unit : (a b c : Bool) (rest : Option Rule) → cond a (Some rules.Descriptor) (cond b (Some rules.Split) (cond c (Some rules.Incomplete) rest)) ≡ option_or (cond a (Some rules.Descriptor) (cond b (Some rules.Split) (cond c (Some rules.Incomplete) None))) rest
+chain_unit true b c rest = refl
+chain_unit false true c rest = refl
+chain_unit false false true rest = refl
+chain_unit false false false rest = refl
+
 module _ (st : Setting) (earlier : List Item) (format : st.format ≡ Text) (fit : AreFit st (owned_lines st.format earlier)) where
   abbrev lines : List Owned
   lines = owned_lines st.format earlier
 
-  pub help_fault : (name text : List ℕ) → let line : Owned = record { family = name; item = items.Help name text } in
-      item_fault st earlier (items.Help name text) ≡ cond (is_late_descriptor lines line) (Some rules.Descriptor) (cond (is_split lines line) (Some rules.Split) None)
+  pub described_fault : (item : Item) → is_descriptor item ≡ true → IsTextItem item
+      → item_fault st earlier item ≡ option_or (place_fault st lines (record { family = described item; item = item })) (unit_fault item)
   unfolding item_fault item_breaks owned_breaks is_bad_unit
-  help_fault name text = rw (not_behind_end st earlier format, nothing_left st lines (Some name) fit, no_unit_forbidden st lines (record { family = name; item = items.Help name text }) fit tt) refl
+  described_fault (items.Help name text) d t =
+      let line : Owned = record { family = name; item = items.Help name text } in
+      rw (not_behind_end st earlier format, no_unit_forbidden st lines line fit tt)
+      (chain_unit (is_late_descriptor lines line) (is_split lines line) (leaves_incomplete st lines (Some name)) None)
+  described_fault (items.KindOf name kind) d t =
+      let line : Owned = record { family = name; item = items.KindOf name kind } in
+      rw (not_behind_end st earlier format, no_unit_forbidden st lines line fit t)
+      (chain_unit (is_late_descriptor lines line) (is_split lines line) (leaves_incomplete st lines (Some name)) None)
+  described_fault (items.Unit name unit) d t =
+      let line : Owned = record { family = name; item = items.Unit name unit } in
+      rw (not_behind_end st earlier format, no_unit_forbidden st lines line fit tt, or_false (is_foreign_unit name unit))
+      (chain_unit (is_late_descriptor lines line) (is_split lines line) (leaves_incomplete st lines (Some name)) (cond (is_foreign_unit name unit) (Some rules.Unit) None))
+  described_fault items.Blank d t = absurd (let f : false ≡ true = d in cc)
+  described_fault items.Comment d t = absurd (let f : false ≡ true = d in cc)
+  described_fault items.Eof d t = absurd (let f : false ≡ true = d in cc)
+  described_fault (items.Sample s) d t = absurd (let f : false ≡ true = d in cc)
 
-  pub kind_fault : (name : List ℕ) (kind : Kind) → IsTextItem (items.KindOf name kind) → let line : Owned = record { family = name; item = items.KindOf name kind } in
-      item_fault st earlier (items.KindOf name kind)
-      ≡ cond (is_late_descriptor lines line) (Some rules.Descriptor) (cond (is_split lines line) (Some rules.Split) (cond (is_not_built kind) (Some rules.NotBuilt) None))
-  unfolding item_fault item_breaks owned_breaks is_bad_unit
-  kind_fault name kind text = rw (not_behind_end st earlier format, nothing_left st lines (Some name) fit, no_unit_forbidden st lines (record { family = name; item = items.KindOf name kind }) fit text) refl
-
-  pub unit_fault : (name unit : List ℕ) → let line : Owned = record { family = name; item = items.Unit name unit } in
-      item_fault st earlier (items.Unit name unit)
-      ≡ cond (is_late_descriptor lines line) (Some rules.Descriptor) (cond (is_split lines line) (Some rules.Split) (cond (is_foreign_unit name unit) (Some rules.Unit) None))
-  unfolding item_fault item_breaks owned_breaks is_bad_unit
-  unit_fault name unit = rw (not_behind_end st earlier format, nothing_left st lines (Some name) fit, no_unit_forbidden st lines (record { family = name; item = items.Unit name unit }) fit tt)
-      (rw (or_false (is_foreign_unit name unit)) refl)
-
-  pub sample_fault : (s : Sample) → s.exemplar ≡ None → let line : Owned = record { family = sample_owner st.format lines s.name; item = items.Sample s } in
-      item_fault st earlier (items.Sample s)
-      ≡ cond (is_split lines line) (Some rules.Split) (cond (has_wrong_suffix st (kind_of lines line.family) line.family s) (Some rules.Suffix)
-      (cond (is_duplicate st lines s) (Some rules.Duplicate) (cond (is_past_limit st earlier) (Some rules.TooMany) None)))
+  pub sample_fault : (s : Sample) (F : List ℕ) → s.exemplar ≡ None → sample_owner st.format lines s.name ≡ F
+      → item_fault st earlier (items.Sample s)
+      ≡ cond (is_split lines (record { family = F; item = items.Sample s })) (Some rules.Split) (cond (has_wrong_suffix st (kind_of lines F) F s) (Some rules.Suffix) (rest_fault st earlier F s))
   unfolding item_fault item_breaks owned_breaks sample_breaks is_late_descriptor is_bad_unit
-  sample_fault s plain =
-      let owner : sample_owner st.format lines s.name ≡ s.name = ap (λ f. sample_owner f lines s.name) format ∙ text_owner st lines s.name fit in
-      let kind : is_plain (kind_of lines s.name) ≡ true = plain_kind st lines s.name fit in
+  sample_fault s F plain owner =
       rw (
         owner,
         not_behind_end st earlier format,
-        nothing_left st lines (Some s.name) fit,
-        no_exemplar (kind_of lines s.name) s.name s plain,
-        not_interleaved st (kind_of lines s.name) s.name (samples_of lines s.name) s format,
-        value_allowed st (kind_of lines s.name) s format kind,
-        plain_threshold (kind_of lines s.name) s.name s kind,
-        plain_order st (kind_of lines s.name) s.name (samples_of lines s.name) s kind,
-      ) refl
+        no_exemplar (kind_of lines F) F s plain,
+        not_interleaved st (kind_of lines F) F (samples_of lines F) s format,
+      )
+      (ap (λ r. cond (is_split lines (record { family = F; item = items.Sample s })) (Some rules.Split) (cond (has_wrong_suffix st (kind_of lines F) F s) (Some rules.Suffix) (cond (is_duplicate st lines s) (Some rules.Duplicate) r)))
+      (chain (has_bad_value st.format (kind_of lines F) F s) (has_bad_threshold (kind_of lines F) F s) (is_out_of_order st (kind_of lines F) F (samples_of lines F) s)
+      (leaves_incomplete st lines (Some F)) (is_past_limit st earlier)))
 
   pub comment_fault : item_fault st earlier items.Comment ≡ None
   unfolding item_fault item_breaks
@@ -237,64 +324,69 @@ module _ (st : Setting) (earlier : List Item) (format : st.format ≡ Text) (fit
   unfolding item_fault item_breaks
   blank_fault = rw (not_behind_end st earlier format) refl
 
-  pub eof_fault : item_fault st earlier items.Eof ≡ None
+  pub eof_fault : item_fault st earlier items.Eof ≡ left_fault st lines None
   unfolding item_fault item_breaks
-  eof_fault = rw (not_behind_end st earlier format, nothing_left st lines None fit) refl
+  eof_fault = rw (not_behind_end st earlier format) refl
 
 -- ---- lines without a fault
-
-built_plain : (k : Kind) → is_not_built k ≡ false → not (is_info_or_state_set k) ≡ true → is_plain k ≡ true
-unfolding is_not_built
-built_plain Counter h i = refl
-built_plain Gauge h i = refl
-built_plain Unknown h i = refl
-built_plain Histogram h i = absurd (let f : true ≡ false = h in cc)
-built_plain GaugeHistogram h i = absurd (let f : true ≡ false = h in cc)
-built_plain StateSet h i = absurd (let f : false ≡ true = i in cc)
-built_plain Info h i = absurd (let f : false ≡ true = i in cc)
-built_plain Summary h i = absurd (let f : true ≡ false = h in cc)
 
 late_sample : (above : List Owned) (F : List ℕ) (s : Sample) → is_late_descriptor above (record { family = F; item = items.Sample s }) ≡ false
 unfolding is_late_descriptor
 late_sample above F s = refl
 
+option_none : (a b : Option Rule) → option_or a b ≡ None → (a ≡ None) × (b ≡ None)
+option_none None b h = (refl, h)
+option_none (Some r) b h = absurd (let f : Some r ≡ None = h in cc)
+
 module _ (st : Setting) (earlier : List Item) (format : st.format ≡ Text) (fit : AreFit st (owned_lines st.format earlier)) where
+  abbrev above : List Owned
+  above = owned_lines st.format earlier
+
+  -- a descriptor without a fault by its place
+  fit_described : (item : Item) → is_descriptor item ≡ true → IsTextItem item → item_fault st earlier item ≡ None
+      → (is_late_descriptor above (record { family = described item; item = item }) ≡ false) × (is_split above (record { family = described item; item = item }) ≡ false)
+  fit_described item d text none =
+      let line : Owned = record { family = described item; item = item } in
+      let place = option_none (place_fault st above line) (unit_fault item) (sym (described_fault st earlier format fit item d text) ∙ none) in
+      let late = cond_none (is_late_descriptor above line) rules.Descriptor (cond (is_split above line) (Some rules.Split) (left_fault st above (Some (described item)))) place.0 in
+      let split = cond_none (is_split above line) rules.Split (left_fault st above (Some (described item))) late.1 in
+      (late.0, split.0)
+
+  fit_sample : (s : Sample) (F : List ℕ) → s.exemplar ≡ None → sample_owner st.format above s.name ≡ F → item_fault st earlier (items.Sample s) ≡ None → Fits st above (record { family = F; item = items.Sample s })
+  fit_sample s F plain owner none =
+      let o : Owned = record { family = F; item = items.Sample s } in
+      let k : Kind = kind_of above F in
+      let split = cond_none (is_split above o) rules.Split _ (sym (sample_fault st earlier format fit s F plain owner) ∙ none) in
+      let suffix = cond_none (has_wrong_suffix st k F s) rules.Suffix _ split.1 in
+      let double = cond_none (is_duplicate st above s) rules.Duplicate _ suffix.1 in
+      let rest = option_none (option_or (measure_fault st k F (samples_of above F) s) (left_fault st above (Some F))) _ double.1 in
+      let measure = option_none (measure_fault st k F (samples_of above F) s) (left_fault st above (Some F)) rest.0 in
+      let value = cond_none (has_bad_value st.format k F s) rules.Value _ measure.0 in
+      let place = cond_none (has_bad_threshold k F s) rules.Threshold _ value.1 in
+      let order = cond_none (is_out_of_order st k F (samples_of above F) s) rules.Order _ place.1 in
+      record {
+        descriptor = late_sample above F s;
+        together = split.0;
+        single = double.0;
+        sound = record { named = suffix.0; valued = value.0; placed = place.0; ordered = order.0 };
+        kind = tt;
+      }
+
   fit_item : (item : Item) → IsTextItem item → item_fault st earlier item ≡ None
       → AreFit st (with_owner (owner_of st.format (owned_lines st.format earlier) item) item (owned_lines st.format earlier))
   fit_item items.Blank text none = fit
   fit_item items.Comment text none = fit
   fit_item items.Eof text none = fit
   fit_item (items.Help name t) text none =
-      let o : Owned = record { family = name; item = items.Help name t } in
-      let late = cond_none (is_late_descriptor (owned_lines st.format earlier) o) rules.Descriptor _ (sym (help_fault st earlier format fit name t) ∙ none) in
-      let split = cond_none (is_split (owned_lines st.format earlier) o) rules.Split _ late.1 in
-      (record { descriptor = late.0; together = split.0; single = refl; named = tt; kind = tt }, fit)
+      let place = fit_described (items.Help name t) refl text none in
+      (record { descriptor = place.0; together = place.1; single = refl; sound = tt; kind = tt }, fit)
   fit_item (items.KindOf name k) text none =
-      let o : Owned = record { family = name; item = items.KindOf name k } in
-      let late = cond_none (is_late_descriptor (owned_lines st.format earlier) o) rules.Descriptor _ (sym (kind_fault st earlier format fit name k text) ∙ none) in
-      let split = cond_none (is_split (owned_lines st.format earlier) o) rules.Split _ late.1 in
-      let built = cond_none (is_not_built k) rules.NotBuilt _ split.1 in
-      (record { descriptor = late.0; together = split.0; single = refl; named = tt; kind = built_plain k built.0 text }, fit)
+      let place = fit_described (items.KindOf name k) refl text none in
+      (record { descriptor = place.0; together = place.1; single = refl; sound = tt; kind = text }, fit)
   fit_item (items.Unit name u) text none =
-      let o : Owned = record { family = name; item = items.Unit name u } in
-      let late = cond_none (is_late_descriptor (owned_lines st.format earlier) o) rules.Descriptor _ (sym (unit_fault st earlier format fit name u) ∙ none) in
-      let split = cond_none (is_split (owned_lines st.format earlier) o) rules.Split _ late.1 in
-      (record { descriptor = late.0; together = split.0; single = refl; named = tt; kind = tt }, fit)
-  fit_item (items.Sample s) text none =
-      let owner : List ℕ = sample_owner st.format (owned_lines st.format earlier) s.name in
-      let o : Owned = record { family = owner; item = items.Sample s } in
-      let split = cond_none (is_split (owned_lines st.format earlier) o) rules.Split _ (sym (sample_fault st earlier format fit s text) ∙ none) in
-      let suffix = cond_none (has_wrong_suffix st (kind_of (owned_lines st.format earlier) owner) owner s) rules.Suffix _ split.1 in
-      let double = cond_none (is_duplicate st (owned_lines st.format earlier) s) rules.Duplicate _ suffix.1 in (
-        record {
-          descriptor = late_sample (owned_lines st.format earlier) owner s;
-          together = split.0;
-          single = double.0;
-          named = sym (ap (λ f. sample_owner f (owned_lines st.format earlier) s.name) format ∙ text_owner st (owned_lines st.format earlier) s.name fit);
-          kind = tt;
-        },
-        fit,
-      )
+      let place = fit_described (items.Unit name u) refl text none in
+      (record { descriptor = place.0; together = place.1; single = refl; sound = tt; kind = tt }, fit)
+  fit_item (items.Sample s) text none = (fit_sample s (sample_owner st.format (owned_lines st.format earlier) s.name) text refl none, fit)
 
 pub fit_lines : (st : Setting) (earlier : List Item) → st.format ≡ Text → AreTextItems earlier → AreFaultless st earlier → AreFit st (owned_lines st.format earlier)
 unfolding owned_lines

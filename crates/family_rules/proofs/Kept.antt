@@ -9,17 +9,21 @@ use Rattle.std.proofs.lemmas.List.{append-nil, map-append}
 use Rattle.std.proofs.lemmas.List.Elements.{filter_map-append}
 use Rattle.std.proofs.lemmas.List.Folds.{list_any-append}
 use Rattle.label_sets.specs.declared.kind.Kind.{Kind}
+use Rattle.label_sets.specs.declared.label_set.LabelSet.{LabelSet}
 use Rattle.label_sets.specs.Lists.{first_of_each}
 use Rattle.page_model.specs.declared.item.Item.{Item}
 use Rattle.page_model.specs.declared.item.Item.TheVariants as items
 use Rattle.page_model.specs.declared.item.Sample.{Sample}
 use Rattle.page_model.specs.Written.{Setting}
 use Rattle.page_model.specs.Items.{is_sample, sample_of_line, kind_of_line, help_of_line, unit_of_line, are_one_sort, is_descriptor}
-use Rattle.page_model.specs.Owners.{Owned, is_of, samples_of, sample_in}
-use Rattle.page_model.specs.Rules.{is_late_descriptor, is_split}
+use Rattle.page_model.specs.Owners.{Owned, is_of, kind_of, samples_of, sample_in}
+use Rattle.page_model.specs.Rules.{is_late_descriptor, is_split, sample_group}
 use Rattle.page_model.specs.Readings.{families_of}
+use Rattle.sample_groups.specs.Groups.{Gathered, groups_from, with_part}
+use Rattle.sample_groups.specs.Parts.{is_grouped, entry_of, part_of}
+use Rattle.sample_groups.proofs.Steps.{one_part_more}
 use Rattle.family_rules.specs.declared.family.FamilySoFar.{FamilySoFar}
-use Rattle.family_rules.specs.Checking.{so_far, no_lines, left_before, has_samples, has_sort}
+use Rattle.family_rules.specs.Checking.{groups_in, so_far, no_lines, left_before, has_samples, has_sort}
 use Rattle.family_rules.proofs.Lists.{or_false, bytes_same, bytes_swap, reverse-cons, first_of_each-snoc, list_any-map, list_any-reverse}
 use Rattle.family_rules.proofs.Faults.{AreFit}
 
@@ -104,15 +108,14 @@ pub none_of_other : (o : Owned) (G : List ℕ) → bytes_eq o.family G ≡ false
 unfolding samples_of
 none_of_other o G e = rw e refl
 
--- a line of another family changes nothing
-pub so_far-other : (o : Owned) (above : List Owned) (G : List ℕ) → bytes_eq o.family G ≡ false → so_far (o ∷ above) G ≡ so_far above G
-unfolding so_far
-so_far-other o above G e =
-    let values : samples_of (reverse (o ∷ above)) G ≡ samples_of (reverse above) G =
-    samples_of-reverse o above G ∙ ap (λ l. samples_of (reverse above) G ++ l) (none_of_other o G e) ∙ append-nil (samples_of (reverse above) G) in
-    rw (e, values) refl
-
--- ---- a line of the family itself
+pub reversed_samples : (above : List Owned) (F : List ℕ) → samples_of (reverse above) F ≡ reverse (samples_of above F)
+unfolding samples_of
+reversed_samples [] F = refl
+reversed_samples (o ∷ above) F = samples_of-reverse o above F ∙ ap (λ l. l ++ samples_of (o ∷ []) F) (reversed_samples above F) ∙ by (sample_in F o)
+  where
+    by : (s : Option Sample) → reverse (samples_of above F) ++ cons_option s [] ≡ reverse (cons_option s (samples_of above F))
+    by None = append-nil (reverse (samples_of above F))
+    by (Some t) = sym (reverse-cons t (samples_of above F))
 
 one_option : {A : Type 0} (o : Option A) → cons_option o [] ≡ option_to_list o
 one_option None = refl
@@ -126,40 +129,83 @@ pub own_samples : (F : List ℕ) (item : Item) (above : List Owned)
     → samples_of (reverse (record { family = F; item = item } ∷ above)) F ≡ samples_of (reverse above) F ++ option_to_list (sample_of_line item)
 own_samples F item above = samples_of-reverse (record { family = F; item = item }) above F ∙ ap (λ l. samples_of (reverse above) F ++ l) (own_line F item)
 
-pub so_far-help : (F text : List ℕ) (above : List Owned) → so_far (record { family = F; item = items.Help F text } ∷ above) F ≡ record (so_far above F) { help = Some text }
-unfolding so_far
-so_far-help F text above =
-    let values = own_samples F (items.Help F text) above ∙ append-nil (samples_of (reverse above) F) in
-    rw (bytes_same F, values) refl
+-- ---- groups
 
-pub so_far-kind : (F : List ℕ) (kind : Kind) (above : List Owned) → so_far (record { family = F; item = items.KindOf F kind } ∷ above) F ≡ record (so_far above F) { kind = Some kind }
-unfolding so_far
-so_far-kind F kind above =
-    let values = own_samples F (items.KindOf F kind) above ∙ append-nil (samples_of (reverse above) F) in
-    rw (bytes_same F, values) refl
-
-pub so_far-unit : (F unit : List ℕ) (above : List Owned) → so_far (record { family = F; item = items.Unit F unit } ∷ above) F ≡ record (so_far above F) { unit = Some unit }
-unfolding so_far
-so_far-unit F unit above =
-    let values = own_samples F (items.Unit F unit) above ∙ append-nil (samples_of (reverse above) F) in
-    rw (bytes_same F, values) refl
-
-pub so_far-sample : (F : List ℕ) (s : Sample) (above : List Owned)
-    → so_far (record { family = F; item = items.Sample s } ∷ above) F ≡ record (so_far above F) { values = (so_far above F).values ++ s.value ∷ [] }
-unfolding so_far
-so_far-sample F s above =
-    let values = ap (map (λ (t : Sample). t.value)) (own_samples F (items.Sample s) above) ∙ map-append (λ (t : Sample). t.value) (samples_of (reverse above) F) (s ∷ []) in
-    rw (bytes_same F, values) refl
-
--- nothing is known of a family without lines
-pub so_far-none : (above : List Owned) (F : List ℕ) → list_any (is_of F) above ≡ false → so_far above F ≡ no_lines
-unfolding so_far samples_of
-so_far-none [] F none = refl
-so_far-none (o ∷ above) F none = by (bytes_eq o.family F) refl none (so_far-none above F)
+-- no samples make no groups
+no_groups : (st : Setting) (k : Kind) (F : List ℕ) → groups_in st k F [] ≡ []
+unfolding groups_in groups_from
+no_groups st k F = by (is_grouped k)
   where
-    by : (b : Bool) → bytes_eq o.family F ≡ b → (b || list_any (is_of F) above) ≡ false → (list_any (is_of F) above ≡ false → so_far above F ≡ no_lines) → so_far (o ∷ above) F ≡ no_lines
-    by true e h ih = absurd (let f : true ≡ false = h in cc)
-    by false e h ih = so_far-other o above F e ∙ ih h
+    by : (b : Bool) → cond {A = List (LabelSet × Gathered)} b [] [] ≡ []
+    by true = refl
+    by false = refl
+
+-- the groups of a kind with one sample more
+abbrev pub grown : Setting → Kind → List ℕ → Sample → List (LabelSet × Gathered) → List (LabelSet × Gathered)
+grown st k F s groups = cond (is_grouped k) (with_part groups (sample_group st k F s) (part_of F s)) []
+
+groups_more : (st : Setting) (k : Kind) (F : List ℕ) (samples : List Sample) (s : Sample) → groups_in st k F (samples ++ s ∷ []) ≡ grown st k F s (groups_in st k F samples)
+unfolding groups_in
+groups_more st k F samples s = by (is_grouped k)
+  where
+    by : (b : Bool) → cond b (groups_from (map (entry_of st k F) (samples ++ s ∷ []))) []
+        ≡ cond b (with_part (cond b (groups_from (map (entry_of st k F) samples)) []) (sample_group st k F s) (part_of F s)) []
+    by true = ap groups_from (map-append (entry_of st k F) samples (s ∷ [])) ∙ one_part_more (map (entry_of st k F) samples) (entry_of st k F s)
+    by false = refl
+
+-- ---- one line more
+
+module _ (st : Setting) where
+  -- a line of another family changes nothing
+  pub so_far-other : (o : Owned) (above : List Owned) (G : List ℕ) → bytes_eq o.family G ≡ false → so_far st (o ∷ above) G ≡ so_far st above G
+  unfolding so_far kind_of
+  so_far-other o above G e =
+      let values : samples_of (reverse (o ∷ above)) G ≡ samples_of (reverse above) G =
+      samples_of-reverse o above G ∙ ap (λ l. samples_of (reverse above) G ++ l) (none_of_other o G e) ∙ append-nil (samples_of (reverse above) G) in
+      rw (e, values) refl
+
+  pub so_far-help : (F text : List ℕ) (above : List Owned) → so_far st (record { family = F; item = items.Help F text } ∷ above) F ≡ record (so_far st above F) { help = Some text }
+  unfolding so_far kind_of
+  so_far-help F text above =
+      let values = own_samples F (items.Help F text) above ∙ append-nil (samples_of (reverse above) F) in
+      rw (bytes_same F, values) refl
+
+  -- a TYPE line stands above all samples
+  pub so_far-kind : (F : List ℕ) (kind : Kind) (above : List Owned) → samples_of (reverse above) F ≡ []
+      → so_far st (record { family = F; item = items.KindOf F kind } ∷ above) F ≡ record (so_far st above F) { kind = Some kind }
+  unfolding so_far kind_of
+  so_far-kind F kind above none =
+      let values = own_samples F (items.KindOf F kind) above ∙ append-nil (samples_of (reverse above) F) in
+      let groups : groups_in st kind F (samples_of (reverse above) F) ≡ groups_in st (kind_of above F) F (samples_of (reverse above) F) =
+      ap (groups_in st kind F) none ∙ no_groups st kind F ∙ sym (ap (groups_in st (kind_of above F) F) none ∙ no_groups st (kind_of above F) F) in
+      rw (bytes_same F, values, groups) refl
+
+  pub so_far-unit : (F unit : List ℕ) (above : List Owned) → so_far st (record { family = F; item = items.Unit F unit } ∷ above) F ≡ record (so_far st above F) { unit = Some unit }
+  unfolding so_far kind_of
+  so_far-unit F unit above =
+      let values = own_samples F (items.Unit F unit) above ∙ append-nil (samples_of (reverse above) F) in
+      rw (bytes_same F, values) refl
+
+  pub so_far-sample : (F : List ℕ) (s : Sample) (above : List Owned)
+      → so_far st (record { family = F; item = items.Sample s } ∷ above) F
+      ≡ record (so_far st above F) { values = (so_far st above F).values ++ s.value ∷ []; groups = grown st (kind_of above F) F s (so_far st above F).groups }
+  unfolding so_far kind_of
+  so_far-sample F s above =
+      let samples = own_samples F (items.Sample s) above in
+      let values : map (λ (t : Sample). t.value) (samples_of (reverse above) F ++ s ∷ []) ≡ map (λ (t : Sample). t.value) (samples_of (reverse above) F) ++ s.value ∷ [] =
+      map-append (λ (t : Sample). t.value) (samples_of (reverse above) F) (s ∷ []) in
+      let groups = groups_more st (kind_of above F) F (samples_of (reverse above) F) s in
+      rw (bytes_same F, samples, values, groups) refl
+
+  -- nothing is known of a family without lines
+  pub so_far-none : (above : List Owned) (F : List ℕ) → list_any (is_of F) above ≡ false → so_far st above F ≡ no_lines
+  unfolding so_far samples_of kind_of groups_in
+  so_far-none [] F none = refl
+  so_far-none (o ∷ above) F none = by (bytes_eq o.family F) refl none (so_far-none above F)
+    where
+      by : (b : Bool) → bytes_eq o.family F ≡ b → (b || list_any (is_of F) above) ≡ false → (list_any (is_of F) above ≡ false → so_far st above F ≡ no_lines) → so_far st (o ∷ above) F ≡ no_lines
+      by true e h ih = absurd (let f : true ≡ false = h in cc)
+      by false e h ih = so_far-other o above F e ∙ ih h
 
 -- ---- descriptors
 
@@ -186,16 +232,16 @@ some_value true (items.Help n t) = refl
 some_value true (items.KindOf n k) = refl
 some_value true (items.Unit n u) = refl
 
-some_sample : (above : List Owned) (F : List ℕ) → has_samples (so_far above F) ≡ list_any (λ o. is_of F o && is_sample o.item) above
+some_sample : (st : Setting) (above : List Owned) (F : List ℕ) → has_samples (so_far st above F) ≡ list_any (λ o. is_of F o && is_sample o.item) above
 unfolding so_far samples_of
-some_sample [] F = refl
-some_sample (o ∷ above) F =
+some_sample st [] F = refl
+some_sample st (o ∷ above) F =
     ap (λ l. not (length (map (λ (s : Sample). s.value) l) == 0)) (samples_of-reverse o above F)
     ∙ ap (λ l. not (length l == 0)) (map-append (λ (s : Sample). s.value) (samples_of (reverse above) F) (samples_of (o ∷ []) F))
     ∙ not_zero-append (map (λ (s : Sample). s.value) (samples_of (reverse above) F)) (map (λ (s : Sample). s.value) (samples_of (o ∷ []) F))
-    ∙ or_swap (has_samples (so_far above F)) (not (length (map (λ (s : Sample). s.value) (samples_of (o ∷ []) F)) == 0))
-    ∙ ap (λ b. b || has_samples (so_far above F)) (some_value (is_of F o) o.item)
-    ∙ ap (λ b. (is_of F o && is_sample o.item) || b) (some_sample above F)
+    ∙ or_swap (has_samples (so_far st above F)) (not (length (map (λ (s : Sample). s.value) (samples_of (o ∷ []) F)) == 0))
+    ∙ ap (λ b. b || has_samples (so_far st above F)) (some_value (is_of F o) o.item)
+    ∙ ap (λ b. (is_of F o && is_sample o.item) || b) (some_sample st above F)
 
 -- a descriptor of the same sort, by the sorts
 sort_step : (item other : Item) (b : Bool) (f : FamilySoFar)
@@ -249,11 +295,11 @@ sort_alike (items.KindOf n t) f g h k u = ap is_some k
 sort_alike (items.Unit n t) f g h k u = ap is_some u
 sort_alike (items.Sample s) f g h k u = refl
 
-same_sort : (above : List Owned) (F : List ℕ) (item : Item) → is_descriptor item ≡ true → has_sort item (so_far above F) ≡ list_any (λ o. is_of F o && are_one_sort item o.item) above
+same_sort : (st : Setting) (above : List Owned) (F : List ℕ) (item : Item) → is_descriptor item ≡ true → has_sort item (so_far st above F) ≡ list_any (λ o. is_of F o && are_one_sort item o.item) above
 unfolding so_far
-same_sort [] F item h = by item
+same_sort st [] F item h = by item
   where
-    by : (item : Item) → has_sort item (so_far [] F) ≡ false
+    by : (item : Item) → has_sort item (so_far st [] F) ≡ false
     by items.Blank = refl
     by items.Comment = refl
     by items.Eof = refl
@@ -261,14 +307,14 @@ same_sort [] F item h = by item
     by (items.KindOf n k) = refl
     by (items.Unit n u) = refl
     by (items.Sample s) = refl
-same_sort (o ∷ above) F item h =
-    sort_alike item (so_far (o ∷ above) F) (record (so_far above F) {
-      help = option_or (cond (is_of F o) (help_of_line o.item) None) (so_far above F).help;
-      kind = option_or (cond (is_of F o) (kind_of_line o.item) None) (so_far above F).kind;
-      unit = option_or (cond (is_of F o) (unit_of_line o.item) None) (so_far above F).unit;
+same_sort st (o ∷ above) F item h =
+    sort_alike item (so_far st (o ∷ above) F) (record (so_far st above F) {
+      help = option_or (cond (is_of F o) (help_of_line o.item) None) (so_far st above F).help;
+      kind = option_or (cond (is_of F o) (kind_of_line o.item) None) (so_far st above F).kind;
+      unit = option_or (cond (is_of F o) (unit_of_line o.item) None) (so_far st above F).unit;
     }) refl refl refl
-    ∙ sort_step item o.item (is_of F o) (so_far above F) h
-    ∙ ap (λ b. (is_of F o && are_one_sort item o.item) || b) (same_sort above F item h)
+    ∙ sort_step item o.item (is_of F o) (so_far st above F) h
+    ∙ ap (λ b. (is_of F o && are_one_sort item o.item) || b) (same_sort st above F item h)
 
 any_split : {A : Type 0} (p a b : A → Bool) (xs : List A) → list_any (λ x. p x && (a x || b x)) xs ≡ (list_any (λ x. p x && a x) xs || list_any (λ x. p x && b x) xs)
 any_split p a b [] = refl
@@ -282,11 +328,11 @@ any_split p a b (x ∷ xs) = ap (λ c. (p x && (a x || b x)) || c) (any_split p 
     by true false false c d = refl
 
 -- a late descriptor, by what is known of its family
-pub late_known : (above : List Owned) (F : List ℕ) (item : Item) → is_descriptor item ≡ true
-    → is_late_descriptor above (record { family = F; item = item }) ≡ (has_sort item (so_far above F) || has_samples (so_far above F))
+pub late_known : (st : Setting) (above : List Owned) (F : List ℕ) (item : Item) → is_descriptor item ≡ true
+    → is_late_descriptor above (record { family = F; item = item }) ≡ (has_sort item (so_far st above F) || has_samples (so_far st above F))
 unfolding is_late_descriptor
-late_known above F item h =
+late_known st above F item h =
     ap (λ b. b && list_any (λ o. is_of F o && (are_one_sort item o.item || is_sample o.item)) above) h
     ∙ any_split (is_of F) (λ o. are_one_sort item o.item) (λ o. is_sample o.item) above
-    ∙ ap (λ b. b || list_any (λ o. is_of F o && is_sample o.item) above) (sym (same_sort above F item h))
-    ∙ ap (λ b. has_sort item (so_far above F) || b) (sym (some_sample above F))
+    ∙ ap (λ b. b || list_any (λ o. is_of F o && is_sample o.item) above) (sym (same_sort st above F item h))
+    ∙ ap (λ b. has_sort item (so_far st above F) || b) (sym (some_sample st above F))

@@ -6,3 +6,5 @@ pub mod Endings
 pub mod Taking
 pub mod Loops
 pub mod Built
+pub mod Complete
+pub mod Values

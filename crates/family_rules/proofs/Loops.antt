@@ -1,6 +1,7 @@
 -- The loops that build readings and families.
-use Rattle.std.proofs.Common.{◌≡◌, ℕ, arith, List, [], ◌∷◌, ◌++◌, drop, length, refl, sym, ap, ◌∙◌}
-use Rattle.std.proofs.lemmas.List.{append-nil, append_assoc}
+use Rattle.std.proofs.Common.{◌≡◌, ℕ, ◌+◌, arith, List, [], ◌∷◌, ◌++◌, drop, length, Option, Some, None, refl, sym, ap, ◌∙◌}
+use Rattle.std.specs.Option.{MatchOption}
+use Rattle.std.proofs.lemmas.List.{append-nil, append_assoc, drop-drop}
 use Rattle.label_sets.specs.declared.kind.Kind.{Kind}
 use Rattle.page_model.specs.declared.page.Family.{Family}
 use Rattle.page_model.specs.declared.page.Reading.{Reading}
@@ -32,3 +33,8 @@ families_step it next name known keys rest f fs new whole items family_is rest_i
 pub families_end : (it : List (List ℕ × FamilySoFar)) (keys : List SampleKey) (fs whole : List Family) → it ≡ [] → fs ++ families_at it keys ≡ whole → fs ≡ whole
 unfolding families_at
 families_end it keys fs whole none h = sym (append-nil fs) ∙ ap (λ es. fs ++ families_at es keys) (sym none) ∙ h
+
+-- one key more is passed over
+pub passed_one : (o : Option SampleKey) (keys next whole : List SampleKey) (n : ℕ) → MatchOption o ((keys ≡ []) × (next ≡ [])) (λ x. keys ≡ x ∷ next) → keys ≡ drop n whole → next ≡ drop (n + 1) whole
+passed_one None keys next whole n step h = step.1 ∙ sym (ap (drop 1) step.0) ∙ ap (drop 1) h ∙ drop-drop 1 n whole
+passed_one (Some x) keys next whole n step h = sym (ap (drop 1) step) ∙ ap (drop 1) h ∙ drop-drop 1 n whole

@@ -1,7 +1,7 @@
 -- What a checker keeps answers the rules, and each step keeps what it stands for.
-use Rattle.std.proofs.Common.{◌≡◌, ℕ, ◌+◌, arith, Bool, true, false, cond, not, ◌&&◌, ◌||◌, List, [], ◌∷◌, ◌++◌, Option, Some, None, refl, sym, ap, subst, ◌∙◌, is_some, count_by}
-use Rattle.std.specs.Prelude.{option_map, unwrap_or}
-use Rattle.std.specs.List.{list_any}
+use Rattle.std.proofs.Common.{◌≡◌, ℕ, ◌+◌, arith, Bool, true, false, cond, not, ◌&&◌, ◌||◌, List, [], ◌∷◌, ◌++◌, map, reverse, Option, Some, None, refl, sym, ap, subst, ◌∙◌, is_some, count_by}
+use Rattle.std.specs.Prelude.{option_map}
+use Rattle.std.specs.List.{list_any, list_all}
 use Rattle.std.specs.Option.{option_to_list}
 use Rattle.std.specs.Str.{bytes_eq}
 use Rattle.std.specs.Map.{lookup}
@@ -11,132 +11,168 @@ use Rattle.std.proofs.lemmas.List.Folds.{list_any-append}
 use Rattle.std.proofs.lemmas.List.Sums.{sum_by-cons}
 use Rattle.indexmap.specs.IndexMap.{insert_entry}
 use Rattle.label_sets.specs.declared.kind.Kind.{Kind}
-use Rattle.label_sets.specs.declared.kind.Kind.TheVariants.{Unknown}
 use Rattle.label_sets.specs.declared.label_set.LabelSet.{LabelSet}
 use Rattle.label_sets.specs.Labels.{label_sets_eq}
-use Rattle.label_sets.specs.Lists.{first_some, some_passes}
-use Rattle.page_model.specs.declared.format.Format.{Format}
+use Rattle.label_sets.specs.Lists.{some_passes}
+use Rattle.page_model.specs.declared.format.Format.TheVariants.{Text}
 use Rattle.page_model.specs.declared.item.Item.{Item}
 use Rattle.page_model.specs.declared.item.Item.TheVariants as items
 use Rattle.page_model.specs.declared.item.Sample.{Sample}
 use Rattle.page_model.specs.Written.{Setting}
+use Rattle.page_model.specs.declared.rule.Rule.TheVariants as rules
 use Rattle.page_model.specs.Items.{is_sample, sample_of_line, is_descriptor}
 use Rattle.page_model.specs.Suffixes.{is_sample_name}
-use Rattle.page_model.specs.Owners.{Owned, is_of, kind_of, declared_kind, sample_owner, owner_of, with_owner, owned_lines, kept_labels}
-use Rattle.page_model.specs.Rules.{is_late_descriptor, is_split, is_same_series, is_duplicate}
+use Rattle.page_model.specs.Owners.{Owned, is_of, kind_of, sample_owner, owner_of, with_owner, owned_lines, samples_of, kept_labels}
+use Rattle.page_model.specs.Rules.{is_histogram, is_late_descriptor, is_split, is_same_series, is_duplicate, is_complete_at, is_incomplete, leaves_incomplete, sample_group}
 use Rattle.page_model.specs.Faults.{item_fault}
+use Rattle.sample_groups.specs.declared.part.Part.{Part}
+use Rattle.sample_groups.specs.Groups.{Gathered, groups_from, shared_labels, with_part, is_whole_group}
+use Rattle.sample_groups.specs.Parts.{is_grouped, entry_of, part_of}
+use Rattle.sample_groups.specs.Sound.{AreSound}
+use Rattle.sample_groups.proofs.Steps.{shared_group}
+use Rattle.sample_groups.proofs.Whole.{whole_kept}
 use Rattle.family_rules.specs.declared.family.Current.{Current}
 use Rattle.family_rules.specs.declared.family.Descriptor.{Descriptor}
 use Rattle.family_rules.specs.declared.family.Descriptor.TheVariants as sorts
 use Rattle.family_rules.specs.declared.family.FamilySoFar.{FamilySoFar}
-use Rattle.family_rules.specs.Checking.{Checking, no_lines, has_samples, has_sort, so_far, left_before, left_families, current_family, key_of, keys_of, IsTextItem, Stands}
-use Rattle.family_rules.specs.Steps.{has, is_of_sort, is_current_family, known_in, known_kind, is_current_sample, key_eq, with_left, reached, current_with, with_current, with_sample, IsReady}
+use Rattle.family_rules.specs.Checking.{Checking, no_lines, has_samples, has_sort, groups_in, so_far, left_before, left_families, current_family, key_of, keys_of, IsTextItem, Stands}
+use Rattle.family_rules.specs.Steps.{is_of_sort, is_late_in, current_kind, is_current_family, known_in, is_current_sample, has_incomplete, left_stop, place_stop, key_eq, with_left, begun, reached, current_with, with_current, with_part_in, with_sample, IsReady}
 use Rattle.family_rules.proofs.Lists.{or_false, bytes_same, bytes_swap, pairs, lookup-map, map-pairs, insert_entry-last}
-use Rattle.family_rules.proofs.Faults.{AreFit, fit_lines}
-use Rattle.family_rules.proofs.Kept.{known_lines, fresh, so_far-other, so_far-help, so_far-kind, so_far-unit, so_far-sample, so_far-none, late_known}
+use Rattle.family_rules.proofs.Faults.{AreFit, fit_lines, sound_samples, none_above, left_fault, place_fault}
+use Rattle.family_rules.proofs.Kept.{known_lines, fresh, reversed_samples, grown, so_far-other, so_far-help, so_far-kind, so_far-unit, so_far-sample, so_far-none, late_known}
 
 -- ---- what is known
-
--- the pairs of the left families
-abbrev pub left_pairs : List Owned → List (List ℕ × FamilySoFar)
-left_pairs above = pairs (so_far above) (left_families above)
-
-known_above : (above : List Owned) (F : List ℕ) → known_in (left_pairs above) (current_family above) F ≡ cond (list_any (is_of F) above) (Some (so_far above F)) None
-unfolding left_families current_family
-known_above [] F = refl
-known_above (n ∷ above) F = by (bytes_eq n.family F) refl
-  where
-    by : (b : Bool) → bytes_eq n.family F ≡ b
-        → cond b (Some (so_far (n ∷ above) n.family)) (lookup (bytes_eq F) (pairs (so_far (n ∷ above)) (left_before n.family above)))
-        ≡ cond (b || list_any (is_of F) above) (Some (so_far (n ∷ above) F)) None
-    by true e = ap (λ G. Some (so_far (n ∷ above) G)) ((bytes_decides n.family F).0 e)
-    by false e =
-        let known : (list_any (bytes_eq F) (left_before n.family above) || false) ≡ list_any (is_of F) above = rw e at (known_lines F n.family above) in
-        lookup-map (so_far (n ∷ above)) F (left_before n.family above)
-        ∙ ap (λ b. cond b (Some (so_far (n ∷ above) F)) None) (sym (or_false (list_any (bytes_eq F) (left_before n.family above))) ∙ known)
-
-split_above : (above : List Owned) (F : List ℕ) (item : Item)
-    → is_split above (record { family = F; item = item }) ≡ (not (is_current_family (current_family above) F) && is_some (lookup (bytes_eq F) (left_pairs above)))
-unfolding is_split left_families current_family
-split_above [] F item = refl
-split_above (n ∷ above) F item = by (bytes_eq n.family F) refl
-  where
-    some_cond : (b : Bool) (f : FamilySoFar) → is_some (cond b (Some f) None) ≡ b
-    some_cond true f = refl
-    some_cond false f = refl
-
-    by : (b : Bool) → bytes_eq n.family F ≡ b
-        → (not b && list_any (is_of F) above) ≡ (not b && is_some (lookup (bytes_eq F) (pairs (so_far (n ∷ above)) (left_before n.family above))))
-    by true e = refl
-    by false e =
-        let known : (list_any (bytes_eq F) (left_before n.family above) || false) ≡ list_any (is_of F) above = rw e at (known_lines F n.family above) in
-        sym (ap is_some (lookup-map (so_far (n ∷ above)) F (left_before n.family above)) ∙ some_cond (list_any (bytes_eq F) (left_before n.family above)) (so_far (n ∷ above) F)
-        ∙ sym (or_false (list_any (bytes_eq F) (left_before n.family above))) ∙ known)
 
 -- late, by what is known
 abbrev pub is_late : Item → Option FamilySoFar → Bool
 is_late item None = false
 is_late item (Some f) = has_sort item f || has_samples f
 
-late_above : (above : List Owned) (F : List ℕ) (item : Item) → is_descriptor item ≡ true
-    → is_late_descriptor above (record { family = F; item = item }) ≡ is_late item (known_in (left_pairs above) (current_family above) F)
-late_above above F item h = late_known above F item h ∙ by (list_any (is_of F) above) refl ∙ sym (ap (is_late item) (known_above above F))
-  where
-    nothing : (item : Item) → (has_sort item no_lines || has_samples no_lines) ≡ false
-    nothing items.Blank = refl
-    nothing items.Comment = refl
-    nothing items.Eof = refl
-    nothing (items.Help n t) = refl
-    nothing (items.KindOf n k) = refl
-    nothing (items.Unit n u) = refl
-    nothing (items.Sample s) = refl
+module _ (st : Setting) where
+  -- the pairs of the left families
+  abbrev pub left_pairs : List Owned → List (List ℕ × FamilySoFar)
+  left_pairs above = pairs (so_far st above) (left_families above)
 
-    by : (b : Bool) → list_any (is_of F) above ≡ b → (has_sort item (so_far above F) || has_samples (so_far above F)) ≡ is_late item (cond b (Some (so_far above F)) None)
-    by true e = refl
-    by false e = ap (λ f. has_sort item f || has_samples f) (so_far-none above F e) ∙ nothing item
+  known_above : (above : List Owned) (F : List ℕ) → known_in (left_pairs above) (current_family st above) F ≡ cond (list_any (is_of F) above) (Some (so_far st above F)) None
+  unfolding left_families current_family
+  known_above [] F = refl
+  known_above (n ∷ above) F = by (bytes_eq n.family F) refl
+    where
+      by : (b : Bool) → bytes_eq n.family F ≡ b
+          → cond b (Some (so_far st (n ∷ above) n.family)) (lookup (bytes_eq F) (pairs (so_far st (n ∷ above)) (left_before n.family above)))
+          ≡ cond (b || list_any (is_of F) above) (Some (so_far st (n ∷ above) F)) None
+      by true e = ap (λ G. Some (so_far st (n ∷ above) G)) ((bytes_decides n.family F).0 e)
+      by false e =
+          let known : (list_any (bytes_eq F) (left_before n.family above) || false) ≡ list_any (is_of F) above = rw e at (known_lines F n.family above) in
+          lookup-map (so_far st (n ∷ above)) F (left_before n.family above)
+          ∙ ap (λ b. cond b (Some (so_far st (n ∷ above) F)) None) (sym (or_false (list_any (bytes_eq F) (left_before n.family above))) ∙ known)
 
-kind_above : (above : List Owned) (F : List ℕ) → kind_of above F ≡ known_kind (known_in (left_pairs above) (current_family above) F)
-unfolding kind_of so_far
-kind_above above F = by (list_any (is_of F) above) refl ∙ sym (ap known_kind (known_above above F))
-  where
-    by : (b : Bool) → list_any (is_of F) above ≡ b → unwrap_or (first_some (declared_kind F) above) Unknown ≡ known_kind (cond b (Some (so_far above F)) None)
-    by true e = refl
-    by false e = ap (λ (f : FamilySoFar). unwrap_or f.kind Unknown) (so_far-none above F e)
+  split_above : (above : List Owned) (F : List ℕ) (item : Item)
+      → is_split above (record { family = F; item = item }) ≡ (not (is_current_family (current_family st above) F) && is_some (lookup (bytes_eq F) (left_pairs above)))
+  unfolding is_split left_families current_family
+  split_above [] F item = refl
+  split_above (n ∷ above) F item = by (bytes_eq n.family F) refl
+    where
+      some_cond : (b : Bool) (f : FamilySoFar) → is_some (cond b (Some f) None) ≡ b
+      some_cond true f = refl
+      some_cond false f = refl
+
+      by : (b : Bool) → bytes_eq n.family F ≡ b
+          → (not b && list_any (is_of F) above) ≡ (not b && is_some (lookup (bytes_eq F) (pairs (so_far st (n ∷ above)) (left_before n.family above))))
+      by true e = refl
+      by false e =
+          let known : (list_any (bytes_eq F) (left_before n.family above) || false) ≡ list_any (is_of F) above = rw e at (known_lines F n.family above) in
+          sym (ap is_some (lookup-map (so_far st (n ∷ above)) F (left_before n.family above)) ∙ some_cond (list_any (bytes_eq F) (left_before n.family above)) (so_far st (n ∷ above) F)
+          ∙ sym (or_false (list_any (bytes_eq F) (left_before n.family above))) ∙ known)
+
+  late_above : (above : List Owned) (F : List ℕ) (item : Item) → is_descriptor item ≡ true
+      → is_late_descriptor above (record { family = F; item = item }) ≡ is_late item (known_in (left_pairs above) (current_family st above) F)
+  late_above above F item h = late_known st above F item h ∙ by (list_any (is_of F) above) refl ∙ sym (ap (is_late item) (known_above above F))
+    where
+      nothing : (item : Item) → (has_sort item no_lines || has_samples no_lines) ≡ false
+      nothing items.Blank = refl
+      nothing items.Comment = refl
+      nothing items.Eof = refl
+      nothing (items.Help n t) = refl
+      nothing (items.KindOf n k) = refl
+      nothing (items.Unit n u) = refl
+      nothing (items.Sample s) = refl
+
+      by : (b : Bool) → list_any (is_of F) above ≡ b → (has_sort item (so_far st above F) || has_samples (so_far st above F)) ≡ is_late item (cond b (Some (so_far st above F)) None)
+      by true e = refl
+      by false e = ap (λ f. has_sort item f || has_samples f) (so_far-none st above F e) ∙ nothing item
+
+  -- ---- a family that is left
+
+  -- a histogram that isn't complete, by its groups
+  incomplete_groups : (k : Kind) (F : List ℕ) (samples : List Sample) → st.format ≡ Text → AreSound st k F samples
+      → (is_histogram k && not (list_all (is_complete_at st k F samples) samples)) ≡ (is_histogram k && not (list_all (λ (g : LabelSet × Gathered). is_whole_group g.1) (groups_in st k F (reverse samples))))
+  unfolding groups_in
+  incomplete_groups k F samples text sound = by (is_histogram k) refl
+    where
+      by : (b : Bool) → is_histogram k ≡ b
+          → (b && not (list_all (is_complete_at st k F samples) samples)) ≡ (b && not (list_all (λ (g : LabelSet × Gathered). is_whole_group g.1) (groups_in st k F (reverse samples))))
+      by false e = refl
+      by true e = ap not (whole_kept st k F samples e text sound
+          ∙ ap (λ b. list_all (λ (g : LabelSet × Gathered). is_whole_group g.1) (cond b (groups_from (map (entry_of st k F) (reverse samples))) [])) (sym (grouped e)))
+        where
+          grouped : is_histogram k ≡ true → is_grouped k ≡ true
+          grouped e = rw e refl
+
+  incomplete_above : (above : List Owned) (F : List ℕ) → st.format ≡ Text → AreFit st above → is_incomplete st above F ≡ has_incomplete (so_far st above F)
+  unfolding is_incomplete so_far kind_of
+  incomplete_above above F text fit =
+      incomplete_groups (kind_of above F) F (samples_of above F) text (sound_samples st above F fit)
+      ∙ ap (λ l. is_histogram (kind_of above F) && not (list_all (λ (g : LabelSet × Gathered). is_whole_group g.1) (groups_in st (kind_of above F) F l))) (sym (reversed_samples above F))
+
+  -- Incomplete, at a line of another family or of none
+  left_other : (above : List Owned) (owner : Option (List ℕ)) → st.format ≡ Text → AreFit st above → some_passes (λ F. is_current_family (current_family st above) F) owner ≡ false
+      → left_stop (current_family st above) ≡ left_fault st above owner
+  unfolding leaves_incomplete current_family
+  left_other [] owner text fit h = refl
+  left_other (n ∷ above) owner text fit h =
+      rw h (ap (λ b. cond b (Some rules.Incomplete) None) (sym (incomplete_above (n ∷ above) n.family text fit)))
+
+  -- no line leaves its own family
+  left_own : (above : List Owned) (F : List ℕ) → is_current_family (current_family st above) F ≡ true → leaves_incomplete st above (Some F) ≡ false
+  unfolding leaves_incomplete current_family
+  left_own [] F h = refl
+  left_own (n ∷ above) F h = rw h refl
 
 -- ---- ready for a line
 
 -- a family that no line above has, or is the current one
 ready_left : (st : Setting) (F : List ℕ) (item : Item) (above : List Owned) → AreFit st above → is_split above (record { family = F; item = item }) ≡ false
-    → cond (is_current_family (current_family above) F) (left_pairs above) (with_left (left_pairs above) (current_family above)) ≡ pairs (so_far above) (left_before F above)
+    → cond (is_current_family (current_family st above) F) (left_pairs st above) (with_left (left_pairs st above) (current_family st above)) ≡ pairs (so_far st above) (left_before F above)
 unfolding left_families current_family left_before
 ready_left st F item [] fit h = refl
 ready_left st F item (n ∷ above) fit h = by (bytes_eq n.family F) refl
   where
-    last : lookup (bytes_eq n.family) (pairs (so_far (n ∷ above)) (left_before n.family above)) ≡ None
-    last = lookup-map (so_far (n ∷ above)) n.family (left_before n.family above)
-        ∙ ap (λ b. cond b (Some (so_far (n ∷ above) n.family)) None) (fresh st n.family n.item above fit.1 fit.0.together)
+    last : lookup (bytes_eq n.family) (pairs (so_far st (n ∷ above)) (left_before n.family above)) ≡ None
+    last = lookup-map (so_far st (n ∷ above)) n.family (left_before n.family above)
+        ∙ ap (λ b. cond b (Some (so_far st (n ∷ above) n.family)) None) (fresh st n.family n.item above fit.1 fit.0.together)
 
     by : (b : Bool) → bytes_eq n.family F ≡ b
-        → cond b (pairs (so_far (n ∷ above)) (left_before n.family above)) (insert_entry bytes_eq (pairs (so_far (n ∷ above)) (left_before n.family above)) n.family (so_far (n ∷ above) n.family))
-        ≡ pairs (so_far (n ∷ above)) (cond b (left_before n.family above) (left_before n.family above ++ n.family ∷ []))
+        → cond b (pairs (so_far st (n ∷ above)) (left_before n.family above)) (insert_entry bytes_eq (pairs (so_far st (n ∷ above)) (left_before n.family above)) n.family (so_far st (n ∷ above) n.family))
+        ≡ pairs (so_far st (n ∷ above)) (cond b (left_before n.family above) (left_before n.family above ++ n.family ∷ []))
     by true e = refl
-    by false e = insert_entry-last (pairs (so_far (n ∷ above)) (left_before n.family above)) n.family (so_far (n ∷ above) n.family) last
-        ∙ sym (map-append (λ name. (name, so_far (n ∷ above) name)) (left_before n.family above) (n.family ∷ []))
+    by false e = insert_entry-last (pairs (so_far st (n ∷ above)) (left_before n.family above)) n.family (so_far st (n ∷ above) n.family) last
+        ∙ sym (map-append (λ name. (name, so_far st (n ∷ above) name)) (left_before n.family above) (n.family ∷ []))
 
 -- a family that begins
-abbrev begun : List ℕ → Option Current
-begun F = Some (record { name = F; family = no_lines })
+abbrev first_line : List ℕ → Option Current
+first_line F = Some (record { name = F; family = no_lines })
 
 ready_current : (st : Setting) (F : List ℕ) (item : Item) (above : List Owned) → is_split above (record { family = F; item = item }) ≡ false
-    → cond (is_current_family (current_family above) F) (current_family above) (begun F) ≡ Some (record { name = F; family = so_far above F })
+    → cond (is_current_family (current_family st above) F) (current_family st above) (first_line F) ≡ Some (record { name = F; family = so_far st above F })
 unfolding is_split current_family
-ready_current st F item [] h = ap (λ f. Some (record { name = F; family = f })) (sym (so_far-none [] F refl))
+ready_current st F item [] h = ap (λ f. Some (record { name = F; family = f })) (sym (so_far-none st [] F refl))
 ready_current st F item (n ∷ above) h = by (bytes_eq n.family F) refl h
   where
     by : (b : Bool) → bytes_eq n.family F ≡ b → (not b && list_any (is_of F) above) ≡ false
-        → cond b (current_family (n ∷ above)) (begun F) ≡ Some (record { name = F; family = so_far (n ∷ above) F })
-    by true e none = ap (λ G. Some (record { name = G; family = so_far (n ∷ above) G })) ((bytes_decides n.family F).0 e)
-    by false e none = ap (λ f. Some (record { name = F; family = f })) (sym (so_far-none (n ∷ above) F (rw e none)))
+        → cond b (current_family st (n ∷ above)) (first_line F) ≡ Some (record { name = F; family = so_far st (n ∷ above) F })
+    by true e none = ap (λ G. Some (record { name = G; family = so_far st (n ∷ above) G })) ((bytes_decides n.family F).0 e)
+    by false e none = ap (λ f. Some (record { name = F; family = f })) (sym (so_far-none st (n ∷ above) F (rw e none)))
 
 module _ (st : Setting) (c : Checking) (earlier : List Item) (s : Stands st c earlier) where
   abbrev lines : List Owned
@@ -146,34 +182,47 @@ module _ (st : Setting) (c : Checking) (earlier : List Item) (s : Stands st c ea
   fit = fit_lines st earlier s.text s.text_items s.faultless
 
   -- Split, by what is kept
-  pub split_kept : (F : List ℕ) (item : Item) → (not (is_current_family c.current F) && is_some (lookup (bytes_eq F) c.left)) ≡ is_split lines (record { family = F; item = item })
-  split_kept F item = sym (rw (s.left, s.current) (split_above lines F item))
+  split_kept : (F : List ℕ) (item : Item) → (not (is_current_family c.current F) && is_some (lookup (bytes_eq F) c.left)) ≡ is_split lines (record { family = F; item = item })
+  split_kept F item = sym (rw (s.left, s.current) (split_above st lines F item))
+
+  pub split_left : (F : List ℕ) (item : Item) → is_current_family c.current F ≡ false → is_some (lookup (bytes_eq F) c.left) ≡ is_split lines (record { family = F; item = item })
+  split_left F item h = ap (λ b. not b && is_some (lookup (bytes_eq F) c.left)) (sym h) ∙ split_kept F item
+
+  pub split_own : (F : List ℕ) (item : Item) → is_current_family c.current F ≡ true → is_split lines (record { family = F; item = item }) ≡ false
+  split_own F item h = sym (split_kept F item) ∙ ap (λ b. not b && is_some (lookup (bytes_eq F) c.left)) h
 
   -- Descriptor, by what is kept
-  pub late_kept : (F : List ℕ) (item : Item) → is_descriptor item ≡ true → is_late item (known_in c.left c.current F) ≡ is_late_descriptor lines (record { family = F; item = item })
-  late_kept F item h = sym (rw (s.left, s.current) (late_above lines F item h))
+  late_kept : (F : List ℕ) (item : Item) → is_descriptor item ≡ true → is_late item (known_in c.left c.current F) ≡ is_late_descriptor lines (record { family = F; item = item })
+  late_kept F item h = sym (rw (s.left, s.current) (late_above st lines F item h))
 
-  pub kind_kept : (F : List ℕ) → known_kind (known_in c.left c.current F) ≡ kind_of lines F
-  kind_kept F = sym (rw (s.left, s.current) (kind_above lines F))
+  -- Incomplete, by what is kept
+  pub left_kept : (F : List ℕ) → is_current_family c.current F ≡ false → left_stop c.current ≡ left_fault st lines (Some F)
+  left_kept F h = ap left_stop s.current ∙ left_other st lines (Some F) s.text fit (ap (λ k. is_current_family k F) (sym s.current) ∙ h)
+
+  pub left_at_end : left_stop c.current ≡ left_fault st lines None
+  left_at_end = ap left_stop s.current ∙ left_other st lines None s.text fit refl
+
+  pub stays : (F : List ℕ) → is_current_family c.current F ≡ true → leaves_incomplete st lines (Some F) ≡ false
+  stays F h = left_own st lines F (ap (λ k. is_current_family k F) (sym s.current) ∙ h)
 
   -- ready for a line that doesn't split its family
   pub ready_reached : (F : List ℕ) (item : Item) → is_split lines (record { family = F; item = item }) ≡ false → IsReady st (reached c F) earlier F
   unfolding reached
   ready_reached F item h = by (is_current_family c.current F) refl
     where
-      left : cond (is_current_family c.current F) c.left (with_left c.left c.current) ≡ pairs (so_far lines) (left_before F lines)
+      left : cond (is_current_family c.current F) c.left (with_left c.left c.current) ≡ pairs (so_far st lines) (left_before F lines)
       left = rw (s.left, s.current) (ready_left st F item lines fit h)
 
-      current : cond (is_current_family c.current F) c.current (begun F) ≡ Some (record { name = F; family = so_far lines F })
+      current : cond (is_current_family c.current F) c.current (first_line F) ≡ Some (record { name = F; family = so_far st lines F })
       current = rw s.current (ready_current st F item lines h)
 
       by : (b : Bool) → is_current_family c.current F ≡ b
-          → IsReady st (cond b c (record c { left = with_left c.left c.current; current = begun F })) earlier F
+          → IsReady st (cond b c (begun c F)) earlier F
       by true e = record {
         setting = s.setting;
         text = s.text;
         left = ap (λ b. cond b c.left (with_left c.left c.current)) (sym e) ∙ left;
-        current = ap (λ b. cond b c.current (begun F)) (sym e) ∙ current;
+        current = ap (λ b. cond b c.current (first_line F)) (sym e) ∙ current;
         seen = s.seen;
         samples = s.samples;
         working = s.working;
@@ -184,7 +233,7 @@ module _ (st : Setting) (c : Checking) (earlier : List Item) (s : Stands st c ea
         setting = s.setting;
         text = s.text;
         left = ap (λ b. cond b c.left (with_left c.left c.current)) (sym e) ∙ left;
-        current = ap (λ b. cond b c.current (begun F)) (sym e) ∙ current;
+        current = ap (λ b. cond b c.current (first_line F)) (sym e) ∙ current;
         seen = s.seen;
         samples = s.samples;
         working = s.working;
@@ -197,7 +246,7 @@ module _ (st : Setting) (c : Checking) (earlier : List Item) (s : Stands st c ea
 module _ (st : Setting) (c : Checking) (earlier : List Item) (F : List ℕ) (r : IsReady st c earlier F) where
   -- another checker, in which only the current family, the seen samples and their number have changed
   stands_with : (item : Item) → IsTextItem item → item_fault st earlier item ≡ None → owner_of st.format (owned_lines st.format earlier) item ≡ Some F
-      → (d : Checking) → d.setting ≡ c.setting → d.left ≡ c.left → d.current ≡ Some (record { name = F; family = so_far (record { family = F; item = item } ∷ owned_lines st.format earlier) F })
+      → (d : Checking) → d.setting ≡ c.setting → d.left ≡ c.left → d.current ≡ Some (record { name = F; family = so_far st (record { family = F; item = item } ∷ owned_lines st.format earlier) F })
       → d.seen ≡ keys_of st (record { family = F; item = item } ∷ owned_lines st.format earlier) → d.samples ≡ count_by is_sample (item ∷ earlier) → d.stopped ≡ c.stopped
       → Stands st d (item ∷ earlier)
   unfolding left_families current_family owned_lines
@@ -206,13 +255,13 @@ module _ (st : Setting) (c : Checking) (earlier : List Item) (F : List ℕ) (r :
       let o : Owned = record { family = F; item = item } in
       let lines : owned_lines st.format (item ∷ earlier) ≡ o ∷ above = ap (λ w. with_owner w item above) owner in
       let fit : AreFit st (o ∷ above) = subst (AreFit st) lines (fit_lines st (item ∷ earlier) r.text (text, r.text_items) (none, r.faultless)) in
-      let pairs_same : pairs (so_far above) (left_before F above) ≡ pairs (so_far (o ∷ above)) (left_before F above) =
-      map-pairs (so_far above) (so_far (o ∷ above)) F (left_before F above) (fresh st F item above fit.1 fit.0.together) (λ name e. sym (so_far-other o above name e)) in
+      let pairs_same : pairs (so_far st above) (left_before F above) ≡ pairs (so_far st (o ∷ above)) (left_before F above) =
+      map-pairs (so_far st above) (so_far st (o ∷ above)) F (left_before F above) (fresh st F item above fit.1 fit.0.together) (λ name e. sym (so_far-other st o above name e)) in
       let placed : Stands st d (item ∷ earlier) = record {
         setting = setting ∙ r.setting;
         text = r.text;
-        left = left ∙ r.left ∙ pairs_same ∙ ap (λ l. pairs (so_far l) (left_families l)) (sym lines);
-        current = current ∙ ap current_family (sym lines);
+        left = left ∙ r.left ∙ pairs_same ∙ ap (λ l. pairs (so_far st l) (left_families l)) (sym lines);
+        current = current ∙ ap (current_family st) (sym lines);
         seen = seen ∙ ap (keys_of st) (sym lines);
         samples = samples;
         working = stopped ∙ r.working;
@@ -224,84 +273,146 @@ module _ (st : Setting) (c : Checking) (earlier : List Item) (F : List ℕ) (r :
   unfolding keys_of
   unseen item e = r.seen ∙ sym (append-nil (keys_of st (owned_lines st.format earlier))) ∙ ap (λ o. keys_of st (owned_lines st.format earlier) ++ option_to_list (option_map (key_of st) o)) (sym e)
 
-  changed : (change : FamilySoFar → FamilySoFar) (f : FamilySoFar) → f ≡ change (so_far (owned_lines st.format earlier) F) → current_with change c.current ≡ Some (record { name = F; family = f })
+  changed : (change : FamilySoFar → FamilySoFar) (f : FamilySoFar) → f ≡ change (so_far st (owned_lines st.format earlier) F) → current_with change c.current ≡ Some (record { name = F; family = f })
   changed change f e = ap (current_with change) r.current ∙ ap (λ g. Some (record { name = F; family = g })) (sym e)
+
+  -- the kind of the current family
+  pub ready_kind : current_kind c.current ≡ kind_of (owned_lines st.format earlier) F
+  unfolding so_far kind_of
+  ready_kind = ap current_kind r.current
 
   pub stands_help : (text : List ℕ) → item_fault st earlier (items.Help F text) ≡ None
       → Stands st (with_current c (current_with (λ f. record f { help = Some text }) c.current)) (items.Help F text ∷ earlier)
   stands_help text none = stands_with (items.Help F text) tt none refl (with_current c (current_with (λ f. record f { help = Some text }) c.current)) refl refl
-      (changed (λ f. record f { help = Some text }) (so_far (record { family = F; item = items.Help F text } ∷ owned_lines st.format earlier) F) (so_far-help F text (owned_lines st.format earlier)))
+      (changed (λ f. record f { help = Some text }) (so_far st (record { family = F; item = items.Help F text } ∷ owned_lines st.format earlier) F) (so_far-help st F text (owned_lines st.format earlier)))
       (unseen (items.Help F text) refl) r.samples refl
 
   pub stands_kind : (kind : Kind) → IsTextItem (items.KindOf F kind) → item_fault st earlier (items.KindOf F kind) ≡ None
+      → is_late_descriptor (owned_lines st.format earlier) (record { family = F; item = items.KindOf F kind }) ≡ false
       → Stands st (with_current c (current_with (λ f. record f { kind = Some kind }) c.current)) (items.KindOf F kind ∷ earlier)
-  stands_kind kind text none = stands_with (items.KindOf F kind) text none refl (with_current c (current_with (λ f. record f { kind = Some kind }) c.current)) refl refl
-      (changed (λ f. record f { kind = Some kind }) (so_far (record { family = F; item = items.KindOf F kind } ∷ owned_lines st.format earlier) F) (so_far-kind F kind (owned_lines st.format earlier)))
+  stands_kind kind text none late =
+      let above : List Owned = owned_lines st.format earlier in
+      let first : samples_of (reverse above) F ≡ [] = reversed_samples above F ∙ ap reverse (none_above above F (items.KindOf F kind) refl late) in
+      stands_with (items.KindOf F kind) text none refl (with_current c (current_with (λ f. record f { kind = Some kind }) c.current)) refl refl
+      (changed (λ f. record f { kind = Some kind }) (so_far st (record { family = F; item = items.KindOf F kind } ∷ above) F) (so_far-kind st F kind above first))
       (unseen (items.KindOf F kind) refl) r.samples refl
 
   pub stands_unit : (unit : List ℕ) → item_fault st earlier (items.Unit F unit) ≡ None
       → Stands st (with_current c (current_with (λ f. record f { unit = Some unit }) c.current)) (items.Unit F unit ∷ earlier)
   stands_unit unit none = stands_with (items.Unit F unit) tt none refl (with_current c (current_with (λ f. record f { unit = Some unit }) c.current)) refl refl
-      (changed (λ f. record f { unit = Some unit }) (so_far (record { family = F; item = items.Unit F unit } ∷ owned_lines st.format earlier) F) (so_far-unit F unit (owned_lines st.format earlier)))
+      (changed (λ f. record f { unit = Some unit }) (so_far st (record { family = F; item = items.Unit F unit } ∷ owned_lines st.format earlier) F) (so_far-unit st F unit (owned_lines st.format earlier)))
       (unseen (items.Unit F unit) refl) r.samples refl
 
-  pub stands_sample : (s : Sample) → s.exemplar ≡ None → sample_owner st.format (owned_lines st.format earlier) s.name ≡ F → item_fault st earlier (items.Sample s) ≡ None
-      → Stands st (with_sample c (key_of st s) s.value) (items.Sample s ∷ earlier)
+  -- a sample more, whose groups are these
+  sampled : (s : Sample) (groups : List (LabelSet × Gathered)) → s.exemplar ≡ None → sample_owner st.format (owned_lines st.format earlier) s.name ≡ F → item_fault st earlier (items.Sample s) ≡ None
+      → (d : Checking) → d.setting ≡ c.setting → d.left ≡ c.left → d.seen ≡ c.seen → d.samples ≡ c.samples → d.stopped ≡ c.stopped
+      → d.current ≡ current_with (λ f. record f { groups = groups }) c.current
+      → groups ≡ grown st (kind_of (owned_lines st.format earlier) F) F s (so_far st (owned_lines st.format earlier) F).groups
+      → Stands st (with_sample d (key_of st s) s.value) (items.Sample s ∷ earlier)
   unfolding with_sample keys_of
-  stands_sample s text owner none = stands_with (items.Sample s) text none (ap Some owner) (with_sample c (key_of st s) s.value) refl refl
-      (changed (λ f. record f { values = f.values ++ s.value ∷ [] }) (so_far (record { family = F; item = items.Sample s } ∷ owned_lines st.format earlier) F) (so_far-sample F s (owned_lines st.format earlier)))
-      (ap (λ l. l ++ key_of st s ∷ []) r.seen) (let more : count_by is_sample (items.Sample s ∷ earlier) ≡ 1 + count_by is_sample earlier = sum_by-cons (λ x. cond (is_sample x) 1 0) (items.Sample s) earlier in omega (arith, r.samples, more)) refl
+  sampled s groups text owner none d setting left seen samples stopped current groups_are =
+      let above : List Owned = owned_lines st.format earlier in
+      let change : FamilySoFar → FamilySoFar = λ f. record f { values = f.values ++ s.value ∷ []; groups = groups } in
+      let more : count_by is_sample (items.Sample s ∷ earlier) ≡ 1 + count_by is_sample earlier = sum_by-cons (λ x. cond (is_sample x) 1 0) (items.Sample s) earlier in
+      let counted : c.samples ≡ count_by is_sample earlier = r.samples in
+      stands_with (items.Sample s) text none (ap Some owner) (with_sample d (key_of st s) s.value) setting left
+      (ap (current_with (λ f. record f { values = f.values ++ s.value ∷ [] })) current ∙ twice c.current
+      ∙ changed change (so_far st (record { family = F; item = items.Sample s } ∷ above) F)
+      (so_far-sample st F s above ∙ ap (λ g. record (so_far st above F) { values = (so_far st above F).values ++ s.value ∷ []; groups = g }) (sym groups_are)))
+      (ap (λ l. l ++ key_of st s ∷ []) (seen ∙ r.seen)) (omega (arith, samples, counted, more)) stopped
+    where
+      twice : (k : Option Current) → current_with (λ f. record f { values = f.values ++ s.value ∷ [] }) (current_with (λ f. record f { groups = groups }) k)
+          ≡ current_with (λ f. record f { values = f.values ++ s.value ∷ []; groups = groups }) k
+      twice None = refl
+      twice (Some k) = refl
 
--- late, by the sort of the descriptor
-abbrev pub is_late_sort : Descriptor → Option FamilySoFar → Bool
-is_late_sort sort None = false
-is_late_sort sort (Some f) = has sort f || has_samples f
+  -- a sample of a kind without groups
+  pub stands_sample : (s : Sample) → s.exemplar ≡ None → sample_owner st.format (owned_lines st.format earlier) s.name ≡ F → item_fault st earlier (items.Sample s) ≡ None
+      → is_grouped (kind_of (owned_lines st.format earlier) F) ≡ false
+      → Stands st (with_sample c (key_of st s) s.value) (items.Sample s ∷ earlier)
+  unfolding so_far groups_in
+  stands_sample s text owner none plain =
+      let above : List Owned = owned_lines st.format earlier in
+      let groups : (so_far st above F).groups ≡ grown st (kind_of above F) F s (so_far st above F).groups = rw plain refl in
+      let same : c.current ≡ current_with (λ f. record f { groups = (so_far st above F).groups }) c.current = r.current ∙ sym (ap (current_with (λ f. record f { groups = (so_far st above F).groups })) r.current) in
+      sampled s (so_far st above F).groups text owner none c refl refl refl refl refl same groups
 
-sort_of_item : (sort : Descriptor) (item : Item) → is_of_sort sort item ≡ true → (is_descriptor item ≡ true) × ((o : Option FamilySoFar) → is_late_sort sort o ≡ is_late item o)
+  -- a sample of a kind with groups, in its group
+  pub stands_grouped : (s : Sample) (part : Part) → s.exemplar ≡ None → sample_owner st.format (owned_lines st.format earlier) s.name ≡ F → item_fault st earlier (items.Sample s) ≡ None
+      → (k : Kind) → k ≡ kind_of (owned_lines st.format earlier) F → is_grouped k ≡ true → part ≡ part_of F s
+      → Stands st (with_sample (with_current c (current_with (with_part_in k (kept_labels st.treatment s.labels) part) c.current)) (key_of st s) s.value) (items.Sample s ∷ earlier)
+  stands_grouped s part text owner none k kind grouped part_is =
+      let above : List Owned = owned_lines st.format earlier in
+      let f : FamilySoFar = so_far st above F in
+      let groups : List (LabelSet × Gathered) = with_part f.groups (shared_labels k (kept_labels st.treatment s.labels)) part in
+      let here : is_grouped (kind_of above F) ≡ true = ap is_grouped (sym kind) ∙ grouped in
+      let label_is : shared_labels k (kept_labels st.treatment s.labels) ≡ sample_group st (kind_of above F) F s =
+      ap (λ k. shared_labels k (kept_labels st.treatment s.labels)) kind ∙ sym (shared_group st (kind_of above F) F s here) in
+      let groups_are : groups ≡ grown st (kind_of above F) F s f.groups = (λ i. with_part f.groups (label_is i) (part_is i))
+      ∙ ap (λ b. cond b (with_part f.groups (sample_group st (kind_of above F) F s) (part_of F s)) []) (sym here) in
+      let current : current_with (with_part_in k (kept_labels st.treatment s.labels) part) c.current ≡ current_with (λ f. record f { groups = groups }) c.current =
+      ap (current_with (with_part_in k (kept_labels st.treatment s.labels) part)) r.current ∙ sym (ap (current_with (λ f. record f { groups = groups })) r.current) in
+      sampled s groups text owner none (with_current c (current_with (with_part_in k (kept_labels st.treatment s.labels) part) c.current)) refl refl refl refl refl current groups_are
+
+-- ---- the place of a descriptor
+
+sort_of_item : (sort : Descriptor) (item : Item) → is_of_sort sort item ≡ true → (is_descriptor item ≡ true) × ((o : Option FamilySoFar) → is_late_in sort o ≡ is_late item o)
 sort_of_item sorts.Help (items.Help n t) h = (refl, by)
   where
-    by : (o : Option FamilySoFar) → is_late_sort sorts.Help o ≡ is_late (items.Help n t) o
+    by : (o : Option FamilySoFar) → is_late_in sorts.Help o ≡ is_late (items.Help n t) o
     by None = refl
     by (Some f) = refl
 sort_of_item sorts.Type (items.KindOf n t) h = (refl, by)
   where
-    by : (o : Option FamilySoFar) → is_late_sort sorts.Type o ≡ is_late (items.KindOf n t) o
+    by : (o : Option FamilySoFar) → is_late_in sorts.Type o ≡ is_late (items.KindOf n t) o
     by None = refl
     by (Some f) = refl
 sort_of_item sorts.Unit (items.Unit n t) h = (refl, by)
   where
-    by : (o : Option FamilySoFar) → is_late_sort sorts.Unit o ≡ is_late (items.Unit n t) o
+    by : (o : Option FamilySoFar) → is_late_in sorts.Unit o ≡ is_late (items.Unit n t) o
     by None = refl
     by (Some f) = refl
 sort_of_item _ _ h = absurd (let f : false ≡ true = h in cc)
 
-pub late_of_sort : (st : Setting) (c : Checking) (earlier : List Item) → Stands st c earlier → (F : List ℕ) (sort : Descriptor) (item : Item) → is_of_sort sort item ≡ true
-    → (o : Option FamilySoFar) → o ≡ known_in c.left c.current F → is_late_sort sort o ≡ is_late_descriptor (owned_lines st.format earlier) (record { family = F; item = item })
-late_of_sort st c earlier s F sort item h o known =
+-- Descriptor, Split or Incomplete, by what is kept
+pub place_kept : (st : Setting) (c : Checking) (earlier : List Item) → Stands st c earlier → (F : List ℕ) (sort : Descriptor) (item : Item) → is_of_sort sort item ≡ true
+    → place_stop c F sort ≡ place_fault st (owned_lines st.format earlier) (record { family = F; item = item })
+unfolding place_stop
+place_kept st c earlier s F sort item h =
+    let above : List Owned = owned_lines st.format earlier in
+    let line : Owned = record { family = F; item = item } in
     let fits = sort_of_item sort item h in
-    fits.1 o ∙ ap (is_late item) known ∙ late_kept st c earlier s F item fits.0
+    let late : is_late_in sort (known_in c.left c.current F) ≡ is_late_descriptor above line = fits.1 (known_in c.left c.current F) ∙ late_kept st c earlier s F item fits.0 in
+    ap (λ b. cond b (Some rules.Descriptor) (cond (is_current_family c.current F) None (cond (is_some (lookup (bytes_eq F) c.left)) (Some rules.Split) (left_stop c.current)))) late
+    ∙ ap (cond (is_late_descriptor above line) (Some rules.Descriptor)) (by (is_current_family c.current F) refl)
+  where
+    by : (b : Bool) → is_current_family c.current F ≡ b
+        → cond b None (cond (is_some (lookup (bytes_eq F) c.left)) (Some rules.Split) (left_stop c.current))
+        ≡ cond (is_split (owned_lines st.format earlier) (record { family = F; item = item })) (Some rules.Split) (left_fault st (owned_lines st.format earlier) (Some F))
+    by true e = sym (rw (split_own st c earlier s F item e, stays st c earlier s F e) refl)
+    by false e = λ i. cond (split_left st c earlier s F item e i) (Some rules.Split) (left_kept st c earlier s F e i)
 
 -- ---- the owner of a sample
 
 -- the current family owns it: it is its owner, and no rule on places and names is broken
-pub record OwnedByCurrent (f : Format) (above : List Owned) (name owner : List ℕ) : Type 0 where
-  pub current : is_current_family (current_family above) owner ≡ true
+pub record OwnedByCurrent (st : Setting) (above : List Owned) (name owner : List ℕ) : Type 0 where
+  pub current : is_current_family (current_family st above) owner ≡ true
   pub together : (item : Item) → is_split above (record { family = owner; item = item }) ≡ false
-  pub fits : is_sample_name f (kind_of above owner) owner name ≡ true
+  pub fits : is_sample_name st.format (kind_of above owner) owner name ≡ true
 
-owner_current : (st : Setting) (above : List Owned) (name : List ℕ) → is_current_sample st.format (current_family above) name ≡ true
-    → OwnedByCurrent st.format above name (sample_owner st.format above name)
+owner_current : (st : Setting) (above : List Owned) (name : List ℕ) → is_current_sample st.format (current_family st above) name ≡ true
+    → OwnedByCurrent st above name (sample_owner st.format above name)
 unfolding current_family sample_owner is_split so_far kind_of
 owner_current st [] name h = absurd (let e : false ≡ true = h in cc)
 owner_current st (n ∷ above) name h =
     let owner : cond (is_sample_name st.format (kind_of (n ∷ above) n.family) n.family name) n.family name ≡ n.family = ap (λ b. cond b n.family name) h in
-    subst (λ F. OwnedByCurrent st.format (n ∷ above) name F) (sym owner) (record {
+    subst (λ F. OwnedByCurrent st (n ∷ above) name F) (sym owner) (record {
       current = bytes_same n.family;
       together = λ item. rw (bytes_same n.family) refl;
       fits = h;
     })
 
-owner_own : (st : Setting) (above : List Owned) (name : List ℕ) → is_current_sample st.format (current_family above) name ≡ false → sample_owner st.format above name ≡ name
+owner_own : (st : Setting) (above : List Owned) (name : List ℕ) → is_current_sample st.format (current_family st above) name ≡ false → sample_owner st.format above name ≡ name
 unfolding current_family sample_owner so_far kind_of
 owner_own st [] name h = refl
 owner_own st (n ∷ above) name h = ap (λ b. cond b n.family name) h
@@ -343,15 +454,15 @@ duplicate_keys st (o ∷ above) s =
 -- ---- a sample by its name
 
 module _ (st : Setting) (c : Checking) (earlier : List Item) (s : Stands st c earlier) where
-  current_here : (name : List ℕ) (b : Bool) → is_current_sample c.setting.format c.current name ≡ b → is_current_sample st.format (current_family (owned_lines st.format earlier)) name ≡ b
-  current_here name b h = ap (λ (t : Setting). is_current_sample t.format (current_family (owned_lines st.format earlier)) name) (sym s.setting)
+  current_here : (name : List ℕ) (b : Bool) → is_current_sample c.setting.format c.current name ≡ b → is_current_sample st.format (current_family st (owned_lines st.format earlier)) name ≡ b
+  current_here name b h = ap (λ (t : Setting). is_current_sample t.format (current_family st (owned_lines st.format earlier)) name) (sym s.setting)
       ∙ ap (λ k. is_current_sample c.setting.format k name) (sym s.current) ∙ h
 
   pub own_owner : (name : List ℕ) → is_current_sample c.setting.format c.current name ≡ false → sample_owner st.format (owned_lines st.format earlier) name ≡ name
   own_owner name h = owner_own st (owned_lines st.format earlier) name (current_here name false h)
 
   pub current_owner : (name : List ℕ) → is_current_sample c.setting.format c.current name ≡ true
-      → OwnedByCurrent st.format (owned_lines st.format earlier) name (sample_owner st.format (owned_lines st.format earlier) name)
+      → OwnedByCurrent st (owned_lines st.format earlier) name (sample_owner st.format (owned_lines st.format earlier) name)
   current_owner name h = owner_current st (owned_lines st.format earlier) name (current_here name true h)
 
   -- the checker is ready for its current family
@@ -361,5 +472,5 @@ module _ (st : Setting) (c : Checking) (earlier : List Item) (s : Stands st c ea
       let owner : List ℕ = sample_owner st.format (owned_lines st.format earlier) name in
       let owned = current_owner name h in
       let current : is_current_family c.current owner ≡ true = ap (λ k. is_current_family k owner) s.current ∙ owned.current in
-      let same : reached c owner ≡ c = ap (λ b. cond b c (record c { left = with_left c.left c.current; current = begun owner })) current in
+      let same : reached c owner ≡ c = ap (λ b. cond b c (begun c owner)) current in
       subst (λ d. IsReady st d earlier owner) same (ready_reached st c earlier s owner items.Blank (owned.together items.Blank))

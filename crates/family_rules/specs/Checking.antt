@@ -1,7 +1,10 @@
 -- What a checker keeps of the lines above, and which lines it stands for. Lists of earlier lines have the nearest first.
 -- Prometheus text format 0.0.4, "Grouping and sorting": the lines of a family stand together, so only the family of the nearest line goes on.
-use Rattle.std.specs.Prelude.{◌≡◌, ℕ, Bool, false, not, List, [], ◌∷◌, ◌++◌, map, reverse, count_by, Option, Some, None, option_map, is_some, IsTrue, Result, Ok, Err, ⊤, if◌then◌else◌, length, ◌==◌}
+use Rattle.std.specs.Prelude.{◌≡◌, ℕ, Bool, false, not, List, [], ◌∷◌, ◌++◌, map, reverse, count_by, Option, Some, None, option_map, unwrap_or, is_some, IsTrue, Result, Ok, Err, ⊤, if◌then◌else◌, length, ◌==◌}
 use Rattle.std.specs.Option.{option_to_list}
+use Rattle.label_sets.specs.declared.kind.Kind.{Kind}
+use Rattle.label_sets.specs.declared.kind.Kind.TheVariants.{Unknown}
+use Rattle.label_sets.specs.declared.label_set.LabelSet.{LabelSet}
 use Rattle.label_sets.specs.Lists.{first_some}
 use Rattle.page_model.specs.declared.format.Format.TheVariants.{Text}
 use Rattle.page_model.specs.declared.item.Item.{Item}
@@ -12,10 +15,12 @@ use Rattle.page_model.specs.declared.fault.PageFault.TheVariants as faults
 use Rattle.page_model.specs.declared.rule.Rule.{Rule}
 use Rattle.page_model.specs.Written.{Setting}
 use Rattle.page_model.specs.Items.{is_sample, sample_of_line}
-use Rattle.page_model.specs.Owners.{Owned, is_of, declared_kind, owned_lines, samples_of, kept_labels}
+use Rattle.page_model.specs.Owners.{Owned, is_of, declared_kind, kind_of, owned_lines, samples_of, kept_labels}
 use Rattle.page_model.specs.Rules.{is_info_or_state_set}
 use Rattle.page_model.specs.Pages.{AreFaultless}
 use Rattle.page_model.specs.Readings.{help_in, unit_in}
+use Rattle.sample_groups.specs.Groups.{Gathered, groups_from}
+use Rattle.sample_groups.specs.Parts.{is_grouped, entry_of}
 use Rattle.family_rules.specs.declared.family.Current.{Current}
 use Rattle.family_rules.specs.declared.family.FamilySoFar.{FamilySoFar}
 use Rattle.family_rules.specs.declared.sample_key.SampleKey.{SampleKey}
@@ -33,7 +38,11 @@ pub record Checking : Type 0 where
 
 -- a family without lines
 abbrev pub no_lines : FamilySoFar
-no_lines = record { help = None; kind = None; unit = None; values = [] }
+no_lines = record { help = None; kind = None; unit = None; values = []; groups = [] }
+
+-- the kind of a family
+abbrev pub kind_in : FamilySoFar → Kind
+kind_in f = unwrap_or f.kind Unknown
 
 -- the family has a sample
 abbrev pub has_samples : FamilySoFar → Bool
@@ -48,13 +57,18 @@ has_sort _ f = false
 
 -- ---- what the lines above come to
 
+-- the groups of samples, where their kind has groups
+unfoldable pub groups_in : Setting → Kind → List ℕ → List Sample → List (LabelSet × Gathered)
+groups_in st kind family samples = if is_grouped kind then groups_from (map (entry_of st kind family) samples) else []
+
 -- what is known of a family from these lines
-unfoldable pub so_far : List Owned → List ℕ → FamilySoFar
-so_far above family = record {
+unfoldable pub so_far : Setting → List Owned → List ℕ → FamilySoFar
+so_far st above family = record {
   help = first_some (help_in family) above;
   kind = first_some (declared_kind family) above;
   unit = first_some (unit_in family) above;
   values = map (λ (s : Sample). s.value) (samples_of (reverse above) family);
+  groups = groups_in st (kind_of above family) family (samples_of (reverse above) family);
 }
 
 -- the families that were left before a line of this family, in the order in which they were left
@@ -69,9 +83,9 @@ left_families [] = []
 left_families (nearest ∷ above) = left_before nearest.family above
 
 -- the family of the nearest line
-unfoldable pub current_family : List Owned → Option Current
-current_family [] = None
-current_family (nearest ∷ above) = Some (record { name = nearest.family; family = so_far (nearest ∷ above) nearest.family })
+unfoldable pub current_family : Setting → List Owned → Option Current
+current_family st [] = None
+current_family st (nearest ∷ above) = Some (record { name = nearest.family; family = so_far st (nearest ∷ above) nearest.family })
 
 -- what tells a sample from the others of a page
 abbrev pub key_of : Setting → Sample → SampleKey
@@ -99,8 +113,8 @@ AreTextItems (item ∷ earlier) = IsTextItem item × AreTextItems earlier
 pub record Stands (st : Setting) (c : Checking) (earlier : List Item) : Type 0 where
   pub setting : c.setting ≡ st
   pub text : st.format ≡ Text
-  pub left : c.left ≡ map (λ family. (family, so_far (owned_lines st.format earlier) family)) (left_families (owned_lines st.format earlier))
-  pub current : c.current ≡ current_family (owned_lines st.format earlier)
+  pub left : c.left ≡ map (λ family. (family, so_far st (owned_lines st.format earlier) family)) (left_families (owned_lines st.format earlier))
+  pub current : c.current ≡ current_family st (owned_lines st.format earlier)
   pub seen : c.seen ≡ keys_of st (owned_lines st.format earlier)
   pub samples : c.samples ≡ count_by is_sample earlier
   pub working : c.stopped ≡ None

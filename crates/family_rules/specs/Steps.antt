@@ -1,12 +1,14 @@
 -- What the single steps of a checker do to what it keeps (the bridge's own).
-use Rattle.std.specs.Prelude.{◌≡◌, ℕ, Bool, true, false, ◌&&◌, ◌+◌, List, [], ◌∷◌, ◌++◌, map, count_by, Option, Some, None, is_some, unwrap_or, nat_le, drop, length, if◌then◌else◌}
-use Rattle.std.specs.List.{list_any}
+use Rattle.std.specs.Prelude.{◌≡◌, ℕ, Bool, true, false, not, ◌&&◌, ◌||◌, ◌+◌, List, [], ◌∷◌, ◌++◌, map, count_by, Option, Some, None, Result, Ok, Err, is_some, unwrap_or, nat_le, drop, length, if◌then◌else◌}
+use Rattle.std.specs.List.{list_any, list_all}
+use Rattle.std.specs.Option.{option_or}
 use Rattle.std.specs.Str.{bytes_eq}
 use Rattle.std.specs.Map.{lookup}
 use Rattle.indexmap.specs.IndexMap.{insert_entry}
 use Rattle.exact_decimal.specs.declared.number.Number.{Number}
 use Rattle.label_sets.specs.declared.kind.Kind.{Kind}
 use Rattle.label_sets.specs.declared.kind.Kind.TheVariants.{Unknown}
+use Rattle.label_sets.specs.declared.label_set.LabelSet.{LabelSet}
 use Rattle.label_sets.specs.Labels.{label_sets_eq}
 use Rattle.page_model.specs.declared.format.Format.{Format}
 use Rattle.page_model.specs.declared.format.Format.TheVariants.{Text}
@@ -22,16 +24,19 @@ use Rattle.page_model.specs.Written.{Setting}
 use Rattle.page_model.specs.Items.{is_sample}
 use Rattle.page_model.specs.Suffixes.{is_sample_name}
 use Rattle.page_model.specs.declared.item.Sample.{Sample}
-use Rattle.page_model.specs.Owners.{Owned, owned_lines, kind_of, sample_owner}
-use Rattle.page_model.specs.Rules.{is_late_descriptor, is_split, has_wrong_suffix}
+use Rattle.page_model.specs.Owners.{owned_lines}
+use Rattle.page_model.specs.Rules.{is_histogram, has_wrong_suffix, has_bad_value, has_bad_threshold}
 use Rattle.page_model.specs.Faults.{item_fault}
 use Rattle.page_model.specs.Pages.{AreFaultless}
+use Rattle.sample_groups.specs.declared.part.Part.{Part}
+use Rattle.sample_groups.specs.Groups.{Gathered, shared_labels, known_group, or_empty, with_part, breaks_order, is_whole_group, reading_from}
+use Rattle.sample_groups.specs.Parts.{is_grouped, part_of}
 use Rattle.family_rules.specs.declared.family.Current.{Current}
 use Rattle.family_rules.specs.declared.family.Descriptor.{Descriptor}
 use Rattle.family_rules.specs.declared.family.Descriptor.TheVariants as sorts
 use Rattle.family_rules.specs.declared.family.FamilySoFar.{FamilySoFar}
 use Rattle.family_rules.specs.declared.sample_key.SampleKey.{SampleKey}
-use Rattle.family_rules.specs.Checking.{Checking, no_lines, so_far, left_before, keys_of, IsTextItem, AreTextItems, Stands}
+use Rattle.family_rules.specs.Checking.{Checking, no_lines, has_samples, kind_in, so_far, left_before, keys_of, IsTextItem, AreTextItems, Stands}
 
 -- ---- reading
 
@@ -58,15 +63,37 @@ abbrev pub known_in : List (List ℕ × FamilySoFar) → Option Current → List
 known_in left None family = lookup (bytes_eq family) left
 known_in left (Some k) family = if bytes_eq k.name family then Some k.family else lookup (bytes_eq family) left
 
--- the kind of what is known of a family
-abbrev pub known_kind : Option FamilySoFar → Kind
-known_kind None = Unknown
-known_kind (Some f) = unwrap_or f.kind Unknown
+-- late, by what is known of the family: it has a descriptor of this sort, or a sample
+abbrev pub is_late_in : Descriptor → Option FamilySoFar → Bool
+is_late_in sort None = false
+is_late_in sort (Some f) = has sort f || has_samples f
+
+-- the kind of the current family
+abbrev pub current_kind : Option Current → Kind
+current_kind None = Unknown
+current_kind (Some k) = kind_in k.family
 
 -- the current family owns a sample of this name
 abbrev pub is_current_sample : Format → Option Current → List ℕ → Bool
 is_current_sample f None name = false
-is_current_sample f (Some k) name = is_sample_name f (unwrap_or k.family.kind Unknown) k.name name
+is_current_sample f (Some k) name = is_sample_name f (kind_in k.family) k.name name
+
+-- a histogram of which a group isn't whole
+abbrev pub has_incomplete : FamilySoFar → Bool
+has_incomplete f = is_histogram (kind_in f) && not (list_all (λ (g : LabelSet × Gathered). is_whole_group g.1) f.groups)
+
+-- Incomplete, where the current family is left
+abbrev pub left_stop : Option Current → Option Rule
+left_stop None = None
+left_stop (Some k) = if has_incomplete k.family then Some rules.Incomplete else None
+
+-- Descriptor, Split or Incomplete, by the place of a descriptor
+unfoldable pub place_stop : Checking → List ℕ → Descriptor → Option Rule
+place_stop c family sort =
+    if is_late_in sort (known_in c.left c.current family) then Some rules.Descriptor
+    else if is_current_family c.current family then None
+    else if is_some (lookup (bytes_eq family) c.left) then Some rules.Split
+    else left_stop c.current
 
 -- two samples have one name and one label set
 abbrev pub key_eq : SampleKey → SampleKey → Bool
@@ -79,10 +106,13 @@ abbrev pub with_left : List (List ℕ × FamilySoFar) → Option Current → Lis
 with_left left None = left
 with_left left (Some k) = insert_entry bytes_eq left k.name k.family
 
+-- the family is begun, and the current one is left
+abbrev pub begun : Checking → List ℕ → Checking
+begun c family = record c { left = with_left c.left c.current; current = Some (record { name = family; family = no_lines }) }
+
 -- the family is the current one, and was begun where it was not
 unfoldable pub reached : Checking → List ℕ → Checking
-reached c family = if is_current_family c.current family then c
-    else record c { left = with_left c.left c.current; current = Some (record { name = family; family = no_lines }) }
+reached c family = if is_current_family c.current family then c else begun c family
 
 -- what is known of the current family, changed
 abbrev pub current_with : (FamilySoFar → FamilySoFar) → Option Current → Option Current
@@ -101,9 +131,36 @@ with_sample c key value = record c {
   samples = c.samples + 1;
 }
 
--- Duplicate, then TooMany
-unfoldable pub sample_stop : Checking → SampleKey → Option Rule
-sample_stop c key = if list_any (key_eq key) c.seen then Some rules.Duplicate else if nat_le c.setting.limit c.samples then Some rules.TooMany else None
+-- a family with a part more in its groups
+abbrev pub with_part_in : Kind → LabelSet → Part → FamilySoFar → FamilySoFar
+with_part_in kind labels part f = record f { groups = with_part f.groups (shared_labels kind labels) part }
+
+-- the part keeps the order of its group in the current family
+abbrev pub fits_order : Kind → LabelSet → Part → Option Current → Bool
+fits_order kind labels part None = true
+fits_order kind labels part (Some k) = not (breaks_order (or_empty (known_group k.family.groups (shared_labels kind labels))) part)
+
+-- Order
+abbrev pub order_stop : Kind → LabelSet → Part → Option Current → Option Rule
+order_stop kind labels part current = if fits_order kind labels part current then None else Some rules.Order
+
+-- Duplicate, then what else is broken, then TooMany
+unfoldable pub sample_stop : Checking → SampleKey → Option Rule → Option Rule
+sample_stop c key broken =
+    if list_any (key_eq key) c.seen then Some rules.Duplicate
+    else option_or broken (if nat_le c.setting.limit c.samples then Some rules.TooMany else None)
+
+-- Value or Threshold, or else the part of a sample
+abbrev pub part_or_rule : Setting → Kind → List ℕ → Sample → Result Part Rule
+part_or_rule st kind family s =
+    if has_bad_value st.format kind family s then Err rules.Value
+    else if has_bad_threshold kind family s then Err rules.Threshold
+    else Ok (part_of family s)
+
+-- what a sample of this kind is to its group in the current family, where its name is allowed
+abbrev pub TellsPart : Checking → Kind → Sample → Result Part Rule → Type 0
+TellsPart c kind s told = (family : List ℕ) (f : FamilySoFar) → c.current ≡ Some (record { name = family; family = f })
+    → (st : Setting) → st.format ≡ Text → is_grouped kind ≡ true → has_wrong_suffix st kind family s ≡ false → told ≡ part_or_rule st kind family s
 
 -- ---- between the two
 
@@ -111,8 +168,8 @@ sample_stop c key = if list_any (key_eq key) c.seen then Some rules.Duplicate el
 pub record IsReady (st : Setting) (c : Checking) (earlier : List Item) (family : List ℕ) : Type 0 where
   pub setting : c.setting ≡ st
   pub text : st.format ≡ Text
-  pub left : c.left ≡ map (λ name. (name, so_far (owned_lines st.format earlier) name)) (left_before family (owned_lines st.format earlier))
-  pub current : c.current ≡ Some (record { name = family; family = so_far (owned_lines st.format earlier) family })
+  pub left : c.left ≡ map (λ name. (name, so_far st (owned_lines st.format earlier) name)) (left_before family (owned_lines st.format earlier))
+  pub current : c.current ≡ Some (record { name = family; family = so_far st (owned_lines st.format earlier) family })
   pub seen : c.seen ≡ keys_of st (owned_lines st.format earlier)
   pub samples : c.samples ≡ count_by is_sample earlier
   pub working : c.stopped ≡ None
@@ -123,23 +180,6 @@ pub record IsReady (st : Setting) (c : Checking) (earlier : List Item) (family :
 pub record Takes (item : Item) (old new : Checking) (broken : Option Rule) : Type 0 where
   pub broken_is : (st : Setting) (earlier : List Item) → Stands st old earlier → IsTextItem item → broken ≡ item_fault st earlier item
   pub stands : (st : Setting) (earlier : List Item) → Stands st old earlier → IsTextItem item → broken ≡ None → Stands st new (item ∷ earlier)
-
--- the rule that a descriptor breaks by its place
-abbrev pub place_fault : List Owned → Owned → Option Rule
-place_fault above line = if is_late_descriptor above line then Some rules.Descriptor else if is_split above line then Some rules.Split else None
-
--- the rule that a sample breaks by its place or its name
-abbrev pub name_fault : Setting → List Owned → Sample → Option Rule
-name_fault st above s =
-    let owner = sample_owner st.format above s.name in
-    if is_split above (record { family = owner; item = items.Sample s }) then Some rules.Split
-    else if has_wrong_suffix st (kind_of above owner) owner s then Some rules.Suffix else None
-
--- the rule that a sample of this name breaks by its place or its name; where it breaks none, its owner is the current family
-pub record ReachesOwner (name : List ℕ) (old new : Checking) (broken : Option Rule) : Type 0 where
-  pub broken_is : (st : Setting) (earlier : List Item) (s : Sample) → Stands st old earlier → s.name ≡ name → broken ≡ name_fault st (owned_lines st.format earlier) s
-  pub ready : (st : Setting) (earlier : List Item) (s : Sample) → Stands st old earlier → s.name ≡ name → broken ≡ None
-      → IsReady st new earlier (sample_owner st.format (owned_lines st.format earlier) s.name)
 
 -- ---- the page
 
@@ -159,14 +199,20 @@ readings_at kind unit [] vs = []
 readings_at kind unit (key ∷ keys) [] = []
 readings_at kind unit (key ∷ keys) (v ∷ vs) = reading_at kind unit key v ∷ readings_at kind unit keys vs
 
+-- the readings of what is known of a family; the keys of its samples stand in front
+abbrev pub readings_in : List ℕ → FamilySoFar → List SampleKey → List Reading
+readings_in name f keys =
+    if is_grouped (kind_in f) then map (reading_from (kind_in f) name (unwrap_or f.unit [])) f.groups
+    else readings_at (kind_in f) (unwrap_or f.unit []) keys f.values
+
 -- the family of what is known of it; the keys of its samples stand in front
 abbrev pub family_at : List ℕ → FamilySoFar → List SampleKey → Family
 family_at name f keys = record {
   name = name;
-  kind = unwrap_or f.kind Unknown;
+  kind = kind_in f;
   help = unwrap_or f.help [];
   unit = unwrap_or f.unit [];
-  readings = readings_at (unwrap_or f.kind Unknown) (unwrap_or f.unit []) keys f.values;
+  readings = readings_in name f keys;
 }
 
 -- the families of what is known of each; the keys of their samples stand one family behind the other

@@ -1,16 +1,18 @@
-ghost use Rattle.std.specs.Prelude.{◌≡◌, ◌++◌, List, [], ◌∷◌, Err, IfErr, true, false, Some, None, IfOk, OnOk};
+ghost use Rattle.std.specs.Prelude.{◌≡◌, ◌++◌, List, [], ◌∷◌, Err, IfErr, true, not, is_some, None, Some, IfOk, OnOk};
+ghost use Rattle.std.specs.Map.{lookup};
 ghost use Rattle.std.specs.Option.{option_copied};
+ghost use Rattle.std.specs.Str.{bytes_eq};
 ghost use Rattle.page_model.specs.Written.{Setting};
-ghost use Rattle.family_rules.specs.Steps.{with_left};
-ghost use Rattle.page_model.specs.Owners.{owned_lines, kind_of, kept_labels};
-ghost use Rattle.page_model.specs.Rules.{is_late_descriptor, is_split, has_wrong_suffix, is_foreign_unit, is_not_built};
+ghost use Rattle.page_model.specs.Owners.{kept_labels};
+ghost use Rattle.page_model.specs.Rules.{is_foreign_unit};
 ghost use Rattle.page_model.specs.declared.item.Item.{Item};
 ghost use Rattle.page_model.specs.declared.item.Item.TheVariants.{Help, KindOf, Unit};
 ghost use Rattle.page_model.specs.declared.item.Item.TheVariants as items;
-ghost use Rattle.page_model.specs.declared.item.Sample.{Sample};
 ghost use Rattle.page_model.specs.declared.fault.PageFault.{PageFault};
 ghost use Rattle.page_model.specs.Faults.{item_fault, end_fault};
 ghost use Rattle.page_model.specs.Readings.{page_of};
+ghost use Rattle.sample_groups.specs.Parts.{is_grouped};
+ghost use Rattle.family_rules.specs.Steps.{with_left};
 
 use crate::family::{Current, Descriptor, FamilySoFar};
 use crate::pages::families_in;
@@ -20,6 +22,7 @@ use exact_decimal::Number;
 use indexmap::{IndexMap, IndexSet};
 use label_sets::{Kind, LabelSet, Memory, Name, Text};
 use page_model::{Format, Item, Page, PageFault, Rule, Sample, Treatment};
+use sample_groups::{Part, is_grouped, part_of};
 use std::alloc::Global;
 use std::marker::Model;
 use std::mem;
@@ -56,8 +59,8 @@ impl Model for Checker {
 }
 
 impl Checker {
-    ghost use Rattle.family_rules.specs.Checking.{Stands, IsTextItem, Answers, HasStopped};
-    ghost use Rattle.family_rules.specs.Steps.{place_fault, Takes, ReachesOwner, is_current_family, known_in, known_kind, is_current_sample, reached, current_with, with_current, with_sample, sample_stop, is_of_sort, page_at};
+    ghost use Rattle.family_rules.specs.Checking.{Stands, IsTextItem, Answers, HasStopped, key_of};
+    ghost use Rattle.family_rules.specs.Steps.{Takes, TellsPart, is_current_family, known_in, current_kind, is_late_in, left_stop, place_stop, is_current_sample, begun, reached, current_with, with_current, with_part_in, fits_order, order_stop, with_sample, sample_stop, page_at};
 
     /// A checker that has taken no line. `limit` is the most samples that the page may have.
     pub fn new(
@@ -102,10 +105,16 @@ impl Checker {
         }
     }
 
-    /// Rule 9: its family has an earlier descriptor of this sort, or an earlier sample.
-    fn is_late_descriptor(&self, family: &Name, sort: Descriptor) -> bool
-        ensures { (st : Setting) (earlier : List Item) (item : Item) → Stands st self.now earlier → is_of_sort sort item ≡ true
-            → result ≡ is_late_descriptor (owned_lines st.format earlier) (record { family = family.now; item = item }) }
+    /// Whether the family was left before the nearest line.
+    fn is_left(&self, family: &Name) -> bool
+        ensures { result ≡ is_some (lookup (bytes_eq family.now) self.now.left) }
+    {
+        self.left.contains_key(family)
+    }
+
+    /// Rule 9: the family has an earlier descriptor of this sort, or an earlier sample.
+    fn is_late(&self, family: &Name, sort: Descriptor) -> bool
+        ensures { result ≡ is_late_in sort (known_in self.now.left self.now.current family.now) }
     {
         match self.known(family) {
             Some(known) => known.is_late(sort),
@@ -113,36 +122,43 @@ impl Checker {
         }
     }
 
-    /// Rule 11: the family has an earlier line, and the nearest line has another owner.
-    fn is_split(&self, family: &Name) -> bool
-        ensures { (st : Setting) (earlier : List Item) (item : Item) → Stands st self.now earlier
-            → result ≡ is_split (owned_lines st.format earlier) (record { family = family.now; item = item }) }
+    /// Rule 18: a line of another family leaves a histogram that is incomplete.
+    fn left_rule(&self) -> Option<Rule>
+        ensures { result ≡ left_stop self.now.current }
     {
-        !self.is_current(family) && self.left.contains_key(family)
-    }
-
-    /// The kind that the lines above give a family.
-    fn kind_of(&self, family: &Name) -> Kind
-        ensures { (st : Setting) (earlier : List Item) → Stands st self.now earlier → result ≡ kind_of (owned_lines st.format earlier) family.now }
-    {
-        match self.known(family) {
-            Some(known) => known.kind.unwrap_or(Kind::Unknown),
-            None => Kind::Unknown,
+        match &self.current {
+            Some(current) if current.family.is_incomplete() => Some(Rule::Incomplete),
+            _ => None,
         }
     }
 
-    /// The rule that a descriptor breaks by its place: 9 or 11.
-    fn place_fault(&self, family: &Name, sort: Descriptor) -> Option<Rule>
-        ensures { (st : Setting) (earlier : List Item) (item : Item) → Stands st self.now earlier → is_of_sort sort item ≡ true
-            → result ≡ place_fault (owned_lines st.format earlier) (record { family = family.now; item = item }) }
+    /// The rule that a descriptor breaks by its place: 9, 11 or 18.
+    #[tactic(auto, unfolding(crate::specs::Steps::place_stop))]
+    fn place_rule(&self, family: &Name, sort: Descriptor) -> Option<Rule>
+        ensures { result ≡ place_stop self.now family.now sort }
     {
-        if self.is_late_descriptor(family, sort) {
+        if self.is_late(family, sort) {
             return Some(Rule::Descriptor);
         }
-        if self.is_split(family) {
+        if self.is_current(family) {
+            return None;
+        }
+        if self.is_left(family) {
             return Some(Rule::Split);
         }
-        None
+        self.left_rule()
+    }
+
+    /// Begins this family, and leaves the one before it.
+    fn begin(&mut self, family: Name) -> Result<(), Memory>
+        ensures { OnOk result (self.new ≡ begun self.old family) }
+    {
+        let next = Current {
+            name: family,
+            family: FamilySoFar::new(self.alloc),
+        };
+        let before = mem::replace(&mut self.current, Some(next));
+        put_left(&mut self.left, before)
     }
 
     /// Makes this the current family, where another was.
@@ -152,12 +168,7 @@ impl Checker {
         if self.is_current(&family) {
             return Ok(());
         }
-        let next = Current {
-            name: family,
-            family: FamilySoFar::new(self.alloc),
-        };
-        let before = mem::replace(&mut self.current, Some(next));
-        put_left(&mut self.left, before)
+        self.begin(family)
     }
 
     fn set_help(&mut self, text: Text)
@@ -188,7 +199,7 @@ impl Checker {
     fn take_help(&mut self, name: Name, text: Text) -> Result<Option<Rule>, Memory>
         ensures { IfOk result (Takes (Help name text) self.old self.new) }
     {
-        if let Some(rule) = self.place_fault(&name, Descriptor::Help) {
+        if let Some(rule) = self.place_rule(&name, Descriptor::Help) {
             return Ok(Some(rule));
         }
         self.reach(name)?;
@@ -200,11 +211,8 @@ impl Checker {
     fn take_kind(&mut self, name: Name, kind: Kind) -> Result<Option<Rule>, Memory>
         ensures { IfOk result (Takes (KindOf name kind) self.old self.new) }
     {
-        if let Some(rule) = self.place_fault(&name, Descriptor::Type) {
+        if let Some(rule) = self.place_rule(&name, Descriptor::Type) {
             return Ok(Some(rule));
-        }
-        if is_not_built(kind) {
-            return Ok(Some(Rule::NotBuilt));
         }
         self.reach(name)?;
         self.set_kind(kind);
@@ -215,7 +223,7 @@ impl Checker {
     fn take_unit(&mut self, name: Name, unit: Text) -> Result<Option<Rule>, Memory>
         ensures { IfOk result (Takes (Unit name unit) self.old self.new) }
     {
-        if let Some(rule) = self.place_fault(&name, Descriptor::Unit) {
+        if let Some(rule) = self.place_rule(&name, Descriptor::Unit) {
             return Ok(Some(rule));
         }
         if is_foreign_unit(&name, &unit) {
@@ -226,46 +234,26 @@ impl Checker {
         Ok(None)
     }
 
+    /// The kind of the family of the nearest line.
+    fn current_kind(&self) -> Kind
+        ensures { result ≡ current_kind self.now.current }
+    {
+        match &self.current {
+            Some(current) => current.family.kind(),
+            None => Kind::Unknown,
+        }
+    }
+
     /// Whether the family of the nearest line owns a sample of this name.
     fn is_current_sample(&self, name: &Name) -> bool
         ensures { result ≡ is_current_sample self.now.setting.format self.now.current name.now }
     {
         match &self.current {
-            Some(current) => is_sample_name(
-                self.format,
-                current.family.kind.unwrap_or(Kind::Unknown),
-                &current.name,
-                name,
-            ),
+            Some(current) => {
+                is_sample_name(self.format, current.family.kind(), &current.name, name)
+            }
             None => false,
         }
-    }
-
-    /// Rule 13: the name isn't the family's with a suffix that its kind allows.
-    fn has_wrong_suffix(&self, family: &Name, name: &Name) -> bool
-        ensures { (st : Setting) (earlier : List Item) (s : Sample) → Stands st self.now earlier → s.name ≡ name.now
-            → result ≡ has_wrong_suffix st (kind_of (owned_lines st.format earlier) family.now) family.now s }
-    {
-        !is_sample_name(self.format, self.kind_of(family), family, name)
-    }
-
-    /// Makes the owner of a sample the current family, or answers the rule that the sample breaks by its
-    /// place or its name: 11 or 13.
-    fn reach_owner(&mut self, name: &Name) -> Result<Option<Rule>, Memory>
-        ensures { IfOk result (ReachesOwner name.now self.old self.new) }
-    {
-        if self.is_current_sample(name) {
-            return Ok(None);
-        }
-        if self.is_split(name) {
-            return Ok(Some(Rule::Split));
-        }
-        if self.has_wrong_suffix(name, name) {
-            return Ok(Some(Rule::Suffix));
-        }
-        let family = name.copy()?;
-        self.reach(family)?;
-        Ok(None)
     }
 
     /// A label set as a page of this treatment keeps it.
@@ -283,19 +271,27 @@ impl Checker {
         ensures { OnOk result (self.new ≡ with_current self.old (current_with (λ f. record f { values = f.values ++ value ∷ [] }) self.old.current)) }
     {
         if let Some(current) = &mut self.current {
-            current.family.values.push(value)?;
+            current.family.push_value(self.alloc, value)?;
         }
         Ok(())
     }
 
-    /// Adds a sample of the current family, or answers the rule that it breaks: 14 or 20.
-    fn add_sample(&mut self, key: SampleKey, value: Number) -> Result<Option<Rule>, Memory>
-        ensures broken { IfOk result (λ broken. broken ≡ sample_stop self.old key) }
-        ensures added { IfOk result (λ broken. broken ≡ None → self.new ≡ with_sample self.old key value) }
+    /// Adds a sample of the current family, or answers the rule that it breaks: 14, then the given one, then 20.
+    fn add_key(
+        &mut self,
+        key: SampleKey,
+        value: Number,
+        broken: Option<Rule>,
+    ) -> Result<Option<Rule>, Memory>
+        ensures broken { IfOk result (λ answer. answer ≡ sample_stop self.old key broken) }
+        ensures added { IfOk result (λ answer. answer ≡ None → self.new ≡ with_sample self.old key value) }
     {
         let added = self.seen.insert(key)?;
         if !added {
             return Ok(Some(Rule::Duplicate));
+        }
+        if broken.is_some() {
+            return Ok(broken);
         }
         if self.samples >= self.limit {
             return Ok(Some(Rule::TooMany));
@@ -305,9 +301,10 @@ impl Checker {
         Ok(None)
     }
 
-    /// Takes a sample line, and answers the rule that it breaks.
-    fn take_sample(&mut self, sample: Sample) -> Result<Option<Rule>, Memory>
-        ensures { IfOk result (Takes (items.Sample sample) self.old self.new) }
+    /// Adds a sample that breaks the given rule, or none of 15 to 18, and is in no group.
+    fn add_sample(&mut self, sample: Sample, broken: Option<Rule>) -> Result<Option<Rule>, Memory>
+        ensures broken { IfOk result (λ answer. answer ≡ sample_stop self.old (key_of self.old.setting sample) broken) }
+        ensures added { IfOk result (λ answer. answer ≡ None → self.new ≡ with_sample self.old (key_of self.old.setting sample) sample.value) }
     {
         let Sample {
             name,
@@ -315,11 +312,87 @@ impl Checker {
             value,
             ..
         } = sample;
-        if let Some(rule) = self.reach_owner(&name)? {
-            return Ok(Some(rule));
-        }
         let labels = self.kept_labels(labels)?;
-        self.add_sample(SampleKey { name, labels }, value)
+        self.add_key(SampleKey { name, labels }, value, broken)
+    }
+
+    /// What a sample of the current family is to its group, or the rule that it breaks: 15 or 16.
+    fn part(&self, kind: Kind, sample: &Sample) -> Result<Part, Rule>
+        ensures { TellsPart self.now kind sample.now result }
+    {
+        match &self.current {
+            Some(current) => part_of(kind, &current.name, sample),
+            None => Err(Rule::Suffix),
+        }
+    }
+
+    /// Adds a part to its group in the current family, unless it breaks rule 17.
+    fn add_part(&mut self, kind: Kind, labels: &LabelSet, part: Part) -> Result<bool, Memory>
+        ensures answer { IfOk result (λ added. added ≡ fits_order kind labels.now part self.old.current) }
+        ensures added { IfOk result (λ added. added ≡ true → self.new ≡ with_current self.old (current_with (with_part_in kind labels.now part) self.old.current)) }
+        ensures rest { OnOk result (self.new ≡ with_current self.old self.new.current) }
+    {
+        match &mut self.current {
+            Some(current) => current.family.groups.add(self.alloc, kind, labels, part),
+            None => Ok(true),
+        }
+    }
+
+    /// Adds a sample to its group, or answers the rule that it breaks: 14, 17 or 20.
+    fn add_grouped(
+        &mut self,
+        kind: Kind,
+        sample: Sample,
+        part: Part,
+    ) -> Result<Option<Rule>, Memory>
+        ensures broken { IfOk result (λ answer. answer ≡ sample_stop self.old (key_of self.old.setting sample) (order_stop kind (kept_labels self.old.setting.treatment sample.labels) part self.old.current)) }
+        ensures added { IfOk result (λ answer. answer ≡ None → self.new ≡ with_sample (with_current self.old (current_with (with_part_in kind (kept_labels self.old.setting.treatment sample.labels) part) self.old.current)) (key_of self.old.setting sample) sample.value) }
+    {
+        let Sample {
+            name,
+            labels,
+            value,
+            ..
+        } = sample;
+        let labels = self.kept_labels(labels)?;
+        let added = self.add_part(kind, &labels, part)?;
+        let broken = (!added).then_some(Rule::Order);
+        self.add_key(SampleKey { name, labels }, value, broken)
+    }
+
+    /// Takes a sample of the current family, and answers the rule that it breaks: 14 to 17 or 20.
+    fn take_own(&mut self, sample: Sample) -> Result<Option<Rule>, Memory>
+        requires { is_current_sample self.now.setting.format self.now.current sample.name ≡ true }
+        ensures { IfOk result (Takes (items.Sample sample) self.old self.new) }
+    {
+        let kind = self.current_kind();
+        if !is_grouped(kind) {
+            return self.add_sample(sample, None);
+        }
+        match self.part(kind, &sample) {
+            Ok(part) => self.add_grouped(kind, sample, part),
+            Err(rule) => self.add_sample(sample, Some(rule)),
+        }
+    }
+
+    /// Takes a sample line, and answers the rule that it breaks.
+    fn take_sample(&mut self, sample: Sample) -> Result<Option<Rule>, Memory>
+        ensures { IfOk result (Takes (items.Sample sample) self.old self.new) }
+    {
+        if self.is_current_sample(&sample.name) {
+            return self.take_own(sample);
+        }
+        // It is of the family of its own name, and begins it.
+        if self.is_current(&sample.name) {
+            return Ok(Some(Rule::Suffix));
+        }
+        if self.is_left(&sample.name) {
+            return Ok(Some(Rule::Split));
+        }
+        let broken = self.left_rule();
+        let family = sample.name.copy()?;
+        self.begin(family)?;
+        self.add_sample(sample, broken)
     }
 
     /// Takes an item, and answers the rule that it breaks.
@@ -327,7 +400,8 @@ impl Checker {
         ensures { IfOk result (Takes item self.old self.new) }
     {
         match item {
-            Item::Blank | Item::Comment | Item::Eof => Ok(None),
+            Item::Blank | Item::Comment => Ok(None),
+            Item::Eof => Ok(self.left_rule()),
             Item::Help { name, text } => self.take_help(name, text),
             Item::KindOf { name, kind } => self.take_kind(name, kind),
             Item::Unit { name, unit } => self.take_unit(name, unit),
@@ -396,6 +470,9 @@ impl Checker {
                 rule: Rule::NoNewline,
             });
         }
+        if let Some(rule) = self.left_rule() {
+            return Err(PageFault::Refused { line, rule });
+        }
         Ok(self.into_page()?)
     }
 }
@@ -408,14 +485,6 @@ fn put_left(left: &mut IndexMap<Name, FamilySoFar>, current: Option<Current>) ->
         left.insert(name, family)?;
     }
     Ok(())
-}
-
-/// A kind with buckets or quantiles, which isn't read yet.
-#[tactic(auto, unfolding(page_model::specs::Rules::is_not_built))]
-fn is_not_built(kind: Kind) -> bool
-    ensures { result ≡ is_not_built kind }
-{
-    matches!(kind, Kind::Histogram | Kind::GaugeHistogram | Kind::Summary)
 }
 
 /// Whether a unit isn't empty, and with an underscore no suffix of the family's name (OpenMetrics 1.0,

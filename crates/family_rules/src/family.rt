@@ -1,9 +1,10 @@
-ghost use Rattle.std.specs.Prelude.{◌≡◌, ◌||◌};
-ghost use Rattle.family_rules.specs.Checking.{no_lines, has_samples};
-ghost use Rattle.family_rules.specs.Steps.{has};
+ghost use Rattle.std.specs.Prelude.{◌≡◌, ◌||◌, ◌++◌, [], ◌∷◌, OnOk};
+ghost use Rattle.family_rules.specs.Checking.{no_lines, has_samples, kind_in};
+ghost use Rattle.family_rules.specs.Steps.{has, has_incomplete};
 
 use exact_decimal::Number;
-use label_sets::{Kind, List, Name, Text};
+use label_sets::{Kind, List, Memory, Name, Text};
+use sample_groups::Groups;
 use std::alloc::Global;
 
 /// A sort of lines that describe a family.
@@ -22,6 +23,8 @@ pub struct FamilySoFar {
     pub unit: Option<Text>,
     /// The values of its samples in their order.
     pub values: List<Number>,
+    /// The groups of its samples, where its kind has groups.
+    pub groups: Groups,
 }
 
 /// The family of the nearest line above.
@@ -41,7 +44,34 @@ impl FamilySoFar {
             kind: None,
             unit: None,
             values: List::new(alloc),
+            groups: Groups::new(alloc),
         }
+    }
+
+    /// The kind that its lines give it: without a TYPE line it is unknown.
+    pub fn kind(&self) -> Kind
+        ensures { result ≡ kind_in self.now }
+    {
+        self.kind.unwrap_or(Kind::Unknown)
+    }
+
+    /// Whether it is a histogram in which a group has no bucket `+Inf` or another count than that bucket's
+    /// (OpenMetrics 1.0, "Histogram", "GaugeHistogram").
+    pub fn is_incomplete(&self) -> bool
+        ensures { result ≡ has_incomplete self.now }
+    {
+        matches!(self.kind(), Kind::Histogram | Kind::GaugeHistogram) && !self.groups.are_whole()
+    }
+
+    /// Adds the value of a sample. The first one takes room for one alone, since most families have one.
+    pub fn push_value(&mut self, alloc: Global, value: Number) -> Result<(), Memory>
+        ensures { OnOk result (self.new ≡ record self.old { values = self.old.values ++ value ∷ [] }) }
+    {
+        if self.values.is_empty() {
+            self.values = List::with_capacity(alloc, 1)?;
+        }
+        self.values.push(value)?;
+        Ok(())
     }
 
     /// Whether a descriptor of this sort comes too late: behind one of its sort, or behind a sample.

@@ -9,6 +9,7 @@ use indexmap::set::IntoIter;
 use indexmap::{IndexMap, IndexSet};
 use label_sets::{Kind, List, Memory, Name, SeriesKey, Text};
 use page_model::{Family, Reading, Value};
+use sample_groups::is_grouped;
 use std::alloc::Global;
 
 /// The text, or the empty one.
@@ -57,7 +58,7 @@ fn readings(
     ensures readings { IfOk result (λ readings. readings ≡ readings_at kind unit.now keys.old values) }
     ensures rest { OnOk result (keys.new ≡ drop (length values) keys.old) }
 {
-    let mut readings = List::new(alloc);
+    let mut readings = List::with_capacity(alloc, values.len())?;
     for value in values.into_vec() {
         let Some(key) = keys.next() else {
             break;
@@ -65,6 +66,15 @@ fn readings(
         readings.push(reading(alloc, kind, unit, key, value)?)?;
     }
     Ok(readings)
+}
+
+/// Passes over so many keys.
+fn pass_over(keys: &mut IntoIter<SampleKey>, count: usize)
+    ensures { keys.new ≡ drop count keys.old }
+{
+    for _ in 0..count {
+        let _key = keys.next();
+    }
 }
 
 /// The family of what is known of it; the keys of its samples come next.
@@ -77,9 +87,20 @@ fn family(
     ensures family { IfOk result (λ family. family ≡ family_at name known keys.old) }
     ensures rest { OnOk result (keys.new ≡ drop (length known.values) keys.old) }
 {
-    let kind = known.kind.unwrap_or(Kind::Unknown);
+    let kind = known.kind();
     let help = text_or_empty(alloc, known.help);
     let unit = text_or_empty(alloc, known.unit);
+    if is_grouped(kind) {
+        pass_over(keys, known.values.len());
+        let readings = known.groups.into_readings(alloc, kind, &name, &unit)?;
+        return Ok(Family {
+            name,
+            kind,
+            help,
+            unit,
+            readings,
+        });
+    }
     let readings = readings(alloc, kind, &unit, known.values, keys)?;
     Ok(Family {
         name,
@@ -99,7 +120,7 @@ pub fn families_in(
 ) -> Result<List<Family>, Memory>
     ensures { IfOk result (λ families. families ≡ families_at known.entries keys.keys) }
 {
-    let mut families = List::new(alloc);
+    let mut families = List::with_capacity(alloc, known.len())?;
     let mut keys = keys.into_iter();
     for (name, so_far) in known {
         families.push(family(alloc, name, so_far, &mut keys)?)?;
