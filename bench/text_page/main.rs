@@ -1,5 +1,6 @@
 //! Pages of the Prometheus text format 0.0.4 by plain Rust with the standard library alone, to be timed
 //! against the crate `text_grammar`: it owns what the crate's page owns, and refuses what that refuses.
+//! Histograms and summaries it doesn't read.
 //!
 //! Reads a page on standard input into memory. Word: how often the page is read in turn. Prints the time
 //! of each reading and of dropping its page in nanoseconds, and a sum over the page.
@@ -116,7 +117,8 @@ enum Rule {
     Split,
     Duplicate,
     TooMany,
-    NotBuilt,
+    /// A kind with buckets or quantiles, which this program doesn't read.
+    Unread,
 }
 
 /// The least line that breaks a rule, and the least rule that it breaks.
@@ -590,7 +592,7 @@ impl TextPage {
             Item::Type(name, kind) => {
                 let family = self.described(name, |family| family.kind.is_some())?;
                 if matches!(kind, Kind::Histogram | Kind::Summary) {
-                    return Err(Rule::NotBuilt);
+                    return Err(Rule::Unread);
                 }
                 family.kind = Some(kind);
                 Ok(())

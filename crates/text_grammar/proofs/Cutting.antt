@@ -1,5 +1,5 @@
 -- Names at the front.
-use Rattle.std.proofs.Common.{◌≡◌, ℕ, ◌-◌, ◌≤◌, Bool, true, List, length, take, drop, refl, sym, ap, subst, ◌∙◌, IsUtf8}
+use Rattle.std.proofs.Common.{◌≡◌, ℕ, ◌-◌, ◌≤◌, Bool, true, List, length, take, drop, sym, ap, subst, ◌∙◌, IsUtf8}
 use Rattle.std.specs.List.{prefix_len}
 use Rattle.text_grammar.specs.declared.scan.Cut.{Cut}
 use Rattle.text_grammar.specs.Cuts.{IsNamed}

@@ -1,5 +1,5 @@
 -- Labels, step by step.
-use Rattle.std.proofs.Common.{◌≡◌, ℕ, suc, ◌<◌, ◌-◌, ◌+◌, Bool, true, false, cond, List, [], ◌∷◌, ◌++◌, length, Option, Some, None, refl, sym, ap, subst, ◌∙◌, arith, append_assoc, IsUtf8}
+use Rattle.std.proofs.Common.{◌≡◌, ℕ, suc, Bool, true, false, List, [], ◌∷◌, ◌++◌, length, Option, Some, None, refl, sym, ap, ◌∙◌, append_assoc, IsUtf8}
 use Rattle.std.specs.Option.{option_or}
 use Rattle.std.specs.Prelude.{take_while, option_map}
 use Rattle.std.proofs.lemmas.List.{append-nil}
@@ -13,7 +13,7 @@ use Rattle.text_grammar.specs.declared.scan.Cut.{Cut}
 use Rattle.text_grammar.specs.declared.labels.Next.{Next}
 use Rattle.text_grammar.specs.declared.labels.Next.TheVariants.{End, More, Broken}
 use Rattle.text_grammar.specs.Cuts.{IsNamed}
-use Rattle.text_grammar.specs.LabelReading.{behind_labels, IsAfter, IsNext}
+use Rattle.text_grammar.specs.LabelReading.{behind_labels, opened_at, IsAfter, IsNext}
 
 -- ---- a label
 
@@ -21,24 +21,26 @@ pub label-no_name : (cs : List ℕ) → is_label_name (take_while is_label_char 
 unfolding label_at
 label-no_name cs h = rw h refl
 
-module _ (cs : List ℕ) (cut : Cut) (n : IsNamed is_label_name is_label_char cs cut) (w1 : List ℕ) (a : w1 ≡ without_leading_blanks cut.rest.now) where
-  pub label-no_equals : None ≡ behind (61 ∷ []) w1 → label_at cs ≡ None
-  unfolding label_at
-  label-no_equals h = rw (n.named, ← n.rest, ← a, ← h) refl
+-- behind the name, one step after the other
+label-steps : (cs : List ℕ) → is_label_name (take_while is_label_char cs) ≡ true
+    → label_at cs ≡ (opened_at (rest_while is_label_char cs) >>= λ open_quote. quoted_at open_quote >>= λ quoted. Some (record { name = take_while is_label_char cs; value = unescaped quote_escape quoted.0 }, without_leading_blanks quoted.1))
+unfolding label_at
+label-steps cs named = rw named (go (behind (61 ∷ []) (without_leading_blanks (rest_while is_label_char cs))) (λ open_quote. quoted_at open_quote >>= λ quoted. Some (record { name = take_while is_label_char cs; value = unescaped quote_escape quoted.0 }, without_leading_blanks quoted.1)))
+  where
+    go : (o : Option (List ℕ)) (on : List ℕ → Option (Label × List ℕ)) → (o >>= λ value. behind (34 ∷ []) (without_leading_blanks value) >>= on) ≡ ((o >>= λ value. behind (34 ∷ []) (without_leading_blanks value)) >>= on)
+    go None on = refl
+    go (Some value) on = refl
 
-  module _ (v w2 : List ℕ) (hv : Some v ≡ behind (61 ∷ []) w1) (b : w2 ≡ without_leading_blanks v) where
-    pub label-no_quote : None ≡ behind (34 ∷ []) w2 → label_at cs ≡ None
-    unfolding label_at
-    label-no_quote h = rw (n.named, ← n.rest, ← a, ← hv, ← b, ← h) refl
+module _ (cs : List ℕ) (cut : Cut) (n : IsNamed is_label_name is_label_char cs cut) where
+  pub label-no_opening : None ≡ opened_at cut.rest.now → label_at cs ≡ None
+  label-no_opening h = label-steps cs n.named ∙ rw (← n.rest, ← h) refl
 
-    pub label-no_end : (o : List ℕ) → Some o ≡ behind (34 ∷ []) w2 → None ≡ quoted_at o → label_at cs ≡ None
-    unfolding label_at
-    label-no_end o ho h = rw (n.named, ← n.rest, ← a, ← hv, ← b, ← ho, ← h) refl
+  pub label-no_end : (o : List ℕ) → Some o ≡ opened_at cut.rest.now → None ≡ quoted_at o → label_at cs ≡ None
+  label-no_end o ho h = label-steps cs n.named ∙ rw (← n.rest, ← ho, ← h) refl
 
-    pub label-found : (o q r rest : List ℕ) → Some o ≡ behind (34 ∷ []) w2 → Some (q, r) ≡ quoted_at o → rest ≡ without_leading_blanks r
-        → label_at cs ≡ Some (record { name = cut.front.now; value = unescaped quote_escape q }, rest)
-    unfolding label_at
-    label-found o q r rest ho hq e = rw (n.named, ← n.rest, ← a, ← hv, ← b, ← ho, ← hq, e, n.front) refl
+  pub label-found : (o q r rest : List ℕ) → Some o ≡ opened_at cut.rest.now → Some (q, r) ≡ quoted_at o → rest ≡ without_leading_blanks r
+      → label_at cs ≡ Some (record { name = cut.front.now; value = unescaped quote_escape q }, rest)
+  label-found o q r rest ho hq e = label-steps cs n.named ∙ rw (← n.rest, ← ho, ← hq, e, n.front) refl
 
 -- ---- labels
 

@@ -1,5 +1,5 @@
 -- What a line says, step by step.
-use Rattle.std.proofs.Common.{◌≡◌, ◌≢◌, ℕ, suc, ◌<◌, ◌≤◌, Bool, true, false, cond, not, eqb, nat_lt, ◌&&◌, ◌||◌, List, [], ◌∷◌, ◌++◌, length, Option, Some, None, Result, Ok, Err, refl, sym, ap, subst, ◌∙◌, arith, IsUtf8, codes, IfOk, inl, inr}
+use Rattle.std.proofs.Common.{◌≡◌, ℕ, ◌<◌, ◌≤◌, Bool, true, false, cond, nat_lt, List, [], ◌∷◌, ◌++◌, length, Option, Some, None, Result, Ok, Err, refl, sym, ap, subst, ◌∙◌, arith, IsUtf8, codes, IfOk, inl, inr}
 use Rattle.std.specs.Prelude.{take_while, option_map, find}
 use Rattle.std.specs.Str.{bytes_eq, is_utf8}
 use Rattle.std.specs.Cmp.Lexicographic.{bytes_decides}
@@ -15,12 +15,11 @@ use Rattle.exact_decimal.specs.Numbers.{number_read, number}
 use Rattle.exact_decimal.proofs.Answered.{not_a_number}
 use Rattle.page_model.specs.declared.format.Format.TheVariants.{Text}
 use Rattle.page_model.specs.declared.format.Treatment.{Treatment}
-use Rattle.page_model.specs.declared.rule.Rule.{Rule}
 use Rattle.page_model.specs.declared.rule.Rule.TheVariants as rules
-use Rattle.page_model.specs.Written.{Written, Setting, blank, comment, text_setting, line_limit, is_out_of_i64, short_token, has_out_of_range, has_bad_labels, is_label_list, item_of}
+use Rattle.page_model.specs.Written.{Written, blank, comment, text_setting, line_limit, is_out_of_i64, short_token, has_out_of_range, has_bad_labels}
 use Rattle.page_model.specs.TextItems.{is_integer_token, without_leading_blanks, is_not_blank, trimmed}
 use Rattle.page_model.specs.TextReading.{stamp_of, named_at, at_blank, marked_of, middle_at, sample_of, trimmed_of, text_line_of}
-use Rattle.page_model.specs.Faults.{Line, own_fault, line_breaks, line_rules}
+use Rattle.page_model.specs.Faults.{own_fault, line_breaks, line_rules}
 use Rattle.page_model.specs.PageReading.{line_read}
 use Rattle.page_model.proofs.Fronts.{while_parts, behind_parts, behind-append}
 use Rattle.std.proofs.lemmas.Bool.{cases_eq}

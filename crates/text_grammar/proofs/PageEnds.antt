@@ -1,29 +1,28 @@
 -- How a reader of a page answers at the end.
-use Rattle.std.proofs.Common.{◌≡◌, ◌≢◌, ℕ, zero, suc, ◌+◌, ◌-◌, ◌^◌, ◌<◌, ◌≤◌, ◌↔◌, Bool, true, false, cond, nat_lt, List, [], ◌∷◌, ◌++◌, length, map, Option, Some, None, Result, Ok, Err, refl, sym, ap, subst, ◌∙◌, arith}
+use Rattle.std.proofs.Common.{◌≡◌, ℕ, suc, ◌+◌, ◌-◌, ◌^◌, ◌<◌, ◌≤◌, Bool, true, false, cond, nat_lt, List, [], ◌∷◌, ◌++◌, length, map, Some, None, Result, Ok, Err, refl, sym, ap, subst, ◌∙◌, arith}
 use Rattle.std.specs.Prelude.{option_map, ⊤, IfOk}
 use Rattle.std.specs.Option.{option_or}
 use Rattle.std.specs.List.{slice_split, onto_first, fold}
-use Rattle.std.proofs.lemmas.List.{append-nil, append_assoc, map-append, length-map, length-append}
+use Rattle.std.proofs.lemmas.List.{append-nil, map-append, length-map, length-append}
 use Rattle.std.proofs.lemmas.Bool.Decides.{nat_tests}
 use Rattle.page_lines.specs.declared.Last.TheVariants.{Clean, Open}
 use Rattle.page_lines.specs.declared.Place.{Place}
 use Rattle.page_lines.specs.declared.Place.TheVariants.{Within, Behind, Passing}
 use Rattle.page_lines.specs.Feeding.{Feeding, IsEnd, told_at_end}
 use Rattle.page_lines.specs.Feeding as feeding
-use Rattle.page_lines.specs.Told.{Told, told_of, told_line, told_open, whole, too_long}
+use Rattle.page_lines.specs.Told.{Told, told_of, told_line, whole, too_long}
 use Rattle.page_lines.specs.Lines.{lines_of, ends_clean, ended_lines, open_line, is_line_feed, without_empty_last}
 use Rattle.page_lines.proofs.TellingOn.{whole_lines}
 use Rattle.page_model.specs.declared.format.Format.TheVariants.{Text}
 use Rattle.page_model.specs.declared.format.Treatment.{Treatment}
 use Rattle.page_model.specs.declared.item.Item.{Item}
 use Rattle.page_model.specs.declared.page.Page.{Page}
-use Rattle.page_model.specs.declared.rule.Rule.{Rule}
 use Rattle.page_model.specs.declared.fault.PageFault.{PageFault}
 use Rattle.page_model.specs.declared.fault.PageFault.TheVariants as faults
 use Rattle.page_model.specs.Written.{Setting, text_setting, line_limit}
-use Rattle.page_model.specs.Faults.{Line as PageLine, Fault, line_fault, lines_fault, end_fault, fault_from, fault_of, with_line, with_lines}
+use Rattle.page_model.specs.Faults.{Line as PageLine, line_fault, lines_fault, end_fault, fault_from, fault_of, with_line, with_lines}
 use Rattle.page_model.specs.Readings.{page_of}
-use Rattle.page_model.specs.Pages.{FirstFault, IsPageOf, items_of}
+use Rattle.page_model.specs.Pages.{items_of}
 use Rattle.page_model.specs.PageReading.{line_read, text_fault, text_page}
 use Rattle.page_model.proofs.Decides.{front_fault, first_fault_read, page_is_read}
 use Rattle.page_model.proofs.Prefixes.{fault_from-append}

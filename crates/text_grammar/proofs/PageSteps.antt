@@ -1,5 +1,5 @@
 -- How a reader of a page stands after each step.
-use Rattle.std.proofs.Common.{◌≡◌, ◌≢◌, ℕ, zero, suc, not, ◌+◌, ◌-◌, ◌<◌, ◌≤◌, Bool, true, false, nat_lt, List, [], ◌∷◌, ◌++◌, length, map, take, drop, Option, Some, None, Result, Ok, Err, refl, sym, ap, subst, ◌∙◌, arith}
+use Rattle.std.proofs.Common.{◌≡◌, ◌≢◌, ℕ, zero, suc, not, ◌+◌, ◌-◌, ◌<◌, ◌≤◌, true, false, nat_lt, List, [], ◌∷◌, ◌++◌, length, map, take, drop, Option, Some, None, Result, Ok, Err, refl, sym, ap, subst, ◌∙◌, arith}
 use Rattle.std.specs.Prelude.{option_map}
 use Rattle.std.specs.Option.{option_or}
 use Rattle.std.proofs.lemmas.List.{append-nil, append_assoc, map-append, length-map, length-append, length-drop, take-append-drop}
@@ -11,7 +11,7 @@ use Rattle.page_lines.specs.declared.Step.TheVariants.{Line, More, TooLong}
 use Rattle.page_lines.specs.Feeding.{Feeding, told_by}
 use Rattle.page_lines.specs.Feeding as feeding
 use Rattle.page_lines.specs.Told.{Told, told_of, whole, too_long}
-use Rattle.page_lines.specs.Lines.{lines_of, ended_lines, open_line}
+use Rattle.page_lines.specs.Lines.{ended_lines, open_line}
 use Rattle.page_lines.proofs.TellingOn.{told_first, long_next}
 use Rattle.page_model.specs.declared.format.Format.TheVariants.{Text}
 use Rattle.page_model.specs.declared.format.Treatment.{Treatment}
@@ -40,7 +40,7 @@ use Rattle.page_model.specs.Faults.{own_fault, item_fault}
 use Rattle.page_model.proofs.TextSound.{text_line_sound}
 use Rattle.text_grammar.specs.declared.line.LineRead.TheVariants as reads
 use Rattle.text_grammar.specs.LineReading.{IsRead}
-use Rattle.text_grammar.specs.PageFeeding.{TakesLine, TakesStep, Fed, Stands, Refuses, LineAnswer, StepAnswer, PieceAnswer}
+use Rattle.text_grammar.specs.PageFeeding.{TakesLine, TakesStep, Fed, Stands, Refuses, LineAnswer, StepAnswer}
 
 -- ---- one line more
 

@@ -1,10 +1,10 @@
 -- Which parts of a UTF-8 text are UTF-8.
-use Rattle.std.proofs.Common.{◌≡◌, ◌≢◌, ℕ, zero, suc, ◌+◌, ◌-◌, ◌<◌, ◌≤◌, Bool, true, false, cond, List, [], ◌∷◌, ◌++◌, length, take, drop, get_or, Option, Some, None, refl, sym, ap, subst, ◌∙◌, arith, append_assoc, IsUtf8, inl, inr}
+use Rattle.std.proofs.Common.{◌≡◌, ℕ, suc, ◌+◌, ◌-◌, ◌<◌, ◌≤◌, Bool, true, false, List, [], ◌∷◌, ◌++◌, length, take, drop, get_or, Option, Some, None, refl, sym, ap, subst, ◌∙◌, arith, IsUtf8, inl, inr}
 use Rattle.std.proofs.lemmas.Bool.{and_parts, cases_lt, cases_eq}
 use Rattle.std.proofs.lemmas.Bool.Decides.{nat_tests}
 use Rattle.std.proofs.lemmas.Grind.{common_steps}
 use Rattle.std.proofs.Math.Numerals.{one-add}
-use Rattle.std.proofs.lemmas.List.{append-nil, length-append, length-take}
+use Rattle.std.proofs.lemmas.List.{append-nil, length-take}
 use Rattle.text_grammar.specs.declared.quoted.Escapes.{Escapes}
 use Rattle.text_grammar.specs.declared.quoted.Escapes.TheVariants.{Help, Quoted}
 use Rattle.text_grammar.specs.Marks.{escape_of}

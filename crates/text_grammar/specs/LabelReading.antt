@@ -3,12 +3,17 @@
 use Rattle.std.specs.Prelude.{◌≡◌, ℕ, suc, List, [], ◌∷◌, ◌++◌, Option, Some, None, IsUtf8}
 use Rattle.label_sets.specs.declared.label.Label.{Label}
 use Rattle.label_sets.specs.Lists.{◌>>=◌, behind}
-use Rattle.label_sets.specs.Escapes.{quote_escape, unescaped}
+use Rattle.std.specs.List.{list_any}
+use Rattle.label_sets.specs.Escapes.{is_backslash, quote_escape, unescaped}
 use Rattle.page_model.specs.TextItems.{without_leading_blanks}
 use Rattle.page_model.specs.TextReading.{label_at, labels_at}
 use Rattle.text_grammar.specs.declared.labels.LabelParts.{LabelParts}
 use Rattle.text_grammar.specs.declared.labels.Next.{Next}
 use Rattle.text_grammar.specs.declared.labels.Next.TheVariants.{End, More, Broken}
+
+-- what stands behind an equals sign and the quote that opens a value, with blanks in front of each
+abbrev pub opened_at : List ℕ → Option (List ℕ)
+opened_at cs = behind (61 ∷ []) (without_leading_blanks cs) >>= λ value. behind (34 ∷ []) (without_leading_blanks value)
 
 -- the label that written parts make
 abbrev pub label_of : LabelParts → Label
@@ -17,6 +22,7 @@ label_of parts = record { name = parts.name.now; value = unescaped quote_escape 
 -- these are the parts of the label at the front
 pub record IsLabelAt (bytes : List ℕ) (parts : LabelParts) : Type 0 where
   pub found : label_at bytes ≡ Some (label_of parts, parts.rest.now)
+  pub backslash : parts.has_backslash ≡ list_any is_backslash parts.written.now
   pub utf8_name : IsUtf8 parts.name.now
   pub utf8_written : IsUtf8 bytes → IsUtf8 parts.written.now
   pub utf8_rest : IsUtf8 bytes → IsUtf8 parts.rest.now

@@ -1,6 +1,6 @@
 -- What the reading of a line gives: its item, or the least rule that the line alone breaks.
 -- Prometheus text format 0.0.4, "Text format details"; the rules are the bridge's own profile of it.
-use Rattle.std.specs.Prelude.{◌≡◌, ℕ, Bool, true, false, List, Option, Some, None, option_map, IsUtf8, if◌then◌else◌}
+use Rattle.std.specs.Prelude.{◌≡◌, ℕ, true, false, List, Option, Some, None, option_map, IsUtf8, if◌then◌else◌}
 use Rattle.label_sets.specs.declared.label.Label.{Label}
 use Rattle.label_sets.specs.Lists.{◌>>=◌}
 use Rattle.label_sets.specs.Labels.{label_set}

@@ -1,8 +1,9 @@
 -- Steps over the bytes of a quoted value and of an escaped text.
 -- Prometheus text format 0.0.4, "Comments, help text, and type information".
-use Rattle.std.specs.Prelude.{◌≡◌, ℕ, ◌<◌, ◌≤◌, List, [], ◌∷◌, ◌++◌, length, drop, Option, Some, None, if◌then◌else◌}
+use Rattle.std.specs.Prelude.{◌≡◌, ℕ, ◌<◌, ◌≤◌, ◌||◌, Bool, true, false, List, [], ◌∷◌, ◌++◌, length, take, drop, slice_index, Option, Some, None, if◌then◌else◌}
+use Rattle.std.specs.List.{list_any}
 use Rattle.label_sets.specs.Lists.{◌>>=◌}
-use Rattle.label_sets.specs.Escapes.{help_escape, quote_escape, unescaped, is_backslash}
+use Rattle.label_sets.specs.Escapes.{help_escape, quote_escape, unescaped, is_quote, is_backslash}
 use Rattle.text_grammar.specs.declared.quoted.Escapes.{Escapes}
 use Rattle.text_grammar.specs.declared.quoted.Escapes.TheVariants.{Help, Quoted}
 
@@ -14,6 +15,20 @@ escape_of Quoted = quote_escape
 -- these bytes in front of what was found
 abbrev pub behind_front : List ℕ → Option (List ℕ × List ℕ) → Option (List ℕ × List ℕ)
 behind_front front found = found >>= λ x. Some (front ++ x.0, x.1)
+
+-- a quote or a backslash
+abbrev pub is_mark : ℕ → Bool
+is_mark c = is_quote c || is_backslash c
+
+-- no quote and no backslash stands in bytes
+abbrev pub HasNoMark : List ℕ → Type 0
+HasNoMark bytes = list_any is_mark bytes ≡ false
+
+-- the first quote or backslash stands at this place
+pub record IsFirstMark (bytes : List ℕ) (at : ℕ) : Type 0 where
+  pub within : at < length bytes
+  pub mark : is_mark (slice_index bytes at) ≡ true
+  pub before : HasNoMark (take at bytes)
 
 -- how many bytes a byte takes with what it escapes
 abbrev pub step_over : ℕ → ℕ

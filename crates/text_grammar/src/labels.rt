@@ -1,15 +1,16 @@
 //! The labels of a sample (Prometheus text format 0.0.4, "Line format").
-ghost use Rattle.std.specs.Prelude.{◌≡◌, [], length, option_map, IfOk, IsUtf8, MatchOption, None};
+ghost use Rattle.std.specs.Prelude.{◌≡◌, [], length, option_map, IfOk, IfSome, IsUtf8, MatchOption, None};
 ghost use Rattle.std.specs.Option.{option_copied};
 ghost use Rattle.page_model.specs.TextReading.{begins_blank, label_at, labels_at, middle_at};
 ghost use Rattle.page_model.specs.TextItems.{without_leading_blanks};
 ghost use Rattle.label_sets.specs.Lists.{when_true};
-ghost use Rattle.label_sets.specs.Escapes.{quote_escape, unescaped};
-ghost use Rattle.text_grammar.specs.LabelReading.{IsLabelAt, IsNext, IsAfter, then_blanks};
+ghost use Rattle.std.specs.List.{list_any};
+ghost use Rattle.label_sets.specs.Escapes.{is_backslash};
+ghost use Rattle.text_grammar.specs.LabelReading.{IsLabelAt, IsNext, IsAfter, label_of, opened_at, then_blanks};
 
-use crate::quoted::{Escapes, quoted_at, unescaped_text, utf8_name};
-use crate::scan::{behind, cut_label_name, is_blank, without_leading_blanks};
-use label_sets::{Label, List, Memory};
+use crate::quoted::{Escapes, quoted_at, unescaped_text};
+use crate::scan::{begins_blank, behind, cut_label_name, without_leading_blanks};
+use label_sets::{Label, Memory, Name};
 use std::alloc::Global;
 
 /// A label as it is written.
@@ -18,6 +19,7 @@ struct LabelParts<'a> {
     name: &'a [u8],
     /// The value between the quotes, with its escapes.
     written: &'a [u8],
+    has_backslash: bool,
     /// What stands behind the label and the blanks that follow it.
     rest: &'a [u8],
 }
@@ -33,6 +35,28 @@ enum Next<'a> {
     Broken,
 }
 
+/// What stands behind an equals sign and the quote that opens a value, with blanks in front of each.
+fn opened_behind_blanks(bytes: &[u8]) -> Option<&[u8]>
+    ensures value { option_copied result ≡ opened_at bytes.now }
+    ensures utf8 { IsUtf8 bytes.now → IfSome result (λ opened. IsUtf8 opened.now) }
+{
+    let Some(value) = behind(b'=', without_leading_blanks(bytes)) else {
+        return None;
+    };
+    behind(b'"', without_leading_blanks(value))
+}
+
+/// The same. Most often no blanks are there.
+fn opened_at(bytes: &[u8]) -> Option<&[u8]>
+    ensures value { option_copied result ≡ opened_at bytes.now }
+    ensures utf8 { IsUtf8 bytes.now → IfSome result (λ opened. IsUtf8 opened.now) }
+{
+    match bytes {
+        [b'=', b'"', opened @ ..] => Some(opened),
+        _ => opened_behind_blanks(bytes),
+    }
+}
+
 /// The label at the front.
 fn label_at(bytes: &[u8]) -> Option<LabelParts<'_>>
     ensures { MatchOption result (label_at bytes.now ≡ None) (IsLabelAt bytes.now) }
@@ -40,10 +64,7 @@ fn label_at(bytes: &[u8]) -> Option<LabelParts<'_>>
     let Some(name) = cut_label_name(bytes) else {
         return None;
     };
-    let Some(value) = behind(b'=', without_leading_blanks(name.rest)) else {
-        return None;
-    };
-    let Some(opened) = behind(b'"', without_leading_blanks(value)) else {
+    let Some(opened) = opened_at(name.rest) else {
         return None;
     };
     let Some(quoted) = quoted_at(opened) else {
@@ -52,18 +73,20 @@ fn label_at(bytes: &[u8]) -> Option<LabelParts<'_>>
     Some(LabelParts {
         name: name.front,
         written: quoted.written,
+        has_backslash: quoted.has_backslash,
         rest: without_leading_blanks(quoted.rest),
     })
 }
 
-/// The label of a name and a written value.
-fn label_of(alloc: Global, name: &[u8], written: &[u8]) -> Result<Label, Memory>
-    requires name { IsUtf8 name.now }
-    requires written { IsUtf8 written.now }
-    ensures { IfOk result (λ label. label ≡ record { name = name.now; value = unescaped quote_escape written.now }) }
+/// The label that written parts make.
+fn label_of(alloc: Global, parts: LabelParts<'_>) -> Result<Label, Memory>
+    requires name { IsUtf8 parts.name.now }
+    requires written { IsUtf8 parts.written.now }
+    requires backslash { parts.has_backslash ≡ list_any is_backslash parts.written.now }
+    ensures { IfOk result (λ label. label ≡ label_of parts.entry) }
 {
-    let name = utf8_name(alloc, name)?;
-    let value = unescaped_text(alloc, Escapes::Quoted, written)?;
+    let name = Name::from_utf8(alloc, parts.name)?;
+    let value = unescaped_text(alloc, Escapes::Quoted, parts.written, parts.has_backslash)?;
     Ok(Label { name, value })
 }
 
@@ -84,10 +107,10 @@ fn after_label(bytes: &[u8]) -> Next<'_>
 fn next_label<'a>(
     alloc: Global,
     bytes: &'a [u8],
-    labels: &mut List<Label>,
+    labels: &mut Vec<Label>,
 ) -> Result<Next<'a>, Memory>
     requires { IsUtf8 bytes.now }
-    ensures { IfOk result (IsNext bytes.now labels.old labels.new) }
+    ensures { IfOk result (IsNext bytes.now labels.old.items labels.new.items) }
 {
     let bytes = without_leading_blanks(bytes);
     if let Some(after) = behind(b'}', bytes) {
@@ -96,7 +119,7 @@ fn next_label<'a>(
     let Some(parts) = label_at(bytes) else {
         return Ok(Next::Broken);
     };
-    let label = label_of(alloc, parts.name, parts.written)?;
+    let label = label_of(alloc, parts)?;
     labels.push(label)?;
     Ok(after_label(parts.rest))
 }
@@ -105,11 +128,11 @@ fn next_label<'a>(
 fn labels_at<'a>(
     alloc: Global,
     bytes: &'a [u8],
-    labels: &mut List<Label>,
+    labels: &mut Vec<Label>,
 ) -> Result<Option<&'a [u8]>, Memory>
     requires text { IsUtf8 bytes.now }
-    requires none { labels.old ≡ [] }
-    ensures { IfOk result (λ rest. option_map (λ cs. (labels.new, cs)) (option_copied rest) ≡ labels_at (length bytes.now) bytes.now) }
+    requires none { labels.old.items ≡ [] }
+    ensures { IfOk result (λ rest. option_map (λ cs. (labels.new.items, cs)) (option_copied rest) ≡ labels_at (length bytes.now) bytes.now) }
 {
     let mut rest = bytes;
     // Each label takes bytes, so there are no more labels than bytes.
@@ -127,21 +150,21 @@ fn labels_at<'a>(
 fn behind_blanks(bytes: &[u8]) -> Option<&[u8]>
     ensures { option_copied result ≡ when_true (begins_blank bytes.now) (without_leading_blanks bytes.now) }
 {
-    match bytes.split_first() {
-        Some((first, _)) if is_blank(*first) => Some(without_leading_blanks(bytes)),
-        _ => None,
+    if !begins_blank(bytes) {
+        return None;
     }
+    Some(without_leading_blanks(bytes))
 }
 
 /// Adds the labels behind an opening brace, and answers what stands behind them and blanks.
 fn braced_labels<'a>(
     alloc: Global,
     inner: &'a [u8],
-    labels: &mut List<Label>,
+    labels: &mut Vec<Label>,
 ) -> Result<Option<&'a [u8]>, Memory>
     requires text { IsUtf8 inner.now }
-    requires none { labels.old ≡ [] }
-    ensures { IfOk result (λ rest. option_map (λ cs. (labels.new, cs)) (option_copied rest)
+    requires none { labels.old.items ≡ [] }
+    ensures { IfOk result (λ rest. option_map (λ cs. (labels.new.items, cs)) (option_copied rest)
         ≡ then_blanks (labels_at (length inner.now) inner.now)) }
 {
     let Some(rest) = labels_at(alloc, inner, labels)? else {
@@ -154,11 +177,11 @@ fn braced_labels<'a>(
 pub(crate) fn middle_at<'a>(
     alloc: Global,
     bytes: &'a [u8],
-    labels: &mut List<Label>,
+    labels: &mut Vec<Label>,
 ) -> Result<Option<&'a [u8]>, Memory>
     requires text { IsUtf8 bytes.now }
-    requires none { labels.old ≡ [] }
-    ensures { IfOk result (λ rest. option_map (λ cs. (labels.new, cs)) (option_copied rest) ≡ middle_at bytes.now) }
+    requires none { labels.old.items ≡ [] }
+    ensures { IfOk result (λ rest. option_map (λ cs. (labels.new.items, cs)) (option_copied rest) ≡ middle_at bytes.now) }
 {
     match behind(b'{', without_leading_blanks(bytes)) {
         Some(inner) => braced_labels(alloc, inner, labels),

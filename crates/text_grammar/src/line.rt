@@ -11,13 +11,13 @@ ghost use Rattle.page_model.specs.declared.format.Treatment.{Treatment as AnyTre
 ghost use Rattle.text_grammar.specs.LineReading.{Reads, IsRead, IsNamedAt, Makes, help_of, type_of, written_sample};
 
 use crate::labels::middle_at;
-use crate::quoted::{Escapes, unescaped_text, utf8_name};
+use crate::quoted::{Escapes, has_backslash, unescaped_text};
 use crate::scan::{
     Cut, behind, cut_metric_name, cut_word, is_blank, trimmed, without_leading_blanks,
 };
 use crate::stamp::{optional_number, stamp_of};
 use exact_decimal::{Number, NumberFault};
-use label_sets::{Kind, Label, LabelFault, LabelSet, List, Memory};
+use label_sets::{Kind, Label, LabelFault, LabelSet, List, Memory, Name};
 use page_model::{Item, Rule, Sample, Treatment};
 use std::alloc::{AllocError, Global};
 
@@ -93,8 +93,8 @@ fn help_line(alloc: Global, bytes: &[u8]) -> Result<LineRead, Memory>
     let Some(cut) = named_at(bytes) else {
         return Ok(LineRead::Refused(Rule::Syntax));
     };
-    let name = utf8_name(alloc, cut.front)?;
-    let text = unescaped_text(alloc, Escapes::Help, cut.rest)?;
+    let name = Name::from_utf8(alloc, cut.front)?;
+    let text = unescaped_text(alloc, Escapes::Help, cut.rest, has_backslash(cut.rest))?;
     Ok(LineRead::Item(Item::Help { name, text }))
 }
 
@@ -108,7 +108,7 @@ fn type_line(alloc: Global, bytes: &[u8]) -> Result<LineRead, Memory>
     let Some(kind) = kind_named(cut.rest) else {
         return Ok(LineRead::Refused(Rule::Syntax));
     };
-    let name = utf8_name(alloc, cut.front)?;
+    let name = Name::from_utf8(alloc, cut.front)?;
     Ok(LineRead::Item(Item::KindOf { name, kind }))
 }
 
@@ -139,6 +139,7 @@ fn label_limit(treatment: Treatment) -> u32
 
 /// The sample of a name, labels and numbers. The labels are refused where two have one name or there are
 /// too many.
+#[inline(always)]
 fn made_sample(
     alloc: Global,
     treatment: Treatment,
@@ -156,7 +157,7 @@ fn made_sample(
         Err(LabelFault::TooMany) => return Ok(LineRead::Refused(Rule::Labels)),
         Err(LabelFault::Twice(_)) => return Ok(LineRead::Refused(Rule::Labels)),
     };
-    let name = utf8_name(alloc, name)?;
+    let name = Name::from_utf8(alloc, name)?;
     Ok(LineRead::Item(Item::Sample(Sample {
         name,
         labels,
@@ -168,6 +169,7 @@ fn made_sample(
 
 /// The sample of a name, labels and two tokens: first it is refused where the value is no number, then
 /// where one of them is out of range, then by its labels.
+#[inline(always)]
 fn read_sample(
     alloc: Global,
     treatment: Treatment,
@@ -191,27 +193,48 @@ fn read_sample(
     made_sample(alloc, treatment, name, labels, value, stamp)
 }
 
+/// The labels that were read, in a list that takes no more room than they need.
+fn list_of(alloc: Global, labels: &mut Vec<Label>) -> Result<List<Label>, Memory>
+    ensures { IfOk result (λ list. list ≡ labels.old.items) }
+{
+    let mut items = Vec::with_capacity(alloc, labels.len())?;
+    items.append(labels)?;
+    Ok(List::from_vec(items))
+}
+
 /// A sample line.
-fn sample_line(alloc: Global, treatment: Treatment, bytes: &[u8]) -> Result<LineRead, Memory>
+fn sample_line(
+    alloc: Global,
+    treatment: Treatment,
+    bytes: &[u8],
+    labels: &mut Vec<Label>,
+) -> Result<LineRead, Memory>
     requires { IsUtf8 bytes.now }
     ensures { IfOk result (Reads treatment (sample_of bytes.now)) }
 {
     let Some(name) = cut_metric_name(bytes) else {
         return Ok(LineRead::Refused(Rule::Syntax));
     };
-    let mut labels = List::new(alloc);
-    let Some(rest) = middle_at(alloc, name.rest, &mut labels)? else {
+    // A line that was refused may have left some.
+    labels.clear();
+    let Some(rest) = middle_at(alloc, name.rest, labels)? else {
         return Ok(LineRead::Refused(Rule::Syntax));
     };
     let value = cut_word(rest);
     let Some(stamp) = stamp_of(value.rest) else {
         return Ok(LineRead::Refused(Rule::Syntax));
     };
+    let labels = list_of(alloc, labels)?;
     read_sample(alloc, treatment, name.front, labels, value.front, stamp)
 }
 
 /// A line without the blanks at its ends.
-fn trimmed_line(alloc: Global, treatment: Treatment, line: &[u8]) -> Result<LineRead, Memory>
+fn trimmed_line(
+    alloc: Global,
+    treatment: Treatment,
+    line: &[u8],
+    labels: &mut Vec<Label>,
+) -> Result<LineRead, Memory>
     requires { IsUtf8 line.now }
     ensures { IfOk result (Reads treatment (trimmed_of line.now)) }
 {
@@ -220,21 +243,23 @@ fn trimmed_line(alloc: Global, treatment: Treatment, line: &[u8]) -> Result<Line
     }
     match behind(b'#', line) {
         Some(rest) => marked_line(alloc, rest),
-        None => sample_line(alloc, treatment, line),
+        None => sample_line(alloc, treatment, line, labels),
     }
 }
 
-/// The item of a line without its line feed, or the least rule that the line alone breaks.
+/// The item of a line without its line feed, or the least rule that the line alone breaks. `labels` lends
+/// the room in which the labels are gathered; what it holds is lost.
 pub(crate) fn text_line(
     alloc: Global,
     treatment: Treatment,
     line: &[u8],
+    labels: &mut Vec<Label>,
 ) -> Result<LineRead, Memory>
     requires { length line.now ≤ line_limit treatment }
     ensures { IfOk result (IsRead treatment line.now) }
 {
     match std::str::from_utf8(line) {
-        Ok(_) => trimmed_line(alloc, treatment, trimmed(line)),
+        Ok(_) => trimmed_line(alloc, treatment, trimmed(line), labels),
         Err(_) => Ok(LineRead::Refused(Rule::Utf8)),
     }
 }

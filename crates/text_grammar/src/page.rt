@@ -9,7 +9,7 @@ ghost use Rattle.page_lines.specs.declared.Step.TheVariants.{Line, More, TooLong
 
 use crate::line::{LineRead, text_line};
 use family_rules::Checker;
-use label_sets::Memory;
+use label_sets::{Label, Memory};
 use page_lines::{Last, Lines, Step};
 use page_model::{Format, Page, PageFault, Rule, Treatment};
 use std::alloc::Global;
@@ -24,6 +24,8 @@ pub struct TextPage {
     treatment: Treatment,
     lines: Lines,
     checker: Checker,
+    /// The room in which the labels of a line are gathered.
+    labels: Vec<Label>,
     /// The first refusal, or want of memory.
     stopped: Option<PageFault>,
 }
@@ -65,6 +67,7 @@ impl TextPage {
             treatment,
             lines: Lines::new(alloc, line_limit(treatment))?,
             checker: Checker::new(alloc, Format::Text, treatment, limit)?,
+            labels: Vec::new(alloc),
             stopped: None,
         })
     }
@@ -90,7 +93,12 @@ impl TextPage {
         ensures { TakesLine self.old self.new result }
     {
         let line = self.lines.number();
-        match text_line(self.alloc, self.treatment, self.lines.line()) {
+        match text_line(
+            self.alloc,
+            self.treatment,
+            self.lines.line(),
+            &mut self.labels,
+        ) {
             Ok(LineRead::Item(item)) => self.checker.item(line, item),
             Ok(LineRead::Refused(rule)) => Err(PageFault::Refused { line, rule }),
             Err(_) => Err(PageFault::Memory),

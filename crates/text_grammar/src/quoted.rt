@@ -1,10 +1,12 @@
 //! Quoted values and escaped texts (Prometheus text format 0.0.4, "Comments, help text, and type
 //! information").
-ghost use Rattle.std.specs.Prelude.{◌≡◌, ◌<◌, length, option_map, IfOk, IfSome, IsUtf8};
-ghost use Rattle.label_sets.specs.Escapes.{quoted_at, unescaped};
-ghost use Rattle.text_grammar.specs.Marks.{escape_of, escape_at, step_over, IsFirstOf};
+ghost use Rattle.std.specs.Prelude.{◌≡◌, ◌<◌, length, option_map, slice_index, IfOk, IfSome, IsUtf8, MatchOption};
+ghost use Rattle.std.specs.List.{list_any};
+ghost use Rattle.label_sets.specs.Escapes.{is_backslash, quoted_at, unescaped};
+ghost use Rattle.text_grammar.specs.Marks.{HasNoMark, IsFirstMark, escape_of, escape_at, step_over, IsFirstOf};
 
-use label_sets::{Memory, Name, Text};
+use label_sets::{Memory, Text};
+use memchr::memchr2_iter;
 use std::alloc::Global;
 
 /// Which characters a backslash escapes.
@@ -21,6 +23,8 @@ pub(crate) enum Escapes {
 pub(crate) struct Value<'a> {
     /// As written, with its escapes.
     pub(crate) written: &'a [u8],
+    /// Whether a backslash is written in it.
+    pub(crate) has_backslash: bool,
     /// What stands behind the second quote.
     pub(crate) rest: &'a [u8],
 }
@@ -32,23 +36,53 @@ fn step_over(byte: u8) -> usize
     if byte == b'\\' { 2 } else { 1 }
 }
 
-/// What stands in front of the first quote that isn't escaped, and behind it.
-pub(crate) fn quoted_at(bytes: &[u8]) -> Option<Value<'_>>
+/// Where the first quote or backslash stands.
+fn find_mark(bytes: &[u8]) -> Option<usize>
+    ensures { MatchOption result (HasNoMark bytes.now) (IsFirstMark bytes.now) }
+{
+    memchr2_iter(b'"', b'\\', bytes).next()
+}
+
+/// The value, where the first backslash stands at `start` and no quote in front of it.
+fn value_from(bytes: &[u8], start: usize) -> Option<Value<'_>>
+    requires mark { IsFirstMark bytes.now start }
+    requires backslash { slice_index bytes.now start ≡ 92 }
     ensures value { option_map (λ value. (value.written.now, value.rest.now)) result ≡ quoted_at bytes.now }
+    ensures backslash { IfSome result (λ value. value.has_backslash ≡ list_any is_backslash value.written.now) }
     ensures utf8 { IsUtf8 bytes.now → IfSome result (λ value. IsUtf8 value.written.now × IsUtf8 value.rest.now) }
 {
-    let mut at = 0;
+    let mut at = start;
     while at < bytes.len() {
         let byte = bytes[at];
         if byte == b'"' {
             return Some(Value {
                 written: &bytes[..at],
+                has_backslash: true,
                 rest: &bytes[at + 1..],
             });
         }
         at += step_over(byte);
     }
     None
+}
+
+/// What stands in front of the first quote that isn't escaped, and behind it.
+pub(crate) fn quoted_at(bytes: &[u8]) -> Option<Value<'_>>
+    ensures value { option_map (λ value. (value.written.now, value.rest.now)) result ≡ quoted_at bytes.now }
+    ensures backslash { IfSome result (λ value. value.has_backslash ≡ list_any is_backslash value.written.now) }
+    ensures utf8 { IsUtf8 bytes.now → IfSome result (λ value. IsUtf8 value.written.now × IsUtf8 value.rest.now) }
+{
+    let Some(at) = find_mark(bytes) else {
+        return None;
+    };
+    if bytes[at] == b'\\' {
+        return value_from(bytes, at);
+    }
+    Some(Value {
+        written: &bytes[..at],
+        has_backslash: false,
+        rest: &bytes[at + 1..],
+    })
 }
 
 /// What a byte behind a backslash stands for.
@@ -85,6 +119,7 @@ fn first_byte(escapes: Escapes, written: &[u8]) -> (u8, usize)
 }
 
 /// The bytes that escaped ones stand for.
+#[inline(never)]
 fn unescaped(alloc: Global, escapes: Escapes, written: &[u8]) -> Result<Vec<u8>, Memory>
     ensures { IfOk result (λ bytes. bytes.items ≡ unescaped (escape_of escapes) written.now) }
 {
@@ -98,34 +133,30 @@ fn unescaped(alloc: Global, escapes: Escapes, written: &[u8]) -> Result<Vec<u8>,
     Ok(bytes)
 }
 
-/// The text of UTF-8 bytes.
-fn utf8_text(alloc: Global, bytes: &[u8]) -> Result<Text, Memory>
-    requires { IsUtf8 bytes.now }
-    ensures { IfOk result (λ text. text ≡ bytes.now) }
+/// Whether a backslash stands in a text.
+pub(crate) fn has_backslash(written: &[u8]) -> bool
+    ensures { result ≡ list_any is_backslash written.now }
 {
-    Ok(Text::from_bytes(alloc, bytes)?.unwrap())
-}
-
-/// The name of UTF-8 bytes.
-pub(crate) fn utf8_name(alloc: Global, bytes: &[u8]) -> Result<Name, Memory>
-    requires { IsUtf8 bytes.now }
-    ensures { IfOk result (λ name. name ≡ bytes.now) }
-{
-    Ok(Name::from_bytes(alloc, bytes)?.unwrap())
+    written.contains(&b'\\')
 }
 
 /// The text that escaped bytes stand for. Bytes without a backslash are copied at once.
+#[inline(always)]
 pub(crate) fn unescaped_text(
     alloc: Global,
     escapes: Escapes,
     written: &[u8],
+    has_backslash: bool,
 ) -> Result<Text, Memory>
-    requires { IsUtf8 written.now }
+    requires text { IsUtf8 written.now }
+    requires backslash { has_backslash ≡ list_any is_backslash written.now }
     ensures { IfOk result (λ text. text ≡ unescaped (escape_of escapes) written.now) }
 {
-    if !written.contains(&b'\\') {
-        return utf8_text(alloc, written);
+    if !has_backslash {
+        return Text::from_utf8(alloc, written);
     }
     let bytes = unescaped(alloc, escapes, written)?;
-    utf8_text(alloc, bytes.as_slice())
+    // What UTF-8 stands for is UTF-8: escapes are of ASCII and stand for ASCII.
+    let text = unsafe { String::from_utf8_unchecked(bytes) };
+    Ok(Text::from_string(text))
 }

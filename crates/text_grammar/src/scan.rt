@@ -5,7 +5,30 @@ ghost use Rattle.std.specs.List.{prefix_len, suffix_len, list_all};
 ghost use Rattle.label_sets.specs.Lists.{rest_while, behind};
 ghost use Rattle.label_sets.specs.Names.{is_blank, is_label_start, is_label_char, is_label_name, is_metric_start, is_metric_char, is_metric_name};
 ghost use Rattle.page_model.specs.TextItems.{is_not_blank, trimmed, without_leading_blanks};
+ghost use Rattle.page_model.specs.TextReading.{begins_blank};
 ghost use Rattle.text_grammar.specs.Cuts.{IsNamed};
+
+/// The later characters of a label name, each at its own place, and a comma at each other place.
+static LABEL_CHARS: [u8; 256] = *b"\
+    ,,,,,,,,,,,,,,,,,,,,,,,,,,,,,,,,\
+    ,,,,,,,,,,,,,,,,0123456789,,,,,,\
+    ,ABCDEFGHIJKLMNOPQRSTUVWXYZ,,,,_\
+    ,abcdefghijklmnopqrstuvwxyz,,,,,\
+    ,,,,,,,,,,,,,,,,,,,,,,,,,,,,,,,,\
+    ,,,,,,,,,,,,,,,,,,,,,,,,,,,,,,,,\
+    ,,,,,,,,,,,,,,,,,,,,,,,,,,,,,,,,\
+    ,,,,,,,,,,,,,,,,,,,,,,,,,,,,,,,,";
+
+/// The same of a metric name: the colon is one more.
+static METRIC_CHARS: [u8; 256] = *b"\
+    ,,,,,,,,,,,,,,,,,,,,,,,,,,,,,,,,\
+    ,,,,,,,,,,,,,,,,0123456789:,,,,,\
+    ,ABCDEFGHIJKLMNOPQRSTUVWXYZ,,,,_\
+    ,abcdefghijklmnopqrstuvwxyz,,,,,\
+    ,,,,,,,,,,,,,,,,,,,,,,,,,,,,,,,,\
+    ,,,,,,,,,,,,,,,,,,,,,,,,,,,,,,,,\
+    ,,,,,,,,,,,,,,,,,,,,,,,,,,,,,,,,\
+    ,,,,,,,,,,,,,,,,,,,,,,,,,,,,,,,,";
 
 /// Bytes cut in two.
 #[derive(Clone, Copy)]
@@ -32,7 +55,7 @@ fn is_label_start(byte: u8) -> bool
 fn is_label_char(byte: u8) -> bool
     ensures { result ≡ is_label_char byte }
 {
-    is_label_start(byte) || byte.is_ascii_digit()
+    LABEL_CHARS[byte as usize] != b','
 }
 
 /// The first character of a metric name.
@@ -46,7 +69,7 @@ fn is_metric_start(byte: u8) -> bool
 fn is_metric_char(byte: u8) -> bool
     ensures { result ≡ is_metric_char byte }
 {
-    is_metric_start(byte) || byte.is_ascii_digit()
+    METRIC_CHARS[byte as usize] != b','
 }
 
 /// How many blanks stand at the front.
@@ -97,11 +120,24 @@ fn count_metric_chars(bytes: &[u8]) -> usize
     count
 }
 
-/// The bytes without the blanks at the front.
+/// Whether a blank stands at the front.
+pub(crate) fn begins_blank(bytes: &[u8]) -> bool
+    ensures { result ≡ begins_blank bytes.now }
+{
+    match bytes.split_first() {
+        Some((first, _)) => is_blank(*first),
+        None => false,
+    }
+}
+
+/// The bytes without the blanks at the front. Most often there are none.
 pub(crate) fn without_leading_blanks(bytes: &[u8]) -> &[u8]
     ensures value { result.now ≡ without_leading_blanks bytes.now }
     ensures utf8 { IsUtf8 bytes.now → IsUtf8 result.now }
 {
+    if !begins_blank(bytes) {
+        return bytes;
+    }
     &bytes[count_blanks(bytes)..]
 }
 

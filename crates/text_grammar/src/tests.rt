@@ -81,7 +81,11 @@ const REFUSED: [(&[u8], u32, Rule); 14] = [
     (b"x{a=\"1\",a=\"2\"} 1\n", 1, Rule::Labels),
     (b"x{a=\"\xff\"} 1\n", 1, Rule::Utf8),
     (b"x 1\n# HELP x late\n", 2, Rule::Descriptor),
-    (b"# TYPE h histogram\n", 1, Rule::NotBuilt),
+    (
+        b"# TYPE h histogram\nh_bucket{le=\"1\"} 2\ny 1\n",
+        3,
+        Rule::Incomplete,
+    ),
     (b"x 1\r\n", 1, Rule::Syntax),
     (b"x 1\n\n1x 2\ny 1 2 3\n", 3, Rule::Syntax),
 ];

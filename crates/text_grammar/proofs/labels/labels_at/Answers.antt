@@ -1,7 +1,7 @@
-use Rattle.std.proofs.Common.{◌≡◌, ◌<◌, ◌∙◌, ◌-◌, ◌+◌, ap, refl, sym, arith, length, suc, subst, rules}
+use Rattle.std.proofs.Common.{◌≡◌, ◌∙◌, ◌-◌, ◌+◌, refl, sym, arith, length, suc, subst}
 use Rattle.page_model.specs.TextReading.{labels_at}
 use Rattle.text_grammar.specs.declared.labels.Next.TheVariants.{End, More, Broken}
-use Rattle.text_grammar.specs.LabelReading.{behind_labels, IsNext}
+use Rattle.text_grammar.specs.LabelReading.{IsNext}
 use Rattle.text_grammar.proofs.LabelSteps.{no_labels, labels-nothing}
 use Rattle.text_grammar.proofs.labels.labels_at.Goals as goal
 
@@ -18,21 +18,21 @@ next_label-requires c = c.loop.invariant.utf8
 
 pub returns-in-End : goal.returns-in-End
 returns-in-End c =
-    let next : IsNext c.loop.rest.now c.loop.labels c.next_label.new.labels (End c.in-End.after) = subst (IsNext c.loop.rest.now c.loop.labels c.next_label.new.labels) c.in-End.is c.in_ok-after.ensures in
+    let next : IsNext c.loop.rest.now c.loop.labels.items c.next_label.new.labels.items (End c.in-End.after) = subst (IsNext c.loop.rest.now c.loop.labels.items c.next_label.new.labels.items) c.in-End.is c.in_ok-after.ensures in
     let left = length c.args.bytes.now - (c.loop.counter + 1) in
     let one : length c.args.bytes.now - c.loop.counter ≡ suc left = omega arith in
     sym (c.loop.invariant.value ∙ rw one (next left))
 
 pub returns-in-Broken : goal.returns-in-Broken
 returns-in-Broken c =
-    let next : IsNext c.loop.rest.now c.loop.labels c.next_label.new.labels Broken = subst (IsNext c.loop.rest.now c.loop.labels c.next_label.new.labels) c.in-Broken.is c.in_ok-after.ensures in
+    let next : IsNext c.loop.rest.now c.loop.labels.items c.next_label.new.labels.items Broken = subst (IsNext c.loop.rest.now c.loop.labels.items c.next_label.new.labels.items) c.in-Broken.is c.in_ok-after.ensures in
     let left = length c.args.bytes.now - (c.loop.counter + 1) in
     let one : length c.args.bytes.now - c.loop.counter ≡ suc left = omega arith in
     sym (c.loop.invariant.value ∙ rw (one, next left) refl)
 
 pub loop-preserved : goal.loop-preserved
 loop-preserved c =
-    let next : IsNext c.loop.rest.now c.loop.labels c.next_label.new.labels (More c.in-More.more) = subst (IsNext c.loop.rest.now c.loop.labels c.next_label.new.labels) c.in-More.is c.in_ok-after.ensures in
+    let next : IsNext c.loop.rest.now c.loop.labels.items c.next_label.new.labels.items (More c.in-More.more) = subst (IsNext c.loop.rest.now c.loop.labels.items c.next_label.new.labels.items) c.in-More.is c.in_ok-after.ensures in
     let left = length c.args.bytes.now - (c.loop.counter + 1) in
     let one : length c.args.bytes.now - c.loop.counter ≡ suc left = omega arith in
     record {

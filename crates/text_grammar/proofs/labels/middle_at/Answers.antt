@@ -1,4 +1,3 @@
-use Rattle.std.proofs.Common.{◌≡◌, sym, ◌∙◌}
 use Rattle.page_model.specs.TextItems.{without_leading_blanks}
 use Rattle.page_model.specs.TextReading.{begins_blank}
 use Rattle.text_grammar.proofs.LabelSteps.{middle-labels, middle-blanks, blanks_mapped}

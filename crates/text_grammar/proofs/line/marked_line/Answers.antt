@@ -1,4 +1,4 @@
-use Rattle.std.proofs.Common.{◌≡◌, sym, ◌∙◌, refl}
+use Rattle.std.proofs.Common.{sym, ◌∙◌, refl}
 use Rattle.text_grammar.proofs.LineSteps.{marked-help, marked-type, marked-comment, behind_help}
 use Rattle.text_grammar.proofs.line.marked_line.Goals as goal
 

@@ -1,4 +1,4 @@
-use Rattle.std.proofs.Common.{◌≡◌, sym, ◌∙◌}
+use Rattle.std.proofs.Common.{sym, ◌∙◌}
 use Rattle.text_grammar.proofs.LineSteps.{named-none, named-stuck, named-found}
 use Rattle.text_grammar.proofs.line.named_at.Goals as goal
 

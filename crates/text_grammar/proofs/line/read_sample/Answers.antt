@@ -1,4 +1,4 @@
-use Rattle.std.proofs.Common.{◌≡◌, sym, ◌∙◌, ap, subst, Option}
+use Rattle.std.proofs.Common.{sym, subst, Option}
 use Rattle.std.specs.Prelude.{option_map}
 use Rattle.std.specs.Option.{option_copied}
 use Rattle.label_sets.specs.Lists.{some_passes, when_true}

@@ -1,4 +1,4 @@
-use Rattle.std.proofs.Common.{◌≡◌, sym, ◌∙◌, ap}
+use Rattle.std.proofs.Common.{ap}
 use Rattle.std.specs.Option.{option_copied}
 use Rattle.text_grammar.specs.LineReading.{says_fault}
 use Rattle.text_grammar.proofs.LineSteps.{sample-no_name, sample-no_middle, sample-no_stamp, sample-parts}
@@ -11,9 +11,12 @@ pub returns-in_default-2 : goal.returns-in_default-2
 returns-in_default-2 c = ap (says_fault c.args.treatment) (sample-no_middle c.args.bytes.now c.in-Some.name c.in-Some.ensures (rw c.in_default-2.is at c.in_ok-rest.ensures))
 
 pub returns-in_default-stamp_of : goal.returns-in_default-stamp_of
-returns-in_default-stamp_of c = ap (says_fault c.args.treatment) (sample-no_stamp c.args.bytes.now c.in-Some.name c.in-Some.ensures c.middle_at.new.labels c.in-Some-2.rest.now c.cut_word-value.result.front.now c.cut_word-value.result.rest.now
+returns-in_default-stamp_of c = ap (says_fault c.args.treatment) (sample-no_stamp c.args.bytes.now c.in-Some.name c.in-Some.ensures c.middle_at.new.labels.items c.in-Some-2.rest.now c.cut_word-value.result.front.now c.cut_word-value.result.rest.now
     (rw c.in-Some-2.is at c.in_ok-rest.ensures) c.cut_word-value.ensures.front c.cut_word-value.ensures.rest c.in_default-stamp_of.ensures.value)
 
 pub returns : goal.returns
-returns c = rw (sample-parts c.args.bytes.now c.in-Some.name c.in-Some.ensures c.middle_at.new.labels c.in-Some-2.rest.now c.cut_word-value.result.front.now c.cut_word-value.result.rest.now
-    (rw c.in-Some-2.is at c.in_ok-rest.ensures) c.cut_word-value.ensures.front c.cut_word-value.ensures.rest (option_copied c.in-Some-stamp_of.stamp) c.in-Some-stamp_of.ensures.value) c.read_sample.ensures
+returns c = rw (
+  sample-parts c.args.bytes.now c.in-Some.name c.in-Some.ensures c.middle_at.new.labels.items c.in-Some-2.rest.now c.cut_word-value.result.front.now c.cut_word-value.result.rest.now
+      (rw c.in-Some-2.is at c.in_ok-rest.ensures) c.cut_word-value.ensures.front c.cut_word-value.ensures.rest (option_copied c.in-Some-stamp_of.stamp) c.in-Some-stamp_of.ensures.value,
+  ← c.in_ok-labels.ensures,
+) c.read_sample.ensures

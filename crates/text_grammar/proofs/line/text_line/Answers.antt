@@ -1,4 +1,3 @@
-use Rattle.std.proofs.Common.{◌≡◌, sym, ◌∙◌}
 use Rattle.page_model.specs.TextReading.{trimmed_of}
 use Rattle.text_grammar.specs.LineReading.{Reads, IsRead}
 use Rattle.text_grammar.proofs.LineSteps.{line-not_utf8, line-read, line-trimmed, if_ok, not_utf8}

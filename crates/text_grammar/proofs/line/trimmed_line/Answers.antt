@@ -1,4 +1,4 @@
-use Rattle.std.proofs.Common.{◌≡◌, ◌<◌, sym, ◌∙◌, refl, arith, length, eqb-true, false-eqb}
+use Rattle.std.proofs.Common.{◌<◌, sym, refl, arith, length, eqb-true, false-eqb}
 use Rattle.text_grammar.proofs.LineSteps.{trimmed-nothing, trimmed-marked, trimmed-sample}
 use Rattle.text_grammar.proofs.line.trimmed_line.Goals as goal
 

@@ -1,4 +1,4 @@
-use Rattle.std.proofs.Common.{arith, subst, sym, IsUtf8, ◌∙◌, ◌≡◌, ◌<◌, ◌∷◌, []}
+use Rattle.std.proofs.Common.{subst, sym, IsUtf8, ◌∷◌, []}
 use Rattle.page_model.proofs.Fronts.{behind_parts}
 use Rattle.text_grammar.proofs.Utf8.{utf8_tail}
 use Rattle.text_grammar.proofs.scan.behind.Goals as goal

@@ -1,4 +1,3 @@
-use Rattle.std.proofs.Common.{arith}
 use Rattle.text_grammar.proofs.Digits.{capped_on}
 use Rattle.text_grammar.proofs.stamp.capped_value.Goals as goal
 

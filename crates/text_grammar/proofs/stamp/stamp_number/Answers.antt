@@ -1,4 +1,3 @@
-use Rattle.std.proofs.Common.{sym, ◌∙◌}
 use Rattle.text_grammar.proofs.Digits.{integer_digits}
 use Rattle.text_grammar.proofs.stamp.stamp_number.Goals as goal
 

@@ -1,5 +1,5 @@
 use Rattle.std.proofs.Common.{sym, ◌∙◌, ap, eqb-true, false-eqb, arith, ◌<◌, length}
-use Rattle.page_model.specs.TextItems.{is_integer_token, without_leading_blanks}
+use Rattle.page_model.specs.TextItems.{is_integer_token}
 use Rattle.text_grammar.proofs.LineSteps.{stamp-nothing, stamp-none, stamp-some}
 use Rattle.text_grammar.proofs.stamp.stamp_of.Goals as goal
 

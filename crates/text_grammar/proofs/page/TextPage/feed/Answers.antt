@@ -1,4 +1,3 @@
-use Rattle.std.proofs.Common.{◌≡◌, refl, sym}
 use Rattle.text_grammar.proofs.page.TextPage.feed.Goals as goal
 
 pub returns-in-Err-clause-answer : goal.returns-in-Err-clause-answer

@@ -1,4 +1,4 @@
-use Rattle.std.proofs.Common.{◌≡◌, ◌+◌, ◌-◌, ◌^◌, ◌<◌, ℕ, true, refl, sym, subst, ap, ◌∙◌, arith, length, map, []}
+use Rattle.std.proofs.Common.{◌≡◌, ◌+◌, ◌-◌, ◌^◌, ◌<◌, true, refl, sym, subst, ap, ◌∙◌, arith, length, map, []}
 use Rattle.page_lines.specs.declared.Last.TheVariants.{Clean, Open}
 use Rattle.page_lines.specs.Feeding.{IsEnd}
 use Rattle.page_lines.specs.Feeding as feeding

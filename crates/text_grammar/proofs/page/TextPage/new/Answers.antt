@@ -1,4 +1,4 @@
-use Rattle.std.proofs.Common.{◌≡◌, refl, sym, ap, ◌∙◌}
+use Rattle.std.proofs.Common.{refl, ap, ◌∙◌}
 use Rattle.page_lines.specs.Feeding.{Feeding}
 use Rattle.text_grammar.proofs.PageSteps.{stands-nothing}
 use Rattle.text_grammar.proofs.page.TextPage.new.Goals as goal

@@ -1,4 +1,4 @@
-use Rattle.std.proofs.Common.{◌≡◌, ◌+◌, ℕ, refl, sym, subst, ap, ◌∙◌, arith, length}
+use Rattle.std.proofs.Common.{◌≡◌, ◌+◌, sym, subst, ap, ◌∙◌, arith, length}
 use Rattle.page_lines.specs.Feeding.{Feeding}
 use Rattle.family_rules.specs.Checking.{Checking}
 use Rattle.family_rules.specs.Checking as checking

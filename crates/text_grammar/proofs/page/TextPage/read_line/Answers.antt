@@ -1,4 +1,4 @@
-use Rattle.std.proofs.Common.{◌≡◌, refl, sym, subst}
+use Rattle.std.proofs.Common.{subst}
 use Rattle.text_grammar.specs.PageFeeding.{Fed, TakesLine}
 use Rattle.text_grammar.proofs.PageSteps.{takes-item, takes-refusal, read_item}
 use Rattle.text_grammar.proofs.page.TextPage.read_line.Goals as goal

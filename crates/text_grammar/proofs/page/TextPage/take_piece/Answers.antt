@@ -1,8 +1,8 @@
-use Rattle.std.proofs.Common.{◌≡◌, ◌+◌, ◌-◌, ◌<◌, ◌≤◌, ◌++◌, refl, sym, subst, ap, ◌∙◌, arith, take, drop, length, Ok, Err, ℕ, List, [], inl, inr}
+use Rattle.std.proofs.Common.{◌<◌, ◌≤◌, ◌++◌, refl, subst, ◌∙◌, arith, take, length, ℕ, List, [], inl, inr}
 use Rattle.std.proofs.lemmas.Bool.{cases_lt}
 use Rattle.std.proofs.lemmas.List.{take_all}
 use Rattle.page_model.specs.Written.{text_setting}
-use Rattle.text_grammar.specs.PageFeeding.{Fed, Stands, TakesStep}
+use Rattle.text_grammar.specs.PageFeeding.{Stands}
 use Rattle.text_grammar.proofs.PageSteps.{piece-on, refused-on, slice_length}
 use Rattle.text_grammar.proofs.page.TextPage.take_piece.Goals as goal
 

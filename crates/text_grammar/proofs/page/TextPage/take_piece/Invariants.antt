@@ -1,4 +1,4 @@
-use Rattle.std.proofs.Common.{◌≡◌, ◌+◌, ◌-◌, ◌<◌, ◌≤◌, ◌++◌, ℕ, List, take, length}
+use Rattle.std.proofs.Common.{◌≡◌, ◌+◌, ◌<◌, ◌≤◌, ◌++◌, ℕ, List, take, length}
 use Rattle.page_model.specs.declared.format.Treatment.{Treatment}
 use Rattle.text_grammar.specs.PageFeeding.{Stands}
 use Rattle.text_grammar.proofs.page.TextPage.take_piece.Given as goal

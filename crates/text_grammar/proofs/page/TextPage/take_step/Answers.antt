@@ -1,5 +1,5 @@
-use Rattle.std.proofs.Common.{◌≡◌, refl, sym, subst, Ok, Err}
-use Rattle.text_grammar.specs.PageFeeding.{Fed, TakesStep}
+use Rattle.std.proofs.Common.{refl, Ok, Err}
+use Rattle.text_grammar.specs.PageFeeding.{Fed}
 use Rattle.text_grammar.proofs.PageSteps.{LinesStep, takes-step, after}
 use Rattle.text_grammar.proofs.page.TextPage.take_step.Goals as goal
 

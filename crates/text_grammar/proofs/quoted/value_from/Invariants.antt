@@ -1,11 +1,12 @@
 use Rattle.std.proofs.Common.{◌≡◌, ◌+◌, ◌-◌, ◌≤◌, length, take, drop}
 use Rattle.label_sets.specs.Escapes.{quoted_at}
 use Rattle.text_grammar.specs.Marks.{behind_front}
-use Rattle.text_grammar.proofs.quoted.quoted_at.Given as goal
+use Rattle.text_grammar.proofs.quoted.value_from.Given as goal
 
 abbrev pub invariant-loop-at : goal.invariant-loop-at
 invariant-loop-at l = record {
   within : l.at ≤ length l.bytes + 1;
+  from : l.initial.start ≤ l.at;
   value : quoted_at l.bytes ≡ behind_front (take l.at l.bytes) (quoted_at (drop l.at l.bytes));
 }
 
