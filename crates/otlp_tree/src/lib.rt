@@ -7,4 +7,7 @@
 
 mod tree;
 
-pub use tree::{Attribute, AttributeValue, Metric, NumberPoint, Request, ScopeMetrics, Shape};
+pub use tree::{
+    Attribute, AttributeValue, HistogramPoint, HistogramValue, Metric, NumberPoint, Request,
+    ScopeMetrics, Shape, SummaryPoint, SummaryValue,
+};

@@ -1,5 +1,7 @@
 use exact_decimal::Number;
+use histogram_layout::Layout;
 use label_sets::{LabelSet, List, Text};
+use page_model::Quantile;
 
 /// An export request of one resource (`ExportMetricsServiceRequest` with one `ResourceMetrics`).
 #[derive(Drop)]
@@ -56,6 +58,10 @@ pub enum Shape {
         /// Whether the value never falls between a start and the next.
         monotonic: bool,
     },
+    /// Observations by bounds that count from a start on (`Histogram` with cumulative temporality).
+    Histogram(List<HistogramPoint>),
+    /// Quantiles of observations (`Summary`).
+    Summary(List<SummaryPoint>),
 }
 
 /// A value of one series at one time (`NumberDataPoint`).
@@ -69,4 +75,48 @@ pub struct NumberPoint {
     pub time: u64,
     /// The value; `None` where the series has none any more (the flag `NO_RECORDED_VALUE`).
     pub value: Option<Number>,
+}
+
+/// The observations of one series up to one time (`HistogramDataPoint`).
+#[derive(Drop)]
+pub struct HistogramPoint {
+    /// The attributes of the series, in byte order of their names.
+    pub labels: LabelSet,
+    /// Since when the observations count, in nanoseconds since the Unix epoch.
+    pub start: u64,
+    /// When they were read, in nanoseconds since the Unix epoch.
+    pub time: u64,
+    /// The observations; `None` where the series has none any more (the flag `NO_RECORDED_VALUE`).
+    pub value: Option<HistogramValue>,
+}
+
+/// Observations by the bounds between which they lie.
+#[derive(Drop)]
+pub struct HistogramValue {
+    /// `explicitBounds`, `bucketCounts` and `count`.
+    pub layout: Layout,
+    /// The sum of the observations, where it is known.
+    pub sum: Option<Number>,
+}
+
+/// The quantiles of one series at one time (`SummaryDataPoint`).
+#[derive(Drop)]
+pub struct SummaryPoint {
+    /// The attributes of the series, in byte order of their names.
+    pub labels: LabelSet,
+    /// Since when the observations count, in nanoseconds since the Unix epoch.
+    pub start: u64,
+    /// When they were read, in nanoseconds since the Unix epoch.
+    pub time: u64,
+    /// The quantiles; `None` where the series has none any more (the flag `NO_RECORDED_VALUE`).
+    pub value: Option<SummaryValue>,
+}
+
+/// The count, the sum and some quantiles of observations.
+#[derive(Drop)]
+pub struct SummaryValue {
+    pub count: u64,
+    pub sum: Number,
+    /// In the order of the page (`ValueAtQuantile`).
+    pub quantiles: List<Quantile>,
 }
