@@ -1,14 +1,17 @@
 -- Worked texts: the definitions compute them.
-use Rattle.std.proofs.Common.{◌≡◌, [], ◌∷◌, ◌++◌, true, false, codes, Some, None, refl}
+use Rattle.std.proofs.Common.{◌≡◌, [], ◌∷◌, ◌++◌, ℕ, true, false, codes, Some, None, refl}
 use Rattle.std.specs.Fmt.{digits}
 use Rattle.exact_decimal.specs.declared.number.Number.{Number}
-use Rattle.exact_decimal.specs.Literals.{number_json}
+use Rattle.exact_decimal.specs.declared.number.Number.TheVariants.{Finite, NotANumber}
+use Rattle.exact_decimal.specs.Decimals.{DecimalValue}
+use Rattle.exact_decimal.specs.Literals.{sign_text, pointed, plain_text, is_plain, size_text, decimal_text, number_json}
 use Rattle.label_sets.specs.declared.label_set.LabelSet.{LabelSet}
 use Rattle.otlp_tree.specs.declared.tree.AttributeValue.TheVariants.{Str, Int}
 use Rattle.otlp_tree.specs.declared.tree.NumberPoint.{NumberPoint}
 use Rattle.otlp_tree.specs.declared.tree.Shape.TheVariants as shapes
+use Rattle.page_model.specs.declared.page.Quantile.{Quantile}
 use Rattle.otlp_json.specs.Json.{json_string, json_integer}
-use Rattle.otlp_json.specs.Texts.{attribute_value_text, attribute_text, label_text, attributes_member, start_member, number_member, number_point_text, gauge_member, sum_member, shape_member, metric_text, scope_text, request_text}
+use Rattle.otlp_json.specs.Texts.{attribute_value_text, attribute_text, label_text, attributes_member, start_member, number_member, number_point_text, known_sum_member, observation_members, histogram_value_members, histogram_point_text, quantile_text, quantile_members, summary_value_members, summary_point_text, gauge_member, sum_member, histogram_member, summary_member, shape_member, metric_text, scope_text, request_text}
 
 -- a line feed, a quote, two backslashes, a letter of two bytes, DEL and a control character
 escapes : json_string (112 ∷ 10 ∷ 34 ∷ 92 ∷ 92 ∷ 113 ∷ 195 ∷ 169 ∷ 127 ∷ 31 ∷ []) ≡ codes "\"p\\u000a\\\"\\\\\\\\q" ++ 195 ∷ 169 ∷ 127 ∷ codes "\\u001f\""
@@ -53,6 +56,64 @@ sum_metric : metric_text (record {
     ≡ codes "{\"name\":\"q\",\"description\":\"what\",\"unit\":\"By\",\"sum\":{\"dataPoints\":[{\"attributes\":[{\"key\":\"a\",\"value\":{\"stringValue\":\"1\"}},{\"key\":\"b\",\"value\":{\"stringValue\":\"2\"}}],\"timeUnixNano\":\"20\",\"flags\":1},{\"timeUnixNano\":\"20\",\"flags\":1}],\"aggregationTemporality\":2,\"isMonotonic\":false}}"
 unfolding metric_text shape_member sum_member number_point_text label_text attribute_value_text attributes_member start_member number_member json_string json_integer digits
 sum_metric = refl
+
+-- digits divided by a power of ten
+abbrev divided : ℕ → ℕ → DecimalValue
+divided digits down = record { negative = false; digits = digits; up = 0; down = down }
+
+-- a histogram with a sum
+histogram_metric : metric_text (record {
+  name = codes "h";
+  description = [];
+  unit = [];
+  shape = shapes.Histogram (record {
+    labels = [];
+    start = 1000;
+    time = 1000;
+    value = Some (record { layout = record { bounds = divided 1 1 ∷ divided 1 0 ∷ []; counts = 2 ∷ 3 ∷ 0 ∷ []; count = 5 }; sum = Some (Finite (divided 15 1)) });
+  } ∷ []);
+})
+    ≡ codes "{\"name\":\"h\",\"histogram\":{\"dataPoints\":[{\"startTimeUnixNano\":\"1000\",\"timeUnixNano\":\"1000\",\"count\":\"5\",\"sum\":1.5,\"bucketCounts\":[\"2\",\"3\",\"0\"],\"explicitBounds\":[0.1,1]}],\"aggregationTemporality\":2}}"
+unfolding metric_text shape_member histogram_member histogram_point_text histogram_value_members observation_members known_sum_member attributes_member start_member json_string json_integer digits number_json decimal_text size_text is_plain plain_text pointed sign_text
+histogram_metric = refl
+
+-- a histogram without a sum and with one bucket
+histogram_point : histogram_point_text (record { labels = []; start = 1000; time = 1000; value = Some (record { layout = record { bounds = []; counts = 1 ∷ []; count = 1 }; sum = None }) })
+    ≡ codes "{\"startTimeUnixNano\":\"1000\",\"timeUnixNano\":\"1000\",\"count\":\"1\",\"bucketCounts\":[\"1\"],\"explicitBounds\":[]}"
+unfolding histogram_point_text histogram_value_members observation_members known_sum_member attributes_member start_member json_integer digits
+histogram_point = refl
+
+-- a histogram that has no value any more
+histogram_marker : histogram_point_text (record { labels = []; start = 10; time = 20; value = None })
+    ≡ codes "{\"startTimeUnixNano\":\"10\",\"timeUnixNano\":\"20\",\"flags\":1}"
+unfolding histogram_point_text histogram_value_members attributes_member start_member json_integer digits
+histogram_marker = refl
+
+-- a quantile without a value
+abbrev no_quantile : ℕ → ℕ → Quantile
+no_quantile digits down = record { at = divided digits down; value = NotANumber }
+
+-- a summary without observations
+summary_metric : metric_text (record {
+  name = codes "s";
+  description = codes "d";
+  unit = [];
+  shape = shapes.Summary (record {
+    labels = [];
+    start = 1000;
+    time = 1000;
+    value = Some (record { count = 0; sum = Finite (divided 0 0); quantiles = no_quantile 5 1 ∷ no_quantile 9 1 ∷ no_quantile 99 2 ∷ [] });
+  } ∷ []);
+})
+    ≡ codes "{\"name\":\"s\",\"description\":\"d\",\"summary\":{\"dataPoints\":[{\"startTimeUnixNano\":\"1000\",\"timeUnixNano\":\"1000\",\"count\":\"0\",\"sum\":0,\"quantileValues\":[{\"quantile\":0.5,\"value\":\"NaN\"},{\"quantile\":0.9,\"value\":\"NaN\"},{\"quantile\":0.99,\"value\":\"NaN\"}]}]}}"
+unfolding metric_text shape_member summary_member summary_point_text summary_value_members quantile_members quantile_text attributes_member start_member json_string json_integer digits number_json decimal_text size_text is_plain plain_text pointed sign_text
+summary_metric = refl
+
+-- a summary that has no value any more
+summary_marker : summary_point_text (record { labels = []; start = 10; time = 20; value = None })
+    ≡ codes "{\"startTimeUnixNano\":\"10\",\"timeUnixNano\":\"20\",\"flags\":1}"
+unfolding summary_point_text summary_value_members attributes_member start_member json_integer digits
+summary_marker = refl
 
 -- a whole request, its numbers left out
 whole : request_text (record {

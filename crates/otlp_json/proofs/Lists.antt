@@ -2,7 +2,7 @@
 use Rattle.std.proofs.Common.{◌≡◌, ℕ, ◌-◌, ◌≤◌, false, List, [], ◌∷◌, ◌++◌, ◌==◌, codes, length, map, take, drop, get_or, refl, ap, arith}
 use Rattle.std.proofs.lemmas.Grind.{common_steps}
 use Rattle.std.specs.List.{flat_map}
-use Rattle.otlp_json.specs.Pieces.{next_text, in_front}
+use Rattle.otlp_json.specs.Pieces.{next_text, in_front, behind}
 use Rattle.otlp_json.specs.Json.{json_array, with_commas, member, member_if, has_some}
 
 -- texts with commas are the first, and each next one behind a comma
@@ -33,3 +33,10 @@ pub with_commas-last : (members : List (List ℕ)) (last : List ℕ) → with_co
 with_commas-last [] last = refl
 with_commas-last (m ∷ []) last = grind (arith, common_steps)
 with_commas-last (m ∷ n ∷ ms) last = grind (arith, common_steps, with_commas-last (n ∷ ms) last)
+
+-- members with commas are those in front, each with a comma behind it, one, and those behind it
+pub with_commas-behind : (members : List (List ℕ)) (one : List ℕ) (more : List (List ℕ)) → with_commas (members ++ one ∷ [] ++ more) ≡ in_front members ++ one ++ behind more
+with_commas-behind [] one [] = grind (arith, common_steps)
+with_commas-behind [] one (m ∷ ms) = ap (λ (l : List ℕ). one ++ (44 ∷ l)) (with_commas-behind [] m ms)
+with_commas-behind (m ∷ []) one more = grind (arith, common_steps, with_commas-behind [] one more)
+with_commas-behind (m ∷ n ∷ ms) one more = grind (arith, common_steps, with_commas-behind (n ∷ ms) one more)

@@ -2,13 +2,15 @@
 use Rattle.std.proofs.Common.{◌≡◌, ℕ, ◌+◌, Bool, List, [], ◌∷◌, ◌++◌, codes, length, map, append_assoc, length-append, arith}
 use Rattle.std.proofs.lemmas.Grind.{common_steps}
 use Rattle.std.proofs.lemmas.List.Concat.{flat_map-append}
+use Rattle.std.specs.List.{flat_map}
+use Rattle.label_sets.specs.declared.label.Label.{Label}
 use Rattle.otlp_tree.specs.declared.tree.Metric.{Metric}
 use Rattle.otlp_tree.specs.declared.tree.NumberPoint.{NumberPoint}
 use Rattle.otlp_tree.specs.declared.tree.Request.{Request}
 use Rattle.otlp_tree.specs.declared.tree.ScopeMetrics.{ScopeMetrics}
 use Rattle.otlp_json.specs.Pieces.{in_front, with_comma, next_text, point_front}
-use Rattle.otlp_json.specs.Json.{json_string, json_integer, json_array, json_object, member}
-use Rattle.otlp_json.specs.Texts.{attributes_member, start_member, number_member, number_point_text, metric_text, text_member, shape_member, sum_member, truth_text, attribute_text, scope_text, request_text}
+use Rattle.otlp_json.specs.Json.{json_byte, json_string, json_integer, json_array, json_object, member}
+use Rattle.otlp_json.specs.Texts.{attribute_value_text, label_text, attributes_member, start_member, number_member, number_point_text, metric_text, text_member, shape_member, sum_member, truth_text, attribute_text, scope_text, request_text}
 use Rattle.otlp_json.proofs.Lists.{with_commas-last}
 
 -- an object of a point: its attributes, its start, its time and a last member
@@ -32,6 +34,14 @@ number_point_len p = grind (arith, length-append, number_point_written p)
 pub sum_written : (points : List NumberPoint) (monotonic : Bool) → sum_member points monotonic ≡ codes "\"sum\":{\"dataPoints\":" ++ json_array (map number_point_text points) ++ codes ",\"aggregationTemporality\":2,\"isMonotonic\":" ++ truth_text monotonic ++ codes "}"
 unfolding sum_member
 sum_written points monotonic = cc (append_assoc (json_array (map number_point_text points)) (codes ",\"aggregationTemporality\":2,\"isMonotonic\":") (truth_text monotonic))
+
+-- a label, its name and its value without their quotes
+label_object : (name q key value end : List ℕ) → name ++ q ++ (key ++ (value ++ q ++ end)) ++ end ≡ name ++ (q ++ key) ++ value ++ (q ++ (end ++ end))
+label_object name q key value end = simp append_assoc
+
+pub label_written : (l : Label) → label_text l ≡ codes "{\"key\":\"" ++ flat_map json_byte l.name ++ codes "\",\"value\":{\"stringValue\":\"" ++ flat_map json_byte l.value ++ codes "\"}}"
+unfolding label_text attribute_value_text json_string
+label_written l = cc (label_object (flat_map json_byte l.name) (codes "\"") (codes ",\"value\":{\"stringValue\":\"") (flat_map json_byte l.value) (codes "}"))
 
 -- an object of a metric: its name, its description, its unit and the points
 metric_object : (name : List ℕ) (description unit : List (List ℕ)) (last : List ℕ) → json_object (name ∷ description ++ unit ++ last ∷ []) ≡ codes "{" ++ name ++ codes "," ++ in_front description ++ in_front unit ++ last ++ codes "}"

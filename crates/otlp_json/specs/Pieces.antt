@@ -18,6 +18,14 @@ with_comma text = text ++ codes ","
 abbrev pub in_front : List (List ℕ) → List ℕ
 in_front members = flat_map with_comma members
 
+-- a text with a comma in front
+abbrev pub behind_comma : List ℕ → List ℕ
+behind_comma text = codes "," ++ text
+
+-- the members behind another one
+abbrev pub behind : List (List ℕ) → List ℕ
+behind members = flat_map behind_comma members
+
 -- a point from its first member up to its time
 unfoldable pub point_front : LabelSet → Option ℕ → ℕ → List ℕ
 point_front labels start time = in_front (attributes_member labels) ++ in_front (start_member start) ++ codes "\"timeUnixNano\":" ++ json_integer time

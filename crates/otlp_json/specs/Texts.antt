@@ -3,7 +3,7 @@
 -- The order of the members, and which are left out where they are empty, are the bridge's own.
 use Rattle.std.specs.Prelude.{ℕ, Bool, true, false, List, [], ◌∷◌, ◌++◌, map, codes, Option, Some, None}
 use Rattle.exact_decimal.specs.declared.number.Number.{Number}
-use Rattle.exact_decimal.specs.Literals.{number_json}
+use Rattle.exact_decimal.specs.Literals.{decimal_text, number_json}
 use Rattle.label_sets.specs.declared.label.Label.{Label}
 use Rattle.label_sets.specs.declared.label_set.LabelSet.{LabelSet}
 use Rattle.otlp_tree.specs.declared.tree.Request.{Request}
@@ -15,6 +15,11 @@ use Rattle.otlp_tree.specs.declared.tree.Metric.{Metric}
 use Rattle.otlp_tree.specs.declared.tree.Shape.{Shape}
 use Rattle.otlp_tree.specs.declared.tree.Shape.TheVariants as shapes
 use Rattle.otlp_tree.specs.declared.tree.NumberPoint.{NumberPoint}
+use Rattle.otlp_tree.specs.declared.tree.HistogramPoint.{HistogramPoint}
+use Rattle.otlp_tree.specs.declared.tree.HistogramValue.{HistogramValue}
+use Rattle.otlp_tree.specs.declared.tree.SummaryPoint.{SummaryPoint}
+use Rattle.otlp_tree.specs.declared.tree.SummaryValue.{SummaryValue}
+use Rattle.page_model.specs.declared.page.Quantile.{Quantile}
 use Rattle.otlp_json.specs.Json.{json_string, json_integer, json_array, json_object, member, member_if, has_some}
 
 -- ---- attributes
@@ -64,6 +69,48 @@ number_member (Some n) = member (codes "asDouble") (number_json n)
 unfoldable pub number_point_text : NumberPoint → List ℕ
 number_point_text p = json_object (point_head p.labels p.start p.time ++ number_member p.value ∷ [])
 
+-- the sum of a histogram's observations, left out where it isn't known
+unfoldable pub known_sum_member : Option Number → List (List ℕ)
+known_sum_member None = []
+known_sum_member (Some n) = member (codes "sum") (number_json n) ∷ []
+
+-- the observations of a histogram: all of them, their sum, those between the bounds, and the bounds
+unfoldable pub observation_members : HistogramValue → List (List ℕ)
+observation_members v =
+    member (codes "count") (json_integer v.layout.count)
+    ∷ known_sum_member v.sum
+    ++ member (codes "bucketCounts") (json_array (map json_integer v.layout.counts))
+    ∷ member (codes "explicitBounds") (json_array (map decimal_text v.layout.bounds)) ∷ []
+
+-- the value of a histogram point, or the flag
+unfoldable pub histogram_value_members : Option HistogramValue → List (List ℕ)
+histogram_value_members None = no_value_member ∷ []
+histogram_value_members (Some v) = observation_members v
+
+-- a histogram point (HistogramDataPoint)
+unfoldable pub histogram_point_text : HistogramPoint → List ℕ
+histogram_point_text p = json_object (point_head p.labels (Some p.start) p.time ++ histogram_value_members p.value)
+
+-- a quantile and its value (ValueAtQuantile)
+unfoldable pub quantile_text : Quantile → List ℕ
+quantile_text q = json_object (member (codes "quantile") (decimal_text q.at) ∷ member (codes "value") (number_json q.value) ∷ [])
+
+-- how many observations a summary has, their sum, and the quantiles
+unfoldable pub quantile_members : SummaryValue → List (List ℕ)
+quantile_members v =
+    member (codes "count") (json_integer v.count)
+    ∷ member (codes "sum") (number_json v.sum)
+    ∷ member (codes "quantileValues") (json_array (map quantile_text v.quantiles)) ∷ []
+
+-- the value of a summary point, or the flag
+unfoldable pub summary_value_members : Option SummaryValue → List (List ℕ)
+summary_value_members None = no_value_member ∷ []
+summary_value_members (Some v) = quantile_members v
+
+-- a summary point (SummaryDataPoint)
+unfoldable pub summary_point_text : SummaryPoint → List ℕ
+summary_point_text p = json_object (point_head p.labels (Some p.start) p.time ++ summary_value_members p.value)
+
 -- ---- metrics, scopes and the whole
 
 -- the points of a metric
@@ -88,10 +135,20 @@ unfoldable pub sum_member : List NumberPoint → Bool → List ℕ
 sum_member points monotonic = member (codes "sum") (json_object (
     points_member (map number_point_text points) ∷ cumulative_member ∷ member (codes "isMonotonic") (truth_text monotonic) ∷ []))
 
+-- the points of a histogram (Histogram)
+unfoldable pub histogram_member : List HistogramPoint → List ℕ
+histogram_member points = member (codes "histogram") (json_object (points_member (map histogram_point_text points) ∷ cumulative_member ∷ []))
+
+-- the points of a summary (Summary)
+unfoldable pub summary_member : List SummaryPoint → List ℕ
+summary_member points = member (codes "summary") (json_object (points_member (map summary_point_text points) ∷ []))
+
 -- the one member that holds a metric's points
 unfoldable pub shape_member : Shape → List ℕ
 shape_member (shapes.Gauge points) = gauge_member points
 shape_member (shapes.Sum points monotonic) = sum_member points monotonic
+shape_member (shapes.Histogram points) = histogram_member points
+shape_member (shapes.Summary points) = summary_member points
 
 -- a text that is left out where it is empty
 abbrev pub text_member : List ℕ → List ℕ → List (List ℕ)

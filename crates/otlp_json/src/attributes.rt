@@ -6,6 +6,7 @@ ghost use Rattle.otlp_json.specs.Texts.{attribute_text, attribute_value_text, la
 
 use crate::append::put;
 use crate::json::{Json, array_len, write_array};
+use crate::strings::write_content;
 use crate::values::{integer_len, write_integer};
 use label_sets::{Label, LabelSet, Text};
 use otlp_tree::{Attribute, AttributeValue};
@@ -88,13 +89,14 @@ impl Json for Label {
             .saturating_add(b"{\"key\":,\"value\":}".len() as u64)
     }
 
-    #[tactic(auto, unfolding(crate::specs::Texts::label_text))]
+    #[tactic(auto, unfolding(crate::specs::Texts::label_text, crate::specs::Texts::attribute_value_text, crate::specs::Json::json_string))]
     fn write_text(&self, out: &mut Vec<u8>) {
-        put(out, b"{\"key\":");
-        self.name.write_text(out);
-        put(out, b",\"value\":");
-        write_text_value(out, &self.value);
-        put(out, b"}");
+        // Labels are most of a request, so what stands between their texts is put at once.
+        put(out, b"{\"key\":\"");
+        write_content(out, self.name.as_bytes());
+        put(out, b"\",\"value\":{\"stringValue\":\"");
+        write_content(out, self.value.as_bytes());
+        put(out, b"\"}}");
     }
 }
 

@@ -9,11 +9,13 @@ ghost use Rattle.otlp_json.specs.Texts.{request_text};
 
 mod append;
 mod attributes;
+mod histograms;
 mod json;
 mod metrics;
 mod points;
 mod requests;
 mod strings;
+mod summaries;
 #[cfg(test)]
 mod tests;
 mod values;

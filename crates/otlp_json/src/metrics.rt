@@ -1,12 +1,12 @@
 ghost use Rattle.std.specs.Prelude.{◌≡◌, length, min};
 ghost use Rattle.otlp_json.specs.Appended.{HasRoom, IsAppended};
 ghost use Rattle.otlp_json.specs.Pieces.{in_front};
-ghost use Rattle.otlp_json.specs.Texts.{gauge_member, metric_text, scope_text, shape_member, sum_member, text_member, truth_text};
+ghost use Rattle.otlp_json.specs.Texts.{gauge_member, histogram_member, metric_text, scope_text, shape_member, sum_member, summary_member, text_member, truth_text};
 
 use crate::append::put;
 use crate::json::Json;
 use label_sets::{List, Text};
-use otlp_tree::{Metric, NumberPoint, ScopeMetrics, Shape};
+use otlp_tree::{HistogramPoint, Metric, NumberPoint, ScopeMetrics, Shape, SummaryPoint};
 
 /// The length of a text as a member with the comma behind it; 0 where the text is empty.
 fn text_member_len(key: &[u8], text: &Text) -> u64
@@ -90,6 +90,48 @@ fn write_sum(out: &mut Vec<u8>, points: &List<NumberPoint>, monotonic: bool)
     put(out, b"}");
 }
 
+/// The length of the member with the points of a histogram.
+#[tactic(auto, unfolding(crate::specs::Texts::histogram_member))]
+fn histogram_len(points: &List<HistogramPoint>) -> u64
+    ensures { result ≡ min (length (histogram_member points.now)) u64.MAX }
+{
+    points.text_len().saturating_add(
+        b"\"histogram\":{\"dataPoints\":,\"aggregationTemporality\":2}".len() as u64,
+    )
+}
+
+/// Puts the member with the points of a histogram.
+#[tactic(auto, unfolding(crate::specs::Texts::histogram_member))]
+fn write_histogram(out: &mut Vec<u8>, points: &List<HistogramPoint>)
+    requires { HasRoom out.old (histogram_member points.now) }
+    ensures { IsAppended out.old out.new (histogram_member points.now) }
+{
+    put(out, b"\"histogram\":{\"dataPoints\":");
+    points.write_text(out);
+    put(out, b",\"aggregationTemporality\":2}");
+}
+
+/// The length of the member with the points of a summary.
+#[tactic(auto, unfolding(crate::specs::Texts::summary_member))]
+fn summary_len(points: &List<SummaryPoint>) -> u64
+    ensures { result ≡ min (length (summary_member points.now)) u64.MAX }
+{
+    points
+        .text_len()
+        .saturating_add(b"\"summary\":{\"dataPoints\":}".len() as u64)
+}
+
+/// Puts the member with the points of a summary.
+#[tactic(auto, unfolding(crate::specs::Texts::summary_member))]
+fn write_summary(out: &mut Vec<u8>, points: &List<SummaryPoint>)
+    requires { HasRoom out.old (summary_member points.now) }
+    ensures { IsAppended out.old out.new (summary_member points.now) }
+{
+    put(out, b"\"summary\":{\"dataPoints\":");
+    points.write_text(out);
+    put(out, b"}");
+}
+
 impl Json for Shape {
     ghost text = { shape_member };
 
@@ -98,6 +140,8 @@ impl Json for Shape {
         match self {
             Shape::Gauge(points) => gauge_len(points),
             Shape::Sum { points, monotonic } => sum_len(points, *monotonic),
+            Shape::Histogram(points) => histogram_len(points),
+            Shape::Summary(points) => summary_len(points),
         }
     }
 
@@ -106,6 +150,8 @@ impl Json for Shape {
         match self {
             Shape::Gauge(points) => write_gauge(out, points),
             Shape::Sum { points, monotonic } => write_sum(out, points, *monotonic),
+            Shape::Histogram(points) => write_histogram(out, points),
+            Shape::Summary(points) => write_summary(out, points),
         }
     }
 }

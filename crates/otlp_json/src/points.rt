@@ -63,7 +63,7 @@ fn write_start(out: &mut Vec<u8>, start: Option<u64>)
 
 /// The length of a point of any kind from its first member up to its time.
 #[tactic(auto, unfolding(crate::specs::Pieces::point_front))]
-fn front_len(labels: &LabelSet, start: Option<u64>, time: u64) -> u64
+pub(crate) fn front_len(labels: &LabelSet, start: Option<u64>, time: u64) -> u64
     ensures { result ≡ min (length (point_front labels.now start time)) u64.MAX }
 {
     attributes_len(labels)
@@ -74,7 +74,7 @@ fn front_len(labels: &LabelSet, start: Option<u64>, time: u64) -> u64
 
 /// Puts a point of any kind from its first member up to its time.
 #[tactic(auto, unfolding(crate::specs::Pieces::point_front))]
-fn write_front(out: &mut Vec<u8>, labels: &LabelSet, start: Option<u64>, time: u64)
+pub(crate) fn write_front(out: &mut Vec<u8>, labels: &LabelSet, start: Option<u64>, time: u64)
     requires { HasRoom out.old (point_front labels.now start time) }
     ensures { IsAppended out.old out.new (point_front labels.now start time) }
 {

@@ -1,4 +1,4 @@
-ghost use Rattle.std.specs.Prelude.{◌≡◌, ◌<◌, length, min, false};
+ghost use Rattle.std.specs.Prelude.{◌≡◌, ◌+◌, ◌<◌, ◌≤◌, length, min, false};
 ghost use Rattle.std.specs.List.{list_any, flat_map};
 ghost use Rattle.std.specs.Fmt.{digit_glyph};
 ghost use Rattle.otlp_json.specs.Appended.{HasRoom, IsAppended};
@@ -8,16 +8,44 @@ use crate::append::put;
 use crate::json::Json;
 use label_sets::{Name, Text};
 
-/// Whether some byte of the text stands in a string by an escape.
-fn has_escapes(text: &[u8]) -> bool
-    ensures { result ≡ list_any is_escaped text.now }
+/// Whether some byte of a piece of text stands in a string by an escape.
+#[inline(always)]
+fn piece_has_escapes(piece: &[u8]) -> bool
+    ensures { result ≡ list_any is_escaped piece.now }
 {
     // There is no branch on a byte, so that many are tested at once.
     let mut any = false;
-    for b in text {
+    for b in piece {
         any |= (*b < 0x20) | (*b == b'"') | (*b == b'\\');
     }
     any
+}
+
+/// The same for a text, by a piece at its front and one at its end, which may overlap.
+#[inline(always)]
+fn ends_have_escapes(text: &[u8], front: usize, end: usize) -> bool
+    requires front { front ≤ length text.now }
+    requires end { end ≤ length text.now }
+    requires whole { length text.now ≤ front + end }
+    ensures { result ≡ list_any is_escaped text.now }
+{
+    piece_has_escapes(&text[..front]) | piece_has_escapes(&text[text.len() - end..])
+}
+
+/// Whether some byte of a text stands in a string by an escape.
+///
+/// Most texts are short. A piece of a fixed size is tested at once, and two of them that overlap leave
+/// no byte to be tested alone.
+fn has_escapes(text: &[u8]) -> bool
+    ensures { result ≡ list_any is_escaped text.now }
+{
+    match text.len() {
+        0..=3 => piece_has_escapes(text),
+        4..=7 => ends_have_escapes(text, 4, 4),
+        8..=15 => ends_have_escapes(text, 8, 8),
+        16..=31 => ends_have_escapes(text, 16, 16),
+        len => ends_have_escapes(text, len - len % 16, 16),
+    }
 }
 
 /// The hexadecimal digit of a number below 16, in lower case.
@@ -94,7 +122,7 @@ fn content_len(text: &[u8]) -> u64
 }
 
 /// Puts a string's content.
-fn write_content(out: &mut Vec<u8>, text: &[u8])
+pub(crate) fn write_content(out: &mut Vec<u8>, text: &[u8])
     requires { HasRoom out.old (flat_map json_byte text.now) }
     ensures { IsAppended out.old out.new (flat_map json_byte text.now) }
 {

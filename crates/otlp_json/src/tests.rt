@@ -1,6 +1,12 @@
 use super::{length, write};
+use exact_decimal::{Decimal, Number};
+use histogram_layout::Layout;
 use label_sets::{LabelSet, List, Memory, Text};
-use otlp_tree::{Attribute, AttributeValue, Metric, NumberPoint, Request, ScopeMetrics, Shape};
+use otlp_tree::{
+    Attribute, AttributeValue, HistogramPoint, HistogramValue, Metric, NumberPoint, Request,
+    ScopeMetrics, Shape, SummaryPoint, SummaryValue,
+};
+use page_model::Quantile;
 use std::alloc::{AllocError, Global};
 
 fn list<T: Drop, const N: usize>(alloc: Global, items: [T; N]) -> Result<List<T>, Memory> {
@@ -80,6 +86,128 @@ fn writes_behind_what_is_there(rt: HostRuntime) -> Result<(), AllocError> {
     write(&request, &mut out)?;
     assert_eq!(rt; std::str::from_utf8(&out[2..]), Ok(SAMPLE));
     assert_eq!(rt; length(&request), SAMPLE.len() as u64);
+    Ok(())
+}
+
+fn number(token: &str) -> Number {
+    exact_decimal::read(token.as_bytes()).unwrap_or(Number::NotANumber)
+}
+
+fn decimal(n: &Number) -> Option<Decimal> {
+    match n {
+        Number::Finite(decimal) => Some(*decimal),
+        _ => None,
+    }
+}
+
+fn histogram(alloc: Global, value: Option<HistogramValue>) -> HistogramPoint {
+    HistogramPoint {
+        labels: LabelSet::empty(alloc),
+        start: 1000,
+        time: 1000,
+        value,
+    }
+}
+
+// A histogram with a sum, one without, and one that has no value any more.
+fn histograms(alloc: Global) -> Result<Metric, Memory> {
+    let mut bounds = Vec::new(alloc);
+    for token in ["0.1", "1"] {
+        if let Some(bound) = decimal(&number(token)) {
+            bounds.push(bound)?;
+        }
+    }
+    let summed = HistogramValue {
+        layout: Layout {
+            bounds: List::from_vec(bounds),
+            counts: list(alloc, [2, 3, 0])?,
+            count: 5,
+        },
+        sum: Some(number("1.5")),
+    };
+    let plain = HistogramValue {
+        layout: Layout {
+            bounds: List::new(alloc),
+            counts: list(alloc, [1])?,
+            count: 1,
+        },
+        sum: None,
+    };
+    let points = [
+        histogram(alloc, Some(summed)),
+        histogram(alloc, Some(plain)),
+        histogram(alloc, None),
+    ];
+    Ok(Metric {
+        name: text(alloc, "h")?,
+        description: text(alloc, "")?,
+        unit: text(alloc, "")?,
+        shape: Shape::Histogram(list(alloc, points)?),
+    })
+}
+
+fn summary(alloc: Global, value: Option<SummaryValue>) -> SummaryPoint {
+    SummaryPoint {
+        labels: LabelSet::empty(alloc),
+        start: 10,
+        time: 20,
+        value,
+    }
+}
+
+// A summary without observations, and one that has no value any more.
+fn summaries(alloc: Global) -> Result<Metric, Memory> {
+    let mut quantiles = Vec::new(alloc);
+    for token in ["0.5", "0.9", "0.99"] {
+        if let Some(at) = decimal(&number(token)) {
+            quantiles.push(Quantile {
+                at,
+                value: Number::NotANumber,
+            })?;
+        }
+    }
+    let value = SummaryValue {
+        count: 0,
+        sum: number("0"),
+        quantiles: List::from_vec(quantiles),
+    };
+    let points = [summary(alloc, Some(value)), summary(alloc, None)];
+    Ok(Metric {
+        name: text(alloc, "rpc_durations_seconds")?,
+        description: text(alloc, "RPC latency distributions.")?,
+        unit: text(alloc, "")?,
+        shape: Shape::Summary(list(alloc, points)?),
+    })
+}
+
+// The text by the table of the members, written out by hand.
+const OBSERVED: &str = concat!(
+    r#"{"resourceMetrics":[{"resource":{"attributes":[]},"scopeMetrics":[{"scope":{"name":"bridge"},"metrics":["#,
+    r#"{"name":"h","histogram":{"dataPoints":["#,
+    r#"{"startTimeUnixNano":"1000","timeUnixNano":"1000","count":"5","sum":1.5,"bucketCounts":["2","3","0"],"explicitBounds":[0.1,1]},"#,
+    r#"{"startTimeUnixNano":"1000","timeUnixNano":"1000","count":"1","bucketCounts":["1"],"explicitBounds":[]},"#,
+    r#"{"startTimeUnixNano":"1000","timeUnixNano":"1000","flags":1}],"aggregationTemporality":2}},"#,
+    r#"{"name":"rpc_durations_seconds","description":"RPC latency distributions.","summary":{"dataPoints":["#,
+    r#"{"startTimeUnixNano":"10","timeUnixNano":"20","count":"0","sum":0,"quantileValues":["#,
+    r#"{"quantile":0.5,"value":"NaN"},{"quantile":0.9,"value":"NaN"},{"quantile":0.99,"value":"NaN"}]},"#,
+    r#"{"startTimeUnixNano":"10","timeUnixNano":"20","flags":1}]}}]}]}]}"#,
+);
+
+#[test]
+fn writes_histograms_and_summaries(rt: HostRuntime) -> Result<(), AllocError> {
+    let alloc = rt.alloc();
+    let scope = ScopeMetrics {
+        name: text(alloc, "bridge")?,
+        metrics: list(alloc, [histograms(alloc)?, summaries(alloc)?])?,
+    };
+    let request = Request {
+        resource: List::new(alloc),
+        scopes: list(alloc, [scope])?,
+    };
+    let mut out = Vec::new(alloc);
+    write(&request, &mut out)?;
+    assert_eq!(rt; std::str::from_utf8(&out), Ok(OBSERVED));
+    assert_eq!(rt; length(&request), OBSERVED.len() as u64);
     Ok(())
 }
 

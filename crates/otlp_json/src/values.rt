@@ -1,10 +1,11 @@
 ghost use Rattle.std.specs.Prelude.{◌≡◌, length, min, decimal};
-ghost use Rattle.exact_decimal.specs.Literals.{number_json};
+ghost use Rattle.exact_decimal.specs.Literals.{decimal_text, number_json};
 ghost use Rattle.otlp_json.specs.Appended.{HasRoom, IsAppended};
 ghost use Rattle.otlp_json.specs.Json.{json_integer};
 
 use crate::append::put;
-use exact_decimal::Number;
+use crate::json::Json;
+use exact_decimal::{Decimal, Number};
 
 /// How many digits a number has.
 fn digit_count(n: u64) -> u64
@@ -40,9 +41,7 @@ pub(crate) fn write_integer(out: &mut Vec<u8>, n: u64)
 pub(crate) fn number_len(n: &Number) -> u64
     ensures { result ≡ min (length (number_json n.now)) u64.MAX }
 {
-    let mut literal = exact_decimal::Buffer::new();
-    exact_decimal::print(n, &mut literal);
-    literal.bytes().len() as u64
+    exact_decimal::printed_len(n) as u64
 }
 
 /// Puts a number's text.
@@ -53,4 +52,30 @@ pub(crate) fn write_number(out: &mut Vec<u8>, n: &Number)
     let mut literal = exact_decimal::Buffer::new();
     exact_decimal::print(n, &mut literal);
     put(out, literal.bytes());
+}
+
+impl Json for u64 {
+    ghost text = { json_integer };
+
+    fn text_len(&self) -> u64 {
+        integer_len(*self)
+    }
+
+    fn write_text(&self, out: &mut Vec<u8>) {
+        write_integer(out, *self);
+    }
+}
+
+impl Json for Decimal {
+    ghost text = { decimal_text };
+
+    #[tactic(auto, unfolding(exact_decimal::specs::Literals::number_json))]
+    fn text_len(&self) -> u64 {
+        number_len(&Number::Finite(*self))
+    }
+
+    #[tactic(auto, unfolding(exact_decimal::specs::Literals::number_json))]
+    fn write_text(&self, out: &mut Vec<u8>) {
+        write_number(out, &Number::Finite(*self));
+    }
 }
