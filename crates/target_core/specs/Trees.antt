@@ -1,9 +1,9 @@
 -- The tree of the one event of a target without a past.
--- OpenTelemetry metrics data model, "Sums" and "Gauge"; "Prometheus and OpenMetrics Compatibility", "Resource Attributes";
+-- OpenTelemetry metrics data model, "Sums", "Gauge", "Histogram" and "Summary"; "Prometheus and OpenMetrics Compatibility", "Resource Attributes";
 -- Prometheus, "Jobs and instances" (up, scrape_samples_scraped). The scopes' names are the bridge's own.
-use Rattle.std.specs.Prelude.{ℕ, true, false, List, [], ◌∷◌, ◌++◌, map, filter, filter_map, codes, Option, Some, None}
+use Rattle.std.specs.Prelude.{ℕ, true, false, List, [], ◌∷◌, ◌++◌, map, filter_map, codes, Option, Some, None, option_map}
 use Rattle.label_sets.specs.declared.kind.Kind.{Kind}
-use Rattle.label_sets.specs.declared.kind.Kind.TheVariants.{Counter, StateSet, Info}
+use Rattle.label_sets.specs.declared.kind.Kind.TheVariants.{Counter, Histogram, GaugeHistogram, StateSet, Info, Summary}
 use Rattle.exact_decimal.specs.Numbers.{number_of}
 use Rattle.page_model.specs.declared.page.Reading.{Reading}
 use Rattle.page_model.specs.declared.page.Family.{Family}
@@ -18,30 +18,42 @@ use Rattle.otlp_tree.specs.declared.tree.ScopeMetrics.{ScopeMetrics}
 use Rattle.otlp_tree.specs.declared.tree.Metric.{Metric}
 use Rattle.otlp_tree.specs.declared.tree.Shape.{Shape}
 use Rattle.otlp_tree.specs.declared.tree.Shape.TheVariants as shapes
-use Rattle.otlp_tree.specs.declared.tree.NumberPoint.{NumberPoint}
 use Rattle.target_core.specs.declared.target.Target.{Target}
-use Rattle.target_core.specs.Points.{is_number, number_point}
+use Rattle.target_core.specs.declared.points.Point.{Point}
+use Rattle.target_core.specs.Points.{point_of, number_point, histogram_point, summary_point}
 
--- the points of a metric of this kind; that info and state sets are sums that may fall is the bridge's own
-unfoldable pub shape_of : Kind → List NumberPoint → Shape
-shape_of Counter points = shapes.Sum points true
-shape_of Info points = shapes.Sum points false
-shape_of StateSet points = shapes.Sum points false
-shape_of _ points = shapes.Gauge points
+-- what a function gives of values, where it gives something
+abbrev pub some_of : {X Y : Type 0} → (X → Option Y) → List X → Option (List Y)
+some_of {X} {Y} h xs = some_list (filter_map h xs)
+  where
+    some_list : List Y → Option (List Y)
+    some_list [] = None
+    some_list (y ∷ ys) = Some (y ∷ ys)
 
--- the metric of readings, named by the first of them
-abbrev pub metric_of : ℕ → List ℕ → List Reading → Option Metric
-metric_of moment help [] = None
-metric_of moment help (first ∷ rest) = Some (record {
+-- points of a kind, as sum, gauge, histogram or summary, where there is one; gauge histograms have none.
+-- That info and state sets are sums that may fall is the bridge's own
+unfoldable pub shape_of : Kind → List Point → Option Shape
+shape_of Counter points = option_map (λ ps. shapes.Sum ps true) (some_of number_point points)
+shape_of Info points = option_map (λ ps. shapes.Sum ps false) (some_of number_point points)
+shape_of StateSet points = option_map (λ ps. shapes.Sum ps false) (some_of number_point points)
+shape_of Histogram points = option_map shapes.Histogram (some_of histogram_point points)
+shape_of Summary points = option_map shapes.Summary (some_of summary_point points)
+shape_of GaugeHistogram points = None
+shape_of _ points = option_map shapes.Gauge (some_of number_point points)
+
+-- the metric of readings of a kind, named by the first of them, where they have a point
+abbrev pub metric_of : ℕ → Kind → List ℕ → List Reading → Option Metric
+metric_of moment kind help [] = None
+metric_of moment kind help (first ∷ rest) = option_map (λ shape. record {
   name = first.key.name;
   description = help;
   unit = first.key.unit;
-  shape = shape_of first.key.kind (map (number_point moment) (first ∷ rest));
-})
+  shape = shape;
+}) (shape_of kind (map (point_of moment) (first ∷ rest)))
 
--- the metric of a family; readings that are no numbers, which are those of histograms and summaries, have no place in it yet
+-- the metric of a family
 abbrev pub family_metric : ℕ → Family → Option Metric
-family_metric moment f = metric_of moment f.help (filter (λ (r : Reading). is_number r.value) f.readings)
+family_metric moment f = metric_of moment f.kind f.help f.readings
 
 -- the metrics of a page, in page order
 abbrev pub page_metrics : ℕ → Page → List Metric

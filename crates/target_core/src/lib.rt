@@ -2,6 +2,8 @@
 //! and sends nothing.
 #![tactic(auto)]
 
+mod forms;
+mod metrics;
 mod points;
 mod resource;
 mod target;

@@ -1,22 +1,26 @@
-//! The points of readings, and the metric of a family.
-ghost use Rattle.std.specs.Prelude.{◌≡◌, ◌++◌, map, filter, length, IfOk, OnOk};
-ghost use Rattle.std.specs.Vec.Iter.{into_iter_items, into_iter_len};
-ghost use Rattle.page_model.specs.declared.page.Reading.{Reading as OneReading};
+//! The points of readings, before they have the form of their kind.
+ghost use Rattle.std.specs.Prelude.{◌≡◌};
 ghost use Rattle.target_core.specs.Points as spec;
-ghost use Rattle.target_core.specs.Trees as trees;
 
-use exact_decimal::Number;
-use label_sets::{Kind, List, Memory, Name, SeriesKey, Text};
-use otlp_tree::{Metric, NumberPoint, Shape};
-use page_model::{Family, Reading, Value};
-use std::alloc::Global;
+use label_sets::{Kind, LabelSet, Name, SeriesKey, Text};
+use page_model::{Reading, Value};
 
-/// What a metric is known by.
+/// What a metric is known by, beside its kind.
 #[derive(Drop)]
-struct Identity {
-    name: Name,
-    kind: Kind,
-    unit: Text,
+pub(crate) struct Identity {
+    pub name: Name,
+    pub unit: Text,
+}
+
+/// A point before it has the form of its kind.
+#[derive(Drop)]
+pub(crate) struct Point {
+    pub labels: LabelSet,
+    /// Since when the value counts, in nanoseconds since the Unix epoch, where its kind has starts.
+    pub start: Option<u64>,
+    /// When the value was read, in nanoseconds since the Unix epoch.
+    pub time: u64,
+    pub value: Value,
 }
 
 /// Whether the points of a kind have a start.
@@ -65,125 +69,25 @@ fn start_at(moment: u64, reading: &Reading) -> Option<u64>
     }
 }
 
-/// Whether the value is a number.
-fn is_number(value: &Value) -> bool
-    ensures { result ≡ spec.is_number value.now }
-{
-    matches!(value, Value::Plain(_))
-}
-
-/// The number of a value that is one.
-fn number_in(value: &Value) -> Number
-    ensures { result ≡ spec.number_in value.now }
-{
-    match value {
-        Value::Plain(number) => *number,
-        _ => Number::NotANumber,
-    }
-}
-
 /// The point of a reading, and what its metric is known by.
-#[tactic(auto, unfolding(crate::specs::Points::number_point))]
-fn number_point(moment: u64, reading: Reading) -> (Identity, NumberPoint)
+#[tactic(auto, unfolding(crate::specs::Points::point_of))]
+pub(crate) fn split(moment: u64, reading: Reading) -> (Identity, Point)
     ensures name { result.0.name ≡ reading.key.name }
-    ensures kind { result.0.kind ≡ reading.key.kind }
     ensures unit { result.0.unit ≡ reading.key.unit }
-    ensures point { result.1 ≡ spec.number_point moment reading }
+    ensures point { result.1 ≡ spec.point_of moment reading }
 {
     let start = start_at(moment, &reading);
-    let value = number_in(&reading.value);
     let SeriesKey {
         name,
-        kind,
         unit,
         labels,
+        ..
     } = reading.key;
-    let point = NumberPoint {
+    let point = Point {
         labels,
         start,
         time: moment,
-        value: Some(value),
+        value: reading.value,
     };
-    (Identity { name, kind, unit }, point)
-}
-
-/// The shape of a metric of this kind.
-#[tactic(auto, unfolding(crate::specs::Trees::shape_of))]
-fn shape(kind: Kind, points: List<NumberPoint>) -> Shape
-    ensures { result ≡ trees.shape_of kind points }
-{
-    match kind {
-        Kind::Counter => Shape::Sum {
-            points,
-            monotonic: true,
-        },
-        Kind::Info | Kind::StateSet => Shape::Sum {
-            points,
-            monotonic: false,
-        },
-        Kind::Gauge | Kind::Unknown | Kind::Histogram | Kind::GaugeHistogram | Kind::Summary =>
-            Shape::Gauge(points),
-    }
-}
-
-/// Puts the points of readings behind others.
-fn push_points(
-    moment: u64,
-    readings: std::vec::IntoIter<Reading>,
-    points: &mut Vec<NumberPoint>,
-) -> Result<(), Memory>
-    requires { into_iter_len readings ≡ length (into_iter_items readings) }
-    ensures { OnOk result (points.new.items ≡ points.old.items ++ map (spec.number_point moment) (into_iter_items readings)) }
-{
-    for reading in readings {
-        let (_, point) = number_point(moment, reading);
-        points.push(point)?;
-    }
-    Ok(())
-}
-
-/// The metric of readings, named by the first of them.
-fn metric(
-    alloc: Global,
-    moment: u64,
-    help: Text,
-    readings: Vec<Reading>,
-) -> Result<Option<Metric>, Memory>
-    ensures { IfOk result (λ metric. metric ≡ trees.metric_of moment help readings.items) }
-{
-    let mut points = Vec::with_capacity(alloc, readings.len())?;
-    let mut readings = readings.into_iter();
-    let Some(first) = readings.next() else {
-        return Ok(None);
-    };
-    let (identity, point) = number_point(moment, first);
-    points.push(point)?;
-    push_points(moment, readings, &mut points)?;
-    Ok(Some(Metric {
-        name: Text::from_string(identity.name.into_string()),
-        description: help,
-        unit: identity.unit,
-        shape: shape(identity.kind, List::from_vec(points)),
-    }))
-}
-
-/// The readings that are numbers, in order.
-fn numbers(readings: List<Reading>) -> Vec<Reading>
-    ensures { result.items ≡ filter (λ (r : OneReading). spec.is_number r.value) readings }
-{
-    let mut readings = readings.into_vec();
-    readings.retain(|reading| is_number(&reading.value));
-    readings
-}
-
-/// The metric of a family, where it has one.
-pub(crate) fn family_metric(
-    alloc: Global,
-    moment: u64,
-    family: Family,
-) -> Result<Option<Metric>, Memory>
-    ensures { IfOk result (λ metric. metric ≡ trees.family_metric moment family) }
-{
-    let readings = numbers(family.readings);
-    metric(alloc, moment, family.help, readings)
+    (Identity { name, unit }, point)
 }

@@ -1,8 +1,8 @@
 use crate::{Target, event_request};
-use exact_decimal::of;
+use exact_decimal::{Number, of};
 use label_sets::{Kind, LabelSet, List, Memory, Name, SeriesKey, Text};
-use otlp_tree::{Metric, NumberPoint, Request, Shape};
-use page_model::{Cause, Family, Outcome, Page, Reading, Value};
+use otlp_tree::{HistogramPoint, Metric, NumberPoint, Request, Shape, SummaryPoint};
+use page_model::{Bucket, Cause, Family, Outcome, Page, Reading, Value};
 use std::alloc::Global;
 
 const MOMENT: u64 = 10_000_000_000;
@@ -50,6 +50,48 @@ fn page(alloc: Global) -> Result<Page, Memory> {
     })
 }
 
+// Two observations at most at 1, three above, and no sum.
+fn buckets(alloc: Global) -> Result<Value, Memory> {
+    let first = Bucket {
+        le: of(1),
+        count: 2,
+    };
+    let last = Bucket {
+        le: Number::Up,
+        count: 5,
+    };
+    Ok(Value::Buckets {
+        buckets: List::from_vec(Vec::from_array(alloc, [first, last])?),
+        sum: None,
+    })
+}
+
+// A histogram, the same as a gauge histogram, and a summary without a count.
+fn observations(alloc: Global) -> Result<Page, Memory> {
+    let mut histogram = reading(alloc, "h", Kind::Histogram, Some(5))?;
+    histogram.value = buckets(alloc)?;
+    let mut passed_over = reading(alloc, "g", Kind::GaugeHistogram, None)?;
+    passed_over.value = buckets(alloc)?;
+    let mut summary = reading(alloc, "s", Kind::Summary, None)?;
+    summary.value = Value::Quantiles {
+        list: List::new(alloc),
+        count: None,
+        sum: Some(of(3)),
+    };
+    let histogram = family(alloc, Kind::Histogram, Vec::from_array(alloc, [histogram])?)?;
+    let passed_over = family(
+        alloc,
+        Kind::GaugeHistogram,
+        Vec::from_array(alloc, [passed_over])?,
+    )?;
+    let summary = family(alloc, Kind::Summary, Vec::from_array(alloc, [summary])?)?;
+    let families = Vec::from_array(alloc, [histogram, passed_over, summary])?;
+    Ok(Page {
+        families: List::from_vec(families),
+        samples: 5,
+    })
+}
+
 fn request(alloc: Global, outcome: Outcome) -> Result<Request, Memory> {
     let target = Target::copied(alloc, "j", "h:1", "h", 1)?;
     event_request(alloc, &target, MOMENT, outcome)
@@ -68,6 +110,21 @@ fn metric(request: &Request, scope: usize, place: usize) -> Option<&Metric> {
 fn point(metric: &Metric, place: usize) -> Option<&NumberPoint> {
     match &metric.shape {
         Shape::Gauge(points) | Shape::Sum { points, .. } => points.as_slice().get(place),
+        Shape::Histogram(_) | Shape::Summary(_) => None,
+    }
+}
+
+fn histogram_point(metric: &Metric) -> Option<&HistogramPoint> {
+    match &metric.shape {
+        Shape::Histogram(points) => points.as_slice().first(),
+        _ => None,
+    }
+}
+
+fn summary_point(metric: &Metric) -> Option<&SummaryPoint> {
+    match &metric.shape {
+        Shape::Summary(points) => points.as_slice().first(),
+        _ => None,
     }
 }
 
@@ -105,6 +162,35 @@ fn gauge_without_start(rt: HostRuntime) {
     let gauge = metric(&request, 0, 1).expect(&rt, "gauge");
     assert_eq!(rt; start(gauge, 0), Some(None));
     assert!(rt; value_is(gauge, 7));
+    assert!(rt; metric(&request, 0, 2).is_none());
+}
+
+fn observed(alloc: Global) -> Result<Request, Memory> {
+    let page = observations(alloc)?;
+    request(alloc, Outcome::Page(page))
+}
+
+#[test]
+fn histogram_with_differences(rt: HostRuntime) {
+    let request = observed(rt.alloc()).expect(&rt, "memory");
+    let histogram = metric(&request, 0, 0).expect(&rt, "histogram");
+    let point = histogram_point(histogram).expect(&rt, "point");
+    assert_eq!(rt; point.start, 5_000_000_000);
+    let value = point.value.as_ref().expect(&rt, "value");
+    assert!(rt; value.layout.counts.as_slice() == [2, 3].as_slice());
+    assert_eq!(rt; value.layout.count, 5);
+    assert!(rt; value.sum.is_none());
+}
+
+#[test]
+fn summary_without_count(rt: HostRuntime) {
+    let request = observed(rt.alloc()).expect(&rt, "memory");
+    let summary = metric(&request, 0, 1).expect(&rt, "summary");
+    let point = summary_point(summary).expect(&rt, "point");
+    assert_eq!(rt; point.start, MOMENT);
+    let value = point.value.as_ref().expect(&rt, "value");
+    assert_eq!(rt; value.count, 0);
+    assert!(rt; value.sum == of(3));
     assert!(rt; metric(&request, 0, 2).is_none());
 }
 

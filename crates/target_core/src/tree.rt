@@ -3,7 +3,7 @@ ghost use Rattle.std.specs.Prelude.{◌≡◌, ◌++◌, filter_map, IfOk, OnOk}
 ghost use Rattle.page_model.specs.Presence.{page_of_outcome};
 ghost use Rattle.target_core.specs.Trees as trees;
 
-use crate::points::family_metric;
+use crate::metrics::family_metric;
 use crate::resource::resource;
 use crate::target::Target;
 use label_sets::{LabelSet, List, Memory, Text};
