@@ -1,0 +1,2 @@
+mod TextPages
+mod PointLaws

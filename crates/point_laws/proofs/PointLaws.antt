@@ -1,0 +1,191 @@
+-- Each reading of a text page that has no fault becomes a point.
+use Rattle.std.proofs.Common.{◌≡◌, ℕ, suc, Bool, true, false, ◌&&◌, List, [], ◌∷◌, length, map, filter_map, reverse, Option, Some, None, option_map, is_some, refl, sym, ap, subst, ◌∙◌, All}
+use Rattle.std.specs.Prelude.{nat_le}
+use Rattle.std.specs.List.{last_or, cons_option, AllByRecursion}
+use Rattle.std.specs.Option.{option_map_or}
+use Rattle.std.proofs.lemmas.Bool.{and_parts, not-false}
+use Rattle.std.proofs.lemmas.List.Elements.{All-from_recursion}
+use Rattle.label_sets.specs.declared.kind.Kind.{Kind}
+use Rattle.label_sets.specs.declared.kind.Kind.TheVariants.{Counter, Gauge, Histogram, GaugeHistogram, StateSet, Info, Summary, Unknown}
+use Rattle.label_sets.specs.Lists.{some_passes}
+use Rattle.exact_decimal.specs.declared.number.Number.{Number}
+use Rattle.exact_decimal.specs.declared.number.Number.TheVariants.{Finite, Up, Down, NotANumber}
+use Rattle.exact_decimal.specs.Order.{less, is_finite}
+use Rattle.page_lines.specs.Lines.{lines_of, ends_clean}
+use Rattle.page_model.specs.declared.format.Format.{Format}
+use Rattle.page_model.specs.declared.format.Format.TheVariants.{Text}
+use Rattle.page_model.specs.declared.item.Item.{Item}
+use Rattle.page_model.specs.declared.page.Bucket.{Bucket}
+use Rattle.page_model.specs.declared.page.Reading.{Reading}
+use Rattle.page_model.specs.declared.page.Family.{Family}
+use Rattle.page_model.specs.declared.page.Page.{Page}
+use Rattle.page_model.specs.declared.page.Value.{Value}
+use Rattle.page_model.specs.declared.page.Value.TheVariants as values
+use Rattle.page_model.specs.Written.{Setting}
+use Rattle.page_model.specs.Owners.{Owned, owned_lines}
+use Rattle.page_model.specs.Rules.{is_bound, is_up}
+use Rattle.page_model.specs.Faults.{Line, end_fault}
+use Rattle.page_model.specs.Readings.{family_of, families_of, page_of}
+use Rattle.page_model.specs.Pages.{AreLines, AreFaultless, items_of}
+use Rattle.page_model.proofs.KindLaws.{kind_of_page}
+use Rattle.sample_groups.proofs.Cumulative.{AreRising, RiseToUp}
+use Rattle.family_rules.proofs.Values.{IsPlain, IsQuantiles, HasRisingBuckets, HaveValuesOf, page_values}
+use Rattle.histogram_layout.specs.Layouts.{may_follow, are_cumulative}
+use Rattle.histogram_layout.specs.Layouts.{is_up as layout_is_up}
+use Rattle.otlp_tree.specs.declared.tree.Metric.{Metric}
+use Rattle.otlp_tree.specs.declared.tree.Shape.{Shape}
+use Rattle.otlp_tree.specs.declared.tree.Shape.TheVariants as shapes
+use Rattle.target_core.specs.Points.{start_at, point_of, number_in, cumulative_layout, histogram_in, summary_in, number_point, histogram_point, summary_point}
+use Rattle.target_core.specs.Trees.{some_of, shape_of, metric_of}
+use Rattle.point_laws.specs.PageLaws.{points_in, points_of_family, TextPagesLoseNothing}
+use Rattle.point_laws.proofs.TextPages.{has_word, IsSpelled, text_items, spelled_items, family_has_word, free_lines}
+
+-- ---- buckets that rise to `+Inf` are cumulative
+
+-- a bound below another is finite
+finite_below : (a b : Number) → is_bound a ≡ true → less a b ≡ true → is_finite a ≡ true
+unfolding less
+finite_below (Finite d) b bound h = refl
+finite_below Up b bound h = absurd cc
+finite_below Down b bound h = absurd cc
+finite_below NotANumber b bound h = absurd cc
+
+cumulative_from : (bs : List Bucket) (b : Bucket) → is_bound b.le ≡ true → AreRising (Some b) bs → some_passes (λ (c : Bucket). is_up c.le) (last_or (Some b) bs) ≡ true → are_cumulative (b ∷ bs) ≡ true
+unfolding are_cumulative may_follow
+cumulative_from [] b bound rising last = up b.le last
+  where
+    up : (n : Number) → is_up n ≡ true → layout_is_up n ≡ true
+    up (Finite d) h = absurd cc
+    up Up h = refl
+    up Down h = absurd cc
+    up NotANumber h = absurd cc
+cumulative_from (c ∷ bs) b bound rising last =
+    let follows = and_parts (less b.le c.le) (nat_le b.count c.count) (not-false (less b.le c.le && nat_le b.count c.count) rising.1) in
+    let finite : is_finite b.le ≡ true = finite_below b.le c.le bound follows.0 in
+    rw (finite, follows.0, follows.1) (cumulative_from bs c rising.0 rising.2 last)
+
+rising_cumulative : (bs : List Bucket) → RiseToUp bs → are_cumulative bs ≡ true
+rising_cumulative [] rise = absurd (let e : false ≡ true = rise.last in cc)
+rising_cumulative (b ∷ bs) rise = cumulative_from bs b rise.rising.0 rise.rising.2 rise.last
+
+-- ---- the point of a value
+
+map_some : {A B : Type 0} (f : A → B) (o : Option A) → is_some o ≡ true → is_some (option_map f o) ≡ true
+map_some f None h = h
+map_some f (Some x) h = refl
+
+number_is : (v : Value) → IsPlain v → is_some (number_in v) ≡ true
+unfolding number_in
+number_is (values.Plain n) h = refl
+number_is (values.Buckets buckets sum) h = absurd h
+number_is (values.Quantiles list count sum) h = absurd h
+
+histogram_is : (v : Value) → HasRisingBuckets v → is_some (histogram_in v) ≡ true
+unfolding histogram_in cumulative_layout
+histogram_is (values.Plain n) h = absurd h
+histogram_is (values.Buckets buckets sum) h = rw (rising_cumulative buckets h) refl
+histogram_is (values.Quantiles list count sum) h = absurd h
+
+summary_is : (v : Value) → IsQuantiles v → is_some (summary_in v) ≡ true
+unfolding summary_in
+summary_is (values.Plain n) h = absurd h
+summary_is (values.Buckets buckets sum) h = absurd h
+summary_is (values.Quantiles list count sum) h = refl
+
+-- ---- the kinds and the items of a page
+
+page_words : (st : Setting) (earlier : List Item) → AllByRecursion IsSpelled earlier → AreFaultless st earlier → (family : List ℕ) → has_word (family_of st (reverse (owned_lines st.format earlier)) family).kind ≡ true
+unfolding family_of
+page_words st earlier spelled free family = ap has_word (kind_of_page st earlier family free) ∙ family_has_word st.format earlier family spelled
+
+spelled_of : (f : Format) → f ≡ Text → (pieces : List (List ℕ)) (ls : List Line) → AreLines f pieces ls → AllByRecursion IsSpelled (items_of f ls)
+spelled_of f text pieces ls are = subst (λ g. AllByRecursion IsSpelled (items_of g ls)) (sym text) (spelled_items pieces ls [] (subst (λ g. AreLines g pieces ls) text are) tt)
+
+-- ---- the points of readings
+
+-- each of the readings has a value of this function
+abbrev HavePoints : {Y : Type 0} → (Reading → Option Y) → List Reading → Type 0
+HavePoints point rs = AllByRecursion (λ (r : Reading). is_some (point r) ≡ true) rs
+
+-- a function over what readings become gives something of each, so as much as there are readings
+module _ {P Y : Type 0} (become : Reading → P) (h : P → Option Y) where
+  all_points : (rs : List Reading) → HavePoints (λ r. h (become r)) rs → length (filter_map h (map become rs)) ≡ length rs
+  all_points [] have = refl
+  all_points (r ∷ rs) have = by (h (become r)) have.0 (all_points rs have.1)
+    where
+      by : (o : Option Y) → is_some o ≡ true → length (filter_map h (map become rs)) ≡ length rs → length (cons_option o (filter_map h (map become rs))) ≡ suc (length rs)
+      by None e ih = absurd cc
+      by (Some y) e ih = ap suc ih
+
+  some_is : (o : Option Y) → is_some o ≡ true → (y : Y) × (o ≡ Some y)
+  some_is None e = absurd cc
+  some_is (Some y) e = (y, refl)
+
+  -- the shape of points that are all there has each of them
+  shape_points : (shape : List Y → Shape) → ((ys : List Y) → points_in (shape ys) ≡ length ys) → (r : Reading) (rs : List Reading) → HavePoints (λ x. h (become x)) (r ∷ rs)
+      → option_map_or points_in (option_map shape (some_of h (map become (r ∷ rs)))) 0 ≡ suc (length rs)
+  shape_points shape counts r rs have =
+      let first = some_is (h (become r)) have.0 in
+      rw first.1 (counts (first.0 ∷ filter_map h (map become rs)) ∙ ap suc (all_points rs have.1))
+
+module _ (moment : ℕ) where
+  number_points : (rs : List Reading) → AllByRecursion (λ (r : Reading). IsPlain r.value) rs → HavePoints (λ r. number_point (point_of moment r)) rs
+  unfolding number_point point_of
+  number_points [] h = tt
+  number_points (r ∷ rs) h = (map_some (λ number. record { labels = r.key.labels; start = start_at moment r; time = moment; value = Some number }) (number_in r.value) (number_is r.value h.0), number_points rs h.1)
+
+  histogram_points : (rs : List Reading) → AllByRecursion (λ (r : Reading). HasRisingBuckets r.value) rs → HavePoints (λ r. histogram_point (point_of moment r)) rs
+  unfolding histogram_point point_of
+  histogram_points [] h = tt
+  histogram_points (r ∷ rs) h = (map_some _ (histogram_in r.value) (histogram_is r.value h.0), histogram_points rs h.1)
+
+  summary_points : (rs : List Reading) → AllByRecursion (λ (r : Reading). IsQuantiles r.value) rs → HavePoints (λ r. summary_point (point_of moment r)) rs
+  unfolding summary_point point_of
+  summary_points [] h = tt
+  summary_points (r ∷ rs) h = (map_some _ (summary_in r.value) (summary_is r.value h.0), summary_points rs h.1)
+
+  kind_points : (kind : Kind) (r : Reading) (rs : List Reading) → has_word kind ≡ true → HaveValuesOf kind (r ∷ rs) → option_map_or points_in (shape_of kind (map (point_of moment) (r ∷ rs))) 0 ≡ suc (length rs)
+  unfolding shape_of
+  kind_points Counter r rs word have = shape_points (point_of moment) number_point (λ ps. shapes.Sum ps true) (λ ps. refl) r rs (number_points (r ∷ rs) have)
+  kind_points Gauge r rs word have = shape_points (point_of moment) number_point shapes.Gauge (λ ps. refl) r rs (number_points (r ∷ rs) have)
+  kind_points Unknown r rs word have = shape_points (point_of moment) number_point shapes.Gauge (λ ps. refl) r rs (number_points (r ∷ rs) have)
+  kind_points Histogram r rs word have = shape_points (point_of moment) histogram_point shapes.Histogram (λ ps. refl) r rs (histogram_points (r ∷ rs) have)
+  kind_points Summary r rs word have = shape_points (point_of moment) summary_point shapes.Summary (λ ps. refl) r rs (summary_points (r ∷ rs) have)
+  kind_points GaugeHistogram r rs word have = absurd cc
+  kind_points StateSet r rs word have = absurd cc
+  kind_points Info r rs word have = absurd cc
+
+  -- the metric of readings has each of their points
+  metric_points : (kind : Kind) (help : List ℕ) (rs : List Reading) → has_word kind ≡ true → HaveValuesOf kind rs → option_map_or (λ (m : Metric). points_in m.shape) (metric_of moment kind help rs) 0 ≡ length rs
+  metric_points kind help [] word have = refl
+  metric_points kind help (r ∷ rs) word have = by (shape_of kind (map (point_of moment) (r ∷ rs))) ∙ kind_points kind r rs word have
+    where
+      by : (o : Option Shape) → option_map_or (λ (m : Metric). points_in m.shape) (option_map (λ shape. record { name = r.key.name; description = help; unit = r.key.unit; shape = shape }) o) 0 ≡ option_map_or points_in o 0
+      by None = refl
+      by (Some shape) = refl
+
+  -- ---- the points of a page
+
+  families_points : (st : Setting) (lines : List Owned) (names : List (List ℕ)) → ((family : List ℕ) → has_word (family_of st lines family).kind ≡ true)
+      → ((family : List ℕ) → HaveValuesOf (family_of st lines family).kind (family_of st lines family).readings)
+      → AllByRecursion (λ (f : Family). points_of_family moment f ≡ length f.readings) (map (family_of st lines) names)
+  families_points st lines [] words have = tt
+  families_points st lines (name ∷ names) words have =
+      let f : Family = family_of st lines name in
+      (metric_points f.kind f.help f.readings (words name) (have name), families_points st lines names words have)
+
+  page_points : (st : Setting) (earlier : List Item) (clean : Bool) → st.format ≡ Text → AllByRecursion IsSpelled earlier → AreFaultless st earlier → end_fault st earlier clean ≡ None
+      → All (λ (f : Family). points_of_family moment f ≡ length f.readings) (page_of st earlier).families
+  unfolding page_of
+  page_points st earlier clean text spelled free none =
+      let lines : List Owned = reverse (owned_lines st.format earlier) in
+      All-from_recursion (λ (f : Family). points_of_family moment f ≡ length f.readings) (map (family_of st lines) (families_of lines))
+      (families_points st lines (families_of lines) (page_words st earlier spelled free) (page_values st earlier clean text (text_items earlier spelled) free none))
+
+pub text_pages_lose_nothing : TextPagesLoseNothing
+text_pages_lose_nothing st bytes page text is = λ moment.
+    let items : List Item = items_of st.format is.lines in
+    let spelled : AllByRecursion IsSpelled items = spelled_of st.format text (lines_of bytes) is.lines is.are_lines in
+    let free = free_lines is.lines st [] 1 (ends_clean bytes) is.without_fault tt in
+    subst (λ (p : Page). All (λ (f : Family). points_of_family moment f ≡ length f.readings) p.families) (sym is.page_is)
+    (page_points moment st items (ends_clean bytes) text spelled free.0 free.1)
