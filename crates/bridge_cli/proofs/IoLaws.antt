@@ -1,9 +1,9 @@
 -- Bytes that are taken and given in steps, where the outside tells them.
-use Rattle.std.proofs.Common.{◌≡◌, ℕ, ◌+◌, ◌-◌, ◌<◌, ◌≤◌, List, [], ◌∷◌, ◌++◌, length, take, drop, Option, Some, None, refl, sym, ap, ◌∙◌, arith, append_assoc, length-append}
+use Rattle.std.proofs.Common.{ℕ, ◌+◌, ◌-◌, List, ◌++◌, length, take, drop, Option, Some, None, sym, ap, ◌∙◌, append_assoc}
 use Rattle.std.specs.Io.KnownBytes.{Appends, Consumes, Keeps, IsAtEnd}
-use Rattle.std.proofs.lemmas.List.{append-nil, length-take, take_rest, take-append-drop}
+use Rattle.std.proofs.lemmas.List.{append-nil, take_rest, take-append-drop}
 use Rattle.std.proofs.Math.Seq.{take-add}
-use Rattle.bridge_cli.specs.Inputs.{IsOverlong, WroteFront, IsPageOf}
+use Rattle.bridge_cli.specs.Inputs.{WroteFront, IsInput}
 
 -- bytes that grow and then stay
 appends_keeps : (a b c : Option (List ℕ)) (xs : List ℕ) → Appends a b xs → Keeps b c → Appends a c xs
@@ -20,7 +20,7 @@ appends_twice (Some us) (Some bs) None xs ys first second = absurd second
 appends_twice (Some us) (Some bs) (Some cs) xs ys first second = second ∙ ap (λ zs. zs ++ ys) first ∙ append_assoc us xs ys
 
 -- bytes that are taken twice
-consumes_twice : (a b c : Option (List ℕ)) (xs ys : List ℕ) → Consumes a b xs → Consumes b c ys → Consumes a c (xs ++ ys)
+pub consumes_twice : (a b c : Option (List ℕ)) (xs ys : List ℕ) → Consumes a b xs → Consumes b c ys → Consumes a c (xs ++ ys)
 consumes_twice None b c xs ys first second = tt
 consumes_twice (Some us) None c xs ys first second = absurd first
 consumes_twice (Some us) (Some bs) None xs ys first second = absurd second
@@ -40,18 +40,8 @@ pub more_written : (a b c : Option (List ℕ)) (at count : ℕ) (text : List ℕ
 more_written a b c at count text first second =
     rw (take-add at count text) (appends_twice a b c (take at text) (take count (drop at text)) first (rw (take_rest text at) at second))
 
--- one block too many was taken
-pub one_too_many : (a b c : Option (List ℕ)) (most count : ℕ) (bytes block : List ℕ) → Consumes a b bytes → Consumes b c (take count block) → length bytes ≤ most → count ≤ length block
-    → most - length bytes < count → count ≤ 65536 → IsOverlong most a c
-one_too_many a b c most count bytes block first second fits inside many small = record {
-  taken = bytes ++ take count block;
-  from = consumes_twice a b c bytes (take count block) first second;
-  many = omega (arith, length-append bytes (take count block), length-take count block);
-  soon = omega (arith, length-append bytes (take count block), length-take count block);
-}
-
 -- what was taken up to the end is all that was left
-pub all_taken : (a b : Option (List ℕ)) (bytes : List ℕ) → Consumes a b bytes → IsAtEnd b → IsPageOf a bytes
+pub all_taken : (a b : Option (List ℕ)) (bytes : List ℕ) → Consumes a b bytes → IsAtEnd b → IsInput a bytes
 all_taken None b bytes taken end = tt
 all_taken (Some us) None bytes taken end = absurd taken
 all_taken (Some us) (Some bs) bytes taken end = sym (taken ∙ ap (λ zs. bytes ++ zs) end ∙ append-nil bytes)

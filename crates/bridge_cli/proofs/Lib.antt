@@ -1,5 +1,4 @@
-mod ScanLaws
-mod PageLaws
 mod WordLaws
 mod IoLaws
+mod ReadLaws
 mod AnswerLaws

@@ -1,18 +1,17 @@
 -- Words: decimal numbers, the last colon of an instance, and what the words of a conversion hold.
-use Rattle.std.proofs.Common.{◌≡◌, ◌≢◌, ℕ, suc, ◌+◌, ◌-◌, ◌^◌, ◌<◌, ◌≤◌, Bool, true, false, not, eqb, List, [], ◌∷◌, ◌++◌, map, length, get_or, take, drop, Option, Some, None, Result, Ok, Err, refl, sym, ap, subst, ◌∙◌, inl, inr, arith, append_assoc, length-append}
+use Rattle.std.proofs.Common.{◌≡◌, ◌≢◌, ℕ, suc, ◌+◌, ◌-◌, ◌^◌, ◌<◌, ◌≤◌, Bool, true, false, not, eqb, List, [], ◌∷◌, ◌++◌, map, length, get_or, take, drop, Result, Ok, Err, refl, sym, ap, subst, ◌∙◌, inl, inr, arith, length-append}
 use Rattle.std.specs.Prelude.{codes, OnErr, slice_range}
 use Rattle.std.specs.Fmt.{decimal}
 use Rattle.std.specs.Str.Parse.{ParsesUnsigned}
 use Rattle.std.proofs.lemmas.Bool.{cases_order, eqb-false, not-true, not-false, true≢false}
 use Rattle.std.proofs.lemmas.Fmt.{parse-decimal, decimal_is_IsNumeral, decimal_injective}
 use Rattle.std.proofs.lemmas.Str.Parse.{digit_at}
-use Rattle.std.proofs.lemmas.List.{get_or-append-add, get_or_at, take_at, drop_at, drop-drop, get_or_past}
+use Rattle.std.proofs.lemmas.List.{get_or-append-add, get_or_at, take_at, drop_at, drop-drop}
 use Rattle.std.proofs.lemmas.Slice.Eq.{bytes_eq-Decides}
 use Rattle.std.specs.Str.{bytes_eq}
 use Rattle.bridge_cli.specs.CommandWords.{IsPlace, IsCommand, words_of}
-use Rattle.bridge_cli.specs.declared.target.Target.{Target}
 use Rattle.bridge_cli.specs.declared.words.Command.{Command}
-use Rattle.bridge_cli.specs.declared.words.Command.TheVariants.{Help, Version, ConvertText}
+use Rattle.bridge_cli.specs.declared.words.Command.TheVariants.{Help, Version, CheckText, ConvertText}
 
 -- a text that isn't read as a number is no number's
 pub unread : {E : Type 0} (bs : List ℕ) (r : Result ℕ E) (fault : E) → ParsesUnsigned 64 10 bs r → r ≡ Err fault → (most : ℕ) → most < 2 ^ 64 → (n : ℕ) → n ≤ most → bs ≢ decimal n
@@ -135,12 +134,19 @@ from_start xs n = let same : n - 0 ≡ n = omega arith in ap (λ k. take k xs) s
 pub one_command : (words : List (List ℕ)) (c d : Command) → IsCommand words c → IsCommand words d → c ≡ d
 one_command words Help Help a b = refl
 one_command words Help Version a b = let e : words_of Help ≡ words_of Version = sym a.spelled ∙ b.spelled in cc
+one_command words Help CheckText a b = let e : words_of Help ≡ words_of CheckText = sym a.spelled ∙ b.spelled in cc
 one_command words Help (ConvertText target nanos) a b = let e : words_of Help ≡ words_of (ConvertText target nanos) = sym a.spelled ∙ b.spelled in cc
 one_command words Version Help a b = let e : words_of Version ≡ words_of Help = sym a.spelled ∙ b.spelled in cc
 one_command words Version Version a b = refl
+one_command words Version CheckText a b = let e : words_of Version ≡ words_of CheckText = sym a.spelled ∙ b.spelled in cc
 one_command words Version (ConvertText target nanos) a b = let e : words_of Version ≡ words_of (ConvertText target nanos) = sym a.spelled ∙ b.spelled in cc
+one_command words CheckText Help a b = let e : words_of CheckText ≡ words_of Help = sym a.spelled ∙ b.spelled in cc
+one_command words CheckText Version a b = let e : words_of CheckText ≡ words_of Version = sym a.spelled ∙ b.spelled in cc
+one_command words CheckText CheckText a b = refl
+one_command words CheckText (ConvertText target nanos) a b = let e : words_of CheckText ≡ words_of (ConvertText target nanos) = sym a.spelled ∙ b.spelled in cc
 one_command words (ConvertText target nanos) Help a b = let e : words_of (ConvertText target nanos) ≡ words_of Help = sym a.spelled ∙ b.spelled in cc
 one_command words (ConvertText target nanos) Version a b = let e : words_of (ConvertText target nanos) ≡ words_of Version = sym a.spelled ∙ b.spelled in cc
+one_command words (ConvertText target nanos) CheckText a b = let e : words_of (ConvertText target nanos) ≡ words_of CheckText = sym a.spelled ∙ b.spelled in cc
 one_command words (ConvertText target nanos) (ConvertText other time) a b =
     let e : words_of (ConvertText target nanos) ≡ words_of (ConvertText other time) = sym a.spelled ∙ b.spelled in
     let job : target.job ≡ other.job = cc in
@@ -153,4 +159,4 @@ one_command words (ConvertText target nanos) (ConvertText other time) a b =
     let port : target.port ≡ other.port = place.1 in
     let same : record { job = target.job; instance = target.instance; host = target.host; port = target.port } ≡ record { job = other.job; instance = other.instance; host = other.host; port = other.port } = cc in
     let target_same : target ≡ other = same in
-    cc
+    ap (λ t. ConvertText t nanos) target_same ∙ ap (ConvertText other) nanos_same

@@ -3,9 +3,9 @@ use Rattle.std.specs.Prelude.{◌≡◌, ℕ, ◌^◌, ◌≤◌, Bool, true, fa
 use Rattle.std.specs.List.{list_all}
 use Rattle.std.specs.Int.{is_in_range}
 use Rattle.std.specs.Fmt.{decimal}
-use Rattle.bridge_cli.specs.declared.target.Target.{Target}
+use Rattle.target_core.specs.declared.target.Target.{Target}
 use Rattle.bridge_cli.specs.declared.words.Command.{Command}
-use Rattle.bridge_cli.specs.declared.words.Command.TheVariants.{Help, Version, ConvertText}
+use Rattle.bridge_cli.specs.declared.words.Command.TheVariants.{Help, Version, CheckText, ConvertText}
 
 -- a host's characters: the visible ones of ASCII
 abbrev pub is_host_char : ℕ → Bool
@@ -30,12 +30,14 @@ pub record IsTarget (t : Target) : Type 0 where
 abbrev pub words_of : Command → List (List ℕ)
 words_of Help = codes "--help" ∷ []
 words_of Version = codes "--version" ∷ []
+words_of CheckText = codes "check" ∷ codes "text" ∷ []
 words_of (ConvertText target nanos) = codes "convert" ∷ codes "text" ∷ target.job ∷ target.instance ∷ decimal nanos ∷ []
 
 -- the ranges of a command's arguments; a time is at most 2^62 nanoseconds
 abbrev pub IsInLimits : Command → Type 0
 IsInLimits Help = Unit {0}
 IsInLimits Version = Unit {0}
+IsInLimits CheckText = Unit {0}
 IsInLimits (ConvertText target nanos) = IsTarget target × (nanos ≤ 2 ^ 62)
 
 -- these words ask for this command
@@ -48,15 +50,16 @@ abbrev pub FitNoForm : List (List ℕ) → Type 0
 FitNoForm words = (command : Command) → ¬ IsCommand words command
 
 -- the command reads a page
-abbrev pub is_conversion : Command → Bool
-is_conversion Help = false
-is_conversion Version = false
-is_conversion (ConvertText target nanos) = true
+abbrev pub reads_page : Command → Bool
+reads_page Help = false
+reads_page Version = false
+reads_page CheckText = true
+reads_page (ConvertText target nanos) = true
 
--- the words ask for a conversion
-abbrev pub AskConversion : List (List ℕ) → Type 0
-AskConversion words = (command : Command) × IsCommand words command × (is_conversion command ≡ true)
+-- the words ask for a command that reads a page
+abbrev pub AskForPage : List (List ℕ) → Type 0
+AskForPage words = (command : Command) × IsCommand words command × (reads_page command ≡ true)
 
--- the words ask for no conversion
-abbrev pub AskNoConversion : List (List ℕ) → Type 0
-AskNoConversion words = (command : Command) → IsCommand words command → is_conversion command ≡ false
+-- the words ask for no command that reads a page
+abbrev pub AskForNoPage : List (List ℕ) → Type 0
+AskForNoPage words = (command : Command) → IsCommand words command → reads_page command ≡ false

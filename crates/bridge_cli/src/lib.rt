@@ -1,19 +1,15 @@
-//! The program over any input and output: its words, the plain pages that it reads, the tree that it
-//! makes of one, and what it prints.
+//! The program over any input and output: its words, the page that it reads, and what it prints.
 #![tactic(auto)]
 
+mod answers;
 mod input;
 mod output;
-mod plain;
+mod pages;
 mod program;
 mod stop;
-mod target;
-mod tree;
 mod words;
 
-pub use plain::Reading;
 pub use program::{HELP, VERSION, bridge};
-pub use target::Target;
 pub use words::Command;
 
 #[cfg(test)]

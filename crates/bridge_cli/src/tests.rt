@@ -19,6 +19,11 @@ const ONE_SAMPLE: &str =
 const NO_SAMPLE: &str =
     r#"{"scope":{"name":"bridge.target"},"metrics":[{"name":"up","gauge":{"dataPoints":[{"timeUnixNano":"1000","asDouble":1}]}},{"name":"scrape_samples_scraped","gauge":{"dataPoints":[{"timeUnixNano":"1000","asDouble":0}]}}]}"#;
 
+const FIVE_SAMPLES: &str =
+    r#"{"scope":{"name":"bridge.target"},"metrics":[{"name":"up","gauge":{"dataPoints":[{"timeUnixNano":"1000","asDouble":1}]}},{"name":"scrape_samples_scraped","gauge":{"dataPoints":[{"timeUnixNano":"1000","asDouble":5}]}}]}"#;
+
+const CHECK: [&str; 2] = ["check", "text"];
+
 const PAGE: &[u8] = b"# TYPE t gauge\nt 36.6\n";
 
 const CONVERT: [&str; 5] = ["convert", "text", "j", "h:1", "1000"];
@@ -71,44 +76,74 @@ fn joined(alloc: Global, texts: &[&str]) -> Result<String, Memory> {
     Ok(all)
 }
 
-#[test]
-fn plain_gauge_becomes_json(rt: HostRuntime) {
-    let alloc = rt.alloc();
-    let run = run(alloc, &CONVERT, PAGE, None, ROOM).expect(&rt, "memory");
-    let text = joined(alloc, &[RESOURCE, GAUGE, ONE_SAMPLE, "]}]}\n"]).expect(&rt, "memory");
-    assert_eq!(rt; run.status, 0);
-    assert!(rt; run.output.held() == text.as_bytes());
-}
+const COUNTER: &[u8] =
+    b"# HELP hits_total Hits.\n# TYPE hits_total counter\nhits_total{code=\"200\"} 5\n";
+
+const SUM: &str =
+    r#"{"scope":{"name":"bridge"},"metrics":[{"name":"hits_total","description":"Hits.","sum":{"dataPoints":[{"attributes":[{"key":"code","value":{"stringValue":"200"}}],"startTimeUnixNano":"1000","timeUnixNano":"1000","asDouble":5}],"aggregationTemporality":2,"isMonotonic":true}}]},"#;
+
+const ESCAPES: &[u8] = b"x{a=\"p\\n\\\"\\\\\\q\xc3\xa9\"} 1\n";
+
+const ESCAPED: &str =
+    r#"{"scope":{"name":"bridge"},"metrics":[{"name":"x","gauge":{"dataPoints":[{"attributes":[{"key":"a","value":{"stringValue":"p\u000a\"\\\\qé"}}],"timeUnixNano":"1000","asDouble":1}]}}]},"#;
+
+const BUCKETS: &[u8] =
+    b"# TYPE h histogram\nh_bucket{le=\"0.1\"} 2\nh_bucket{le=\"1\"} 5\nh_bucket{le=\"+Inf\"} 5\nh_sum 1.5\nh_count 5\n";
+
+const HISTOGRAM: &str =
+    r#"{"scope":{"name":"bridge"},"metrics":[{"name":"h","histogram":{"dataPoints":[{"startTimeUnixNano":"1000","timeUnixNano":"1000","count":"5","sum":1.5,"bucketCounts":["2","3","0"],"explicitBounds":[0.1,1]}],"aggregationTemporality":2}}]},"#;
+
+const QUANTILES: &[u8] =
+    b"# TYPE s summary\ns{quantile=\"0.5\"} NaN\ns{quantile=\"0.9\"} 2\ns{quantile=\"0.50001\"} 1\ns_sum 7\ns_count 5\n";
+
+const SUMMARY: &str =
+    r#"{"scope":{"name":"bridge"},"metrics":[{"name":"s","summary":{"dataPoints":[{"startTimeUnixNano":"1000","timeUnixNano":"1000","count":"5","sum":7,"quantileValues":[{"quantile":0.5,"value":"NaN"},{"quantile":0.9,"value":2},{"quantile":0.50001,"value":1}]}]}}]},"#;
+
+// Pages, and the scopes that they become.
+const CONVERTED: [(&[u8], &str, &str); 6] = [
+    (b"", "", NO_SAMPLE),
+    (PAGE, GAUGE, ONE_SAMPLE),
+    (COUNTER, SUM, ONE_SAMPLE),
+    (ESCAPES, ESCAPED, ONE_SAMPLE),
+    (BUCKETS, HISTOGRAM, FIVE_SAMPLES),
+    (QUANTILES, SUMMARY, FIVE_SAMPLES),
+];
 
 #[test]
-fn empty_page(rt: HostRuntime) {
+fn converted_pages(rt: HostRuntime) {
     let alloc = rt.alloc();
-    let run = run(alloc, &CONVERT, b"", None, ROOM).expect(&rt, "memory");
-    let text = joined(alloc, &[RESOURCE, NO_SAMPLE, "]}]}\n"]).expect(&rt, "memory");
-    assert_eq!(rt; run.status, 0);
-    assert!(rt; run.output.held() == text.as_bytes());
+    for (page, scope, scraped) in &CONVERTED {
+        let run = run(alloc, &CONVERT, page, None, ROOM).expect(&rt, "memory");
+        let text = joined(alloc, &[RESOURCE, scope, scraped, "]}]}\n"]).expect(&rt, "memory");
+        assert_eq!(rt; run.status, 0);
+        assert!(rt; run.output.held() == text.as_bytes(), "{scope}");
+    }
 }
 
-// Tokens and their literals, or none where a token is no number or is out of range.
-const TOKENS: [(&str, Option<&str>); 18] = [
-    ("+Inf", Some("\"Infinity\"")),
-    ("-inf", Some("\"-Infinity\"")),
-    ("nan", Some("\"NaN\"")),
-    ("-0.0", Some("0")),
-    (".5", Some("0.5")),
-    ("5.", Some("5")),
-    ("1e+06", Some("1000000")),
-    ("0e999999", Some("0")),
-    ("0x1p3", None),
-    ("1.7976931348623157e+308", Some("1.7976931348623157e308")),
-    ("5e-324", Some("5e-324")),
-    ("1e309", None),
-    ("999999999999999999999999999999999999999", None),
-    ("10000000000000000000000000000000000000000", Some("1e40")),
-    ("1e20", Some("100000000000000000000")),
-    ("0.00001", Some("0.00001")),
-    ("0.000001", Some("1e-6")),
-    (".", None),
+const SYNTAX: &str = "refused line 2 rule 4 Syntax\n";
+
+const RANGE: &str = "refused line 2 rule 5 Range\n";
+
+// Tokens and their literals, or the refusal where a token is no number or is out of range.
+const TOKENS: [(&str, Result<&str, &str>); 18] = [
+    ("+Inf", Ok("\"Infinity\"")),
+    ("-inf", Ok("\"-Infinity\"")),
+    ("nan", Ok("\"NaN\"")),
+    ("-0.0", Ok("0")),
+    (".5", Ok("0.5")),
+    ("5.", Ok("5")),
+    ("1e+06", Ok("1000000")),
+    ("0e999999", Ok("0")),
+    ("0x1p3", Err(SYNTAX)),
+    ("1.7976931348623157e+308", Ok("1.7976931348623157e308")),
+    ("5e-324", Ok("5e-324")),
+    ("1e309", Err(RANGE)),
+    ("999999999999999999999999999999999999999", Err(RANGE)),
+    ("10000000000000000000000000000000000000000", Ok("1e40")),
+    ("1e20", Ok("100000000000000000000")),
+    ("0.00001", Ok("0.00001")),
+    ("0.000001", Ok("1e-6")),
+    (".", Err(SYNTAX)),
 ];
 
 const BEFORE_VALUE: &str =
@@ -123,7 +158,7 @@ fn number_literals(rt: HostRuntime) {
         let page = joined(alloc, &["# TYPE t gauge\nt ", token, "\n"]).expect(&rt, "memory");
         let run = run(alloc, &CONVERT, page.as_bytes(), None, ROOM).expect(&rt, "memory");
         match literal {
-            Some(literal) => {
+            Ok(literal) => {
                 let text = [
                     RESOURCE,
                     BEFORE_VALUE,
@@ -135,28 +170,71 @@ fn number_literals(rt: HostRuntime) {
                 let text = joined(alloc, &text).expect(&rt, "memory");
                 assert!(rt; run.output.held() == text.as_bytes(), "{token}");
             }
-            None => assert!(rt; run.output.held() == b"not plain\n".as_slice(), "{token}"),
+            Err(refusal) => assert!(rt; run.output.held() == refusal.as_bytes(), "{token}"),
         }
     }
 }
 
-const NOT_PLAIN: [&[u8]; 8] = [
-    b"# TYPE t gauge\nt 1",
-    b"# TYPE t gauge\nt  1\n",
-    b"# TYPE t counter\nt 1\n",
-    b"# TYPE t gauge\nu 1\n",
-    b"# TYPE 0 gauge\n0 1\n",
-    b"# TYPE t gauge\nt 1e309\n",
-    b"# TYPE t gauge\nt 1\n# TYPE t gauge\nt 1\n",
-    b"t 1\n",
+// Pages, and the status and text of their check.
+const CHECKED: [(&[u8], u8, &str); 13] = [
+    (b"", 0, "ok 0 families 0 samples\n"),
+    (PAGE, 0, "ok 1 families 1 samples\n"),
+    (b"x 1\ny{a=\"b\"} 2\ny 3\n", 0, "ok 2 families 3 samples\n"),
+    (b"x 1", 1, "refused line 2 rule 3 NoNewline\n"),
+    (
+        b"x{b=\"1\",a=\"2\",} 1\nx{a=\"2\",b=\"1\",c=\"\"} 2\n",
+        1,
+        "refused line 2 rule 14 Duplicate\n",
+    ),
+    (
+        b"# TYPE x counter\ny 1\nx 2\n",
+        1,
+        "refused line 3 rule 11 Split\n",
+    ),
+    // The fault of an incomplete histogram is at the line that leaves it, or at the end.
+    (
+        b"# TYPE h histogram\nh_bucket{le=\"0.1\"} 2\nh_bucket{le=\"1\"} 5\nh_sum 1.5\nh_count 5\ny 1\n",
+        1,
+        "refused line 6 rule 18 Incomplete\n",
+    ),
+    (
+        b"# TYPE h histogram\nh_bucket{le=\"1\"} 5\nh_bucket{le=\"+Inf\"} 5\nh_sum 1.5\nh_count 6\ny 1\n",
+        1,
+        "refused line 6 rule 18 Incomplete\n",
+    ),
+    (
+        b"# TYPE h histogram\nh_bucket{le=\"1\"} 5\n",
+        1,
+        "refused line 3 rule 18 Incomplete\n",
+    ),
+    (
+        b"# TYPE h histogram\nh_bucket{le=\"0.5\"} 1\nh_bucket{le=\"0.50\"} 1\n",
+        1,
+        "refused line 3 rule 17 Order\n",
+    ),
+    (
+        b"# TYPE h histogram\nh_bucket{le=\"+Inf\"} 2\nh_bucket{le=\"1\"} 2\n",
+        1,
+        "refused line 3 rule 17 Order\n",
+    ),
+    (
+        b"# TYPE s summary\ns 1\n",
+        1,
+        "refused line 2 rule 16 Threshold\n",
+    ),
+    (
+        b"# TYPE h histogram\nh_bucket{le=\"1\"} 2.5\n",
+        1,
+        "refused line 2 rule 15 Value\n",
+    ),
 ];
 
 #[test]
-fn pages_that_are_not_plain(rt: HostRuntime) {
-    for page in &NOT_PLAIN {
-        let run = run(rt.alloc(), &CONVERT, page, None, ROOM).expect(&rt, "memory");
-        assert_eq!(rt; run.status, 1);
-        assert!(rt; run.output.held() == b"not plain\n".as_slice());
+fn checked_pages(rt: HostRuntime) {
+    for (page, status, text) in &CHECKED {
+        let run = run(rt.alloc(), &CHECK, page, None, ROOM).expect(&rt, "memory");
+        assert_eq!(rt; run.status, *status);
+        assert!(rt; run.output.held() == text.as_bytes(), "{text}");
     }
 }
 
@@ -210,7 +288,44 @@ fn failed_write_leaves_a_front(rt: HostRuntime) {
     assert!(rt; run.output.held() == b"{\"resource".as_slice());
 }
 
-/// An input without an end.
+/// An input that gives a byte at each read.
+#[derive(Drop)]
+struct Slow {
+    page: &'static [u8],
+    at: usize,
+}
+
+impl Source for Slow {
+    ghost left = { λ _. untold };
+
+    ghost read_faults = { λ _. 0 };
+
+    fn read(&mut self, into: &mut [u8]) -> Result<u32, Failed> {
+        let Some(byte) = self.page.get(self.at) else {
+            return Ok(0);
+        };
+        into[0] = *byte;
+        self.at = self.at.saturating_add(1);
+        Ok(1)
+    }
+}
+
+#[test]
+fn page_in_single_bytes(rt: HostRuntime) {
+    let alloc = rt.alloc();
+    let words = strings(alloc, &CONVERT).expect(&rt, "memory");
+    let mut input = Slow {
+        page: ESCAPES,
+        at: 0,
+    };
+    let mut output = MemorySink::new(alloc, ROOM, List::new(alloc)).expect(&rt, "memory");
+    let status = bridge(alloc, words.as_slice(), &mut input, &mut output);
+    let text = joined(alloc, &[RESOURCE, ESCAPED, ONE_SAMPLE, "]}]}\n"]).expect(&rt, "memory");
+    assert_eq!(rt; status, 0);
+    assert!(rt; output.held() == text.as_bytes());
+}
+
+/// An input without an end, whose first line is too long.
 #[derive(Drop)]
 struct Endless {
     reads: u64,
@@ -227,14 +342,15 @@ impl Source for Endless {
     }
 }
 
+// That more than 64 MiB were taken goes before the fault of the page.
 #[test]
 fn endless_input_is_left(rt: HostRuntime) {
     let alloc = rt.alloc();
-    let words = strings(alloc, &CONVERT).expect(&rt, "memory");
+    let words = strings(alloc, &CHECK).expect(&rt, "memory");
     let mut input = Endless { reads: 0 };
     let mut output = MemorySink::new(alloc, ROOM, List::new(alloc)).expect(&rt, "memory");
     let status = bridge(alloc, words.as_slice(), &mut input, &mut output);
-    assert_eq!(rt; status, 1);
+    assert_eq!(rt; status, 8);
     assert_eq!(rt; input.reads, 1025);
-    assert!(rt; output.held() == b"not plain\n".as_slice());
+    assert!(rt; output.held() == b"input too long\n".as_slice());
 }

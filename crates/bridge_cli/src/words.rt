@@ -3,8 +3,8 @@ mod forms;
 mod numbers;
 mod place;
 
-use crate::target::Target;
 pub(crate) use forms::command;
+use target_core::Target;
 
 /// What the words of the command line ask for.
 #[derive(Drop)]
@@ -13,6 +13,8 @@ pub enum Command {
     Help,
     /// The name and version of the program.
     Version,
+    /// Whether a text page has a fault.
+    CheckText,
     /// One event of a text page.
     ConvertText {
         /// The job and the instance that the page is of.

@@ -1,13 +1,12 @@
 //! The forms of the command line.
 ghost use Rattle.std.specs.Prelude.{◌≡◌, List, ℕ, [], ◌∷◌, map, codes, string_bytes, IfOk, IfSome, IfNone, OnErr};
-ghost use Rattle.bridge_cli.specs.CommandWords.{IsCommand, FitNoForm, AskConversion};
+ghost use Rattle.bridge_cli.specs.CommandWords.{IsCommand, FitNoForm, AskForPage};
 
 use super::Command;
 use super::numbers::number;
 use super::place::host_and_port;
-use crate::target::Target;
-use label_sets::Text;
 use std::alloc::{AllocError, Global};
+use target_core::Target;
 
 const MOST_JOB_BYTES: usize = 256;
 
@@ -27,6 +26,17 @@ fn lone_word(word: &str) -> Option<Command>
     None
 }
 
+/// The command that two words ask for.
+fn two_words(verb: &str, format: &str) -> Option<Command>
+    ensures found { IfSome result (IsCommand (verb.now ∷ format.now ∷ [])) }
+    ensures none { IfNone result (FitNoForm (verb.now ∷ format.now ∷ [])) }
+{
+    if verb == "check" && format == "text" {
+        return Some(Command::CheckText);
+    }
+    None
+}
+
 /// The conversion that a job, an instance and a time ask for.
 fn conversion(
     alloc: Global,
@@ -38,7 +48,7 @@ fn conversion(
         (IsCommand (codes "convert" ∷ codes "text" ∷ job.now ∷ instance.now ∷ time.now ∷ []))) }
     ensures none { IfOk result (λ found. IfNone found
         (FitNoForm (codes "convert" ∷ codes "text" ∷ job.now ∷ instance.now ∷ time.now ∷ []))) }
-    ensures memory { OnErr result (AskConversion
+    ensures memory { OnErr result (AskForPage
         (codes "convert" ∷ codes "text" ∷ job.now ∷ instance.now ∷ time.now ∷ [])) }
 {
     if job.is_empty() {
@@ -63,10 +73,11 @@ fn conversion(
 pub(crate) fn command(alloc: Global, words: &[String]) -> Result<Option<Command>, AllocError>
     ensures found { IfOk result (λ found. IfSome found (IsCommand (map string_bytes words.now))) }
     ensures none { IfOk result (λ found. IfNone found (FitNoForm (map string_bytes words.now))) }
-    ensures memory { OnErr result (AskConversion (map string_bytes words.now)) }
+    ensures memory { OnErr result (AskForPage (map string_bytes words.now)) }
 {
     match words {
         [word] => Ok(lone_word(word.as_str())),
+        [verb, format] => Ok(two_words(verb.as_str(), format.as_str())),
         [verb, format, job, instance, time] => {
             if verb.as_str() != "convert" {
                 return Ok(None);
