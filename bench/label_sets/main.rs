@@ -1,5 +1,5 @@
 //! Label sets by plain Rust, to be timed against the crate: pairs of strings sorted by name,
-//! checked for a repeated name, without empty values. Nothing is copied.
+//! checked for a repeated name, without empty values.
 use std::time::Instant;
 
 type Pairs = Vec<(String, String)>;
@@ -17,25 +17,31 @@ fn build(mut pairs: Pairs, most: usize) -> Option<Pairs> {
     Some(pairs)
 }
 
-fn inputs(names: &[&str], count: u32) -> Vec<Pairs> {
-    (0..count)
-        .map(|n| {
-            names
-                .iter()
-                .map(|name| (name.to_string(), format!("{name}-{}", n % 1000)))
-                .collect()
-        })
-        .collect()
+#[inline(never)]
+fn pairs(names: &[String], values: &[String]) -> Pairs {
+    let mut pairs = Vec::with_capacity(names.len());
+    for (name, value) in names.iter().zip(values) {
+        pairs.push((name.clone(), value.clone()));
+    }
+    pairs
 }
 
 fn main() {
     let mut words = std::env::args().skip(1);
-    let count: u32 = words.next().and_then(|word| word.parse().ok()).unwrap_or(200_000);
+    let count: usize = words.next().and_then(|word| word.parse().ok()).unwrap_or(200_000);
     let names: Vec<String> = words.collect();
-    let names: Vec<&str> = names.iter().map(|name| name.as_str()).collect();
-    let all = inputs(&names, count);
-    let mut sets = Vec::with_capacity(all.len());
+    let mut values: Vec<Vec<String>> = Vec::new();
+    for n in 0..1000 {
+        values.push(names.iter().map(|name| format!("{name}-{n}")).collect());
+    }
     let start = Instant::now();
+    let mut all = Vec::with_capacity(count);
+    for n in 0..count {
+        all.push(pairs(&names, &values[n % 1000]));
+    }
+    let made = start.elapsed().as_nanos();
+    let start = Instant::now();
+    let mut sets = Vec::with_capacity(count);
     for pairs in all {
         if let Some(set) = build(pairs, 64) {
             sets.push(set);
@@ -43,8 +49,14 @@ fn main() {
     }
     let built = start.elapsed().as_nanos();
     let start = Instant::now();
-    let labels: usize = sets.iter().map(|set| set.len()).sum();
+    let mut copies = Vec::with_capacity(count);
+    for set in &sets {
+        copies.push(set.clone());
+    }
+    let copied = start.elapsed().as_nanos();
+    let labels: usize = copies.iter().map(|set| set.len()).sum();
+    let start = Instant::now();
     drop(sets);
     let dropped = start.elapsed().as_nanos();
-    println!("{built} {dropped} {labels}");
+    println!("{made} {built} {copied} {dropped} {labels}");
 }
