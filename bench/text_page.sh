@@ -47,7 +47,7 @@ page() {
 page 20000 > "$work/page.20000"
 page 200000 > "$work/page.200000"
 
-for name in label_sets exact_decimal page_lines page_model family_rules text_grammar; do
+for name in label_sets exact_decimal page_lines page_model sample_groups family_rules text_grammar; do
     mkdir -p "$work/crates/$name"
     for part in src specs proofs; do
         if [ -d "$crates/$name/$part" ]; then cp -R "$crates/$name/$part" "$work/crates/$name/"; fi
@@ -55,7 +55,7 @@ for name in label_sets exact_decimal page_lines page_model family_rules text_gra
 done
 mkdir -p "$work/crates/page_bench/src"
 # Each of these crates stands on what it stands on in the repository.
-grep -E '^(label_sets|exact_decimal|page_lines|page_model|family_rules|text_grammar):' "$here/../crates.txt" > "$work/crates.txt"
+grep -E '^(label_sets|exact_decimal|page_lines|page_model|sample_groups|family_rules|text_grammar):' "$here/../crates.txt" > "$work/crates.txt"
 echo 'page_bench: text_grammar page_model label_sets exact_decimal' >> "$work/crates.txt"
 cat > "$work/crates/page_bench/src/main.rt" <<'END'
 //! Reads a page on standard input in pieces of 64 KiB, as often as the first word says. Prints the time of
