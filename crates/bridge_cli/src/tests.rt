@@ -99,14 +99,25 @@ const QUANTILES: &[u8] =
 const SUMMARY: &str =
     r#"{"scope":{"name":"bridge"},"metrics":[{"name":"s","summary":{"dataPoints":[{"startTimeUnixNano":"1000","timeUnixNano":"1000","count":"5","sum":7,"quantileValues":[{"quantile":0.5,"value":"NaN"},{"quantile":0.9,"value":2},{"quantile":0.50001,"value":1}]}]}}]},"#;
 
+// As the usual Go and Python clients write pages; the summary has had no observations.
+const CLIENTS: &[u8] =
+    b"# HELP rpc_durations_seconds RPC latency distributions.\n# TYPE rpc_durations_seconds summary\nrpc_durations_seconds{quantile=\"0.5\"} NaN\nrpc_durations_seconds{quantile=\"0.9\"} NaN\nrpc_durations_seconds{quantile=\"0.99\"} NaN\nrpc_durations_seconds_sum 0\nrpc_durations_seconds_count 0\n# HELP process_cpu_seconds_total Total user and system CPU time spent in seconds.\n# TYPE process_cpu_seconds_total counter\nprocess_cpu_seconds_total 0.24\n# HELP process_start_time_seconds Start time of the process since unix epoch in seconds.\n# TYPE process_start_time_seconds gauge\nprocess_start_time_seconds 1.7e+09\n# HELP jobs_total Jobs.\n# TYPE jobs_total counter\njobs_total{queue=\"a b\"} 3.0\n# HELP jobs_created Jobs.\n# TYPE jobs_created gauge\njobs_created{queue=\"a b\"} 1.7000000001e+09\n";
+
+const CLIENT_METRICS: &str =
+    r#"{"scope":{"name":"bridge"},"metrics":[{"name":"rpc_durations_seconds","description":"RPC latency distributions.","summary":{"dataPoints":[{"startTimeUnixNano":"1000","timeUnixNano":"1000","count":"0","sum":0,"quantileValues":[{"quantile":0.5,"value":"NaN"},{"quantile":0.9,"value":"NaN"},{"quantile":0.99,"value":"NaN"}]}]}},{"name":"process_cpu_seconds_total","description":"Total user and system CPU time spent in seconds.","sum":{"dataPoints":[{"startTimeUnixNano":"1000","timeUnixNano":"1000","asDouble":0.24}],"aggregationTemporality":2,"isMonotonic":true}},{"name":"process_start_time_seconds","description":"Start time of the process since unix epoch in seconds.","gauge":{"dataPoints":[{"timeUnixNano":"1000","asDouble":1700000000}]}},{"name":"jobs_total","description":"Jobs.","sum":{"dataPoints":[{"attributes":[{"key":"queue","value":{"stringValue":"a b"}}],"startTimeUnixNano":"1000","timeUnixNano":"1000","asDouble":3}],"aggregationTemporality":2,"isMonotonic":true}},{"name":"jobs_created","description":"Jobs.","gauge":{"dataPoints":[{"attributes":[{"key":"queue","value":{"stringValue":"a b"}}],"timeUnixNano":"1000","asDouble":1700000000.1}]}}]},"#;
+
+const NINE_SAMPLES: &str =
+    r#"{"scope":{"name":"bridge.target"},"metrics":[{"name":"up","gauge":{"dataPoints":[{"timeUnixNano":"1000","asDouble":1}]}},{"name":"scrape_samples_scraped","gauge":{"dataPoints":[{"timeUnixNano":"1000","asDouble":9}]}}]}"#;
+
 // Pages, and the scopes that they become.
-const CONVERTED: [(&[u8], &str, &str); 6] = [
+const CONVERTED: [(&[u8], &str, &str); 7] = [
     (b"", "", NO_SAMPLE),
     (PAGE, GAUGE, ONE_SAMPLE),
     (COUNTER, SUM, ONE_SAMPLE),
     (ESCAPES, ESCAPED, ONE_SAMPLE),
     (BUCKETS, HISTOGRAM, FIVE_SAMPLES),
     (QUANTILES, SUMMARY, FIVE_SAMPLES),
+    (CLIENTS, CLIENT_METRICS, NINE_SAMPLES),
 ];
 
 #[test]
@@ -176,8 +187,9 @@ fn number_literals(rt: HostRuntime) {
 }
 
 // Pages, and the status and text of their check.
-const CHECKED: [(&[u8], u8, &str); 13] = [
+const CHECKED: [(&[u8], u8, &str); 14] = [
     (b"", 0, "ok 0 families 0 samples\n"),
+    (CLIENTS, 0, "ok 5 families 9 samples\n"),
     (PAGE, 0, "ok 1 families 1 samples\n"),
     (b"x 1\ny{a=\"b\"} 2\ny 3\n", 0, "ok 2 families 3 samples\n"),
     (b"x 1", 1, "refused line 2 rule 3 NoNewline\n"),
