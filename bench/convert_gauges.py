@@ -8,13 +8,11 @@ The two programs take turns; the least time of each counts.
 """
 
 import os
-import shutil
-import subprocess
 import sys
 import tempfile
-import time
 
-TOP = os.path.dirname(os.path.dirname(os.path.abspath(__file__)))
+from timing import built_program, installed_promtool, peak_bytes, rounds, seconds
+
 GAUGES = 200_000
 
 
@@ -28,38 +26,8 @@ def page(count: int) -> bytes:
     return "".join(lines).encode()
 
 
-def seconds(words, path) -> float:
-    with open(path, "rb") as source:
-        start = time.perf_counter()
-        subprocess.run(words, stdin=source, stdout=subprocess.DEVNULL, stderr=subprocess.DEVNULL)
-        return time.perf_counter() - start
-
-
-def peak_bytes(words, path) -> int:
-    """The largest resident size of one run, read in a child of its own."""
-    code = (
-        "import resource, subprocess, sys\n"
-        "subprocess.run(sys.argv[2:], stdin=open(sys.argv[1], 'rb'), stdout=subprocess.DEVNULL)\n"
-        "print(resource.getrusage(resource.RUSAGE_CHILDREN).ru_maxrss)\n"
-    )
-    out = subprocess.run([sys.executable, "-c", code, path, *words], capture_output=True, text=True, check=True)
-    return int(out.stdout) * 1024
-
-
-def built_program() -> str:
-    """The program, built where it isn't yet."""
-    program = os.path.join(TOP, "crates", "bridge", "out", "bridge")
-    if not os.path.exists(program):
-        subprocess.run([os.path.join(TOP, "bridge"), "--version"], check=True, stdout=subprocess.DEVNULL)
-    return program
-
-
 def main() -> int:
-    rounds = int(sys.argv[1]) if len(sys.argv) > 1 else 7
-    promtool = shutil.which("promtool")
-    if promtool is None:
-        print("promtool is missing: install Debian's package prometheus", file=sys.stderr)
-        return 1
+    promtool = installed_promtool()
     program = built_program()
     data = page(GAUGES)
     with tempfile.TemporaryDirectory() as folder:
@@ -69,7 +37,7 @@ def main() -> int:
         bridge = [program, "convert", "text", "j", "h:1", "1000"]
         check = [promtool, "check", "metrics"]
         ours, theirs = [], []
-        for _ in range(rounds):
+        for _ in range(rounds(7)):
             ours.append(seconds(bridge, path))
             theirs.append(seconds(check, path))
         memory = peak_bytes(bridge, path)

@@ -13,7 +13,7 @@ import subprocess
 import sys
 import tempfile
 
-from convert_gauges import built_program, seconds
+from timing import built_program, rounds, seconds
 
 FAMILIES = 100
 HISTOGRAMS_EACH = 20
@@ -69,14 +69,14 @@ def is_read(program: str, kind: str, path: str) -> bool:
     return read
 
 
-def least_times(program: str, paths: dict[str, str], rounds: int) -> dict[tuple[str, str], float]:
+def least_times(program: str, paths: dict[str, str]) -> dict[tuple[str, str], float]:
     """The least time of each command over each page."""
     commands = {
         "check": [program, "check", "text"],
         "convert": [program, "convert", "text", "j", "h:1", "1000"],
     }
     least = {}
-    for _ in range(rounds):
+    for _ in range(rounds(15)):
         for command, words in commands.items():
             for kind, path in paths.items():
                 took = seconds(words, path)
@@ -85,7 +85,6 @@ def least_times(program: str, paths: dict[str, str], rounds: int) -> dict[tuple[
 
 
 def main() -> int:
-    rounds = int(sys.argv[1]) if len(sys.argv) > 1 else 15
     program = built_program()
     with tempfile.TemporaryDirectory() as folder:
         paths = {}
@@ -96,7 +95,7 @@ def main() -> int:
             print(f"{kind}: {SAMPLES} samples, {len(data)} bytes")
         if not all([is_read(program, kind, path) for kind, path in paths.items()]):
             return 1
-        least = least_times(program, paths, rounds)
+        least = least_times(program, paths)
     for command in ("check", "convert"):
         costs = {kind: least[command, kind] / SAMPLES * 1e9 for kind in paths}
         ratio = costs["histograms"] / costs["gauges"]

@@ -8,11 +8,10 @@ The programs take turns; the least time of each counts.
 """
 
 import os
-import shutil
 import sys
 import tempfile
 
-from convert_gauges import built_program, peak_bytes, seconds
+from timing import built_program, installed_promtool, peak_bytes, rounds, seconds
 
 
 def page(samples: int) -> bytes:
@@ -31,7 +30,7 @@ def page(samples: int) -> bytes:
     return "".join(lines).encode()
 
 
-def measure(program: str, promtool: str, samples: int, rounds: int) -> dict:
+def measure(program: str, promtool: str, samples: int) -> dict:
     """The least time of each command on one page, and the bridge's peak memory."""
     words = {
         "check": [program, "check", "text"],
@@ -44,7 +43,7 @@ def measure(program: str, promtool: str, samples: int, rounds: int) -> dict:
             out.write(page(samples))
         size = os.path.getsize(path)
         times = {name: [] for name in words}
-        for _ in range(rounds):
+        for _ in range(rounds(5)):
             for name, command in words.items():
                 times[name].append(seconds(command, path))
         least = {name: min(all_times) for name, all_times in times.items()}
@@ -60,14 +59,10 @@ def measure(program: str, promtool: str, samples: int, rounds: int) -> dict:
 
 
 def main() -> int:
-    rounds = int(sys.argv[1]) if len(sys.argv) > 1 else 5
-    promtool = shutil.which("promtool")
-    if promtool is None:
-        print("promtool is missing: install Debian's package prometheus", file=sys.stderr)
-        return 1
+    promtool = installed_promtool()
     program = built_program()
-    small = measure(program, promtool, 20_000, rounds)
-    large = measure(program, promtool, 200_000, rounds)
+    small = measure(program, promtool, 20_000)
+    large = measure(program, promtool, 200_000)
     for name in ("check", "convert"):
         print(f"cost of a sample at 200,000 over 20,000, {name}: {large[name] / small[name] / 10:.2f}")
     return 0

@@ -1,0 +1,48 @@
+"""What the benchmarks of the commands share: the programs, their times and their memory."""
+
+import os
+import shutil
+import subprocess
+import sys
+import time
+
+TOP = os.path.dirname(os.path.dirname(os.path.abspath(__file__)))
+
+
+def rounds(usual: int) -> int:
+    """How often each program runs: the first word, or the usual number."""
+    return int(sys.argv[1]) if len(sys.argv) > 1 else usual
+
+
+def installed_promtool() -> str:
+    """The promtool of Debian's package prometheus; without it the benchmark ends."""
+    promtool = shutil.which("promtool")
+    if promtool is None:
+        sys.exit("promtool is missing: install Debian's package prometheus")
+    return promtool
+
+
+def seconds(words, path) -> float:
+    with open(path, "rb") as source:
+        start = time.perf_counter()
+        subprocess.run(words, stdin=source, stdout=subprocess.DEVNULL, stderr=subprocess.DEVNULL)
+        return time.perf_counter() - start
+
+
+def peak_bytes(words, path) -> int:
+    """The largest resident size of one run, read in a child of its own."""
+    code = (
+        "import resource, subprocess, sys\n"
+        "subprocess.run(sys.argv[2:], stdin=open(sys.argv[1], 'rb'), stdout=subprocess.DEVNULL)\n"
+        "print(resource.getrusage(resource.RUSAGE_CHILDREN).ru_maxrss)\n"
+    )
+    out = subprocess.run([sys.executable, "-c", code, path, *words], capture_output=True, text=True, check=True)
+    return int(out.stdout) * 1024
+
+
+def built_program() -> str:
+    """The program, built where it isn't yet."""
+    program = os.path.join(TOP, "crates", "bridge", "out", "bridge")
+    if not os.path.exists(program):
+        subprocess.run([os.path.join(TOP, "bridge"), "--version"], check=True, stdout=subprocess.DEVNULL)
+    return program
