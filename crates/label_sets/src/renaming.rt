@@ -45,10 +45,10 @@ fn free_name(alloc: Global, labels: &[Label], name: &str) -> Result<Name, AllocE
     for _ in 0..labels.len() {
         next.insert_str(0, EXPORTED)?;
         if find(labels, next.as_bytes()).is_none() {
-            return Ok(Name::from_string(next));
+            return Name::from_string(next);
         }
     }
-    Ok(Name::from_string(next))
+    Name::from_string(next)
 }
 
 /// Gives the label of one name another one, where there is one to give.
