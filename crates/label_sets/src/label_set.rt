@@ -2,7 +2,7 @@ ghost use Rattle.std.specs.Prelude.{◌≡◌, ◌==◌, ◌≤◌, ◌<◌, Non
 ghost use Rattle.std.specs.Option.{option_copied};
 
 use crate::label::Label;
-use crate::renaming::{exported, rename};
+use crate::renaming::{exported, has_target_name, rename};
 use crate::shared::Shared;
 use crate::sorting::sort_by_name;
 use crate::text::Text;
@@ -131,11 +131,11 @@ impl LabelSet {
     pub fn renamed(self, alloc: Global) -> Result<LabelSet, AllocError>
         ensures { IfOk result (λ set. set ≡ renamed self) }
     {
-        let job = exported(alloc, self.labels.as_slice(), "job")?;
-        let instance = exported(alloc, self.labels.as_slice(), "instance")?;
-        if job.is_none() && instance.is_none() {
+        if !has_target_name(self.labels.as_slice()) {
             return Ok(self);
         }
+        let job = exported(alloc, self.labels.as_slice(), "job")?;
+        let instance = exported(alloc, self.labels.as_slice(), "instance")?;
         let mut labels = copies(alloc, self.labels.as_slice())?;
         rename(&mut labels, b"job", job);
         rename(&mut labels, b"instance", instance);

@@ -6,10 +6,10 @@ mod bytes;
 mod kind;
 mod label;
 mod label_set;
-pub mod laws;
 mod list;
 mod renaming;
 mod series_key;
+pub mod set_laws;
 mod shared;
 mod sorting;
 #[cfg(test)]

@@ -1,8 +1,8 @@
-use Rattle.std.proofs.Common.{rules, ◌≡◌, ap, ◌∙◌, sym, subst}
+use Rattle.std.proofs.Common.{rules, ◌≡◌, ◌∙◌, sym, subst}
 use Rattle.std.specs.List.{filter}
 use Rattle.std.proofs.lemmas.List.Elements.{filter_from_retain}
 use Rattle.label_sets.specs.Sets.{IsLabelSet}
-use Rattle.label_sets.specs.Labels.{has_value, label_set}
+use Rattle.label_sets.specs.Labels.{has_value}
 use Rattle.label_sets.proofs.Places.{built, built_at}
 use Rattle.label_sets.proofs.Repeats.{repeated_at-within}
 use Rattle.label_sets.proofs.label_set.LabelSet.build.Goals as goal
