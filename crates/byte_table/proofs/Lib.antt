@@ -1,2 +1,3 @@
-pub mod Steps
-pub mod Chained
+pub mod Entries
+pub mod Linked
+pub mod Found

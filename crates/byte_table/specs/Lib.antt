@@ -1,3 +1,4 @@
 pub mod Hashes
+pub mod Entries
 pub mod Links
-pub mod Tables
+pub mod Finding

@@ -1,28 +1,38 @@
-ghost use Rattle.std.specs.Prelude.{◌≡◌, ◌==◌, ◌++◌, [], ◌∷◌, length, IfOk, OnErr, MatchOption, slice_get, Some, false};
+ghost use Rattle.std.specs.Prelude.{◌≡◌, ◌==◌, ◌++◌, [], ◌∷◌, length, IfOk, OnOk, OnErr, MatchOption, slice_get, Some, false};
 ghost use Rattle.std.specs.List.{list_any};
 ghost use Rattle.std.specs.Option.{option_copied};
 ghost use Rattle.std.specs.Str.{bytes_eq};
+ghost use Rattle.byte_table.specs.Hashes.{hash_of};
 
-use crate::table::Table;
+use crate::chains::{Chains, Walk};
+use crate::hashes::hash_of;
+use crate::ordered::Ordered;
+use crate::strings::Strings;
 use std::alloc::{AllocError, Global};
 use std::marker::Model;
+
+/// The most strings that a new one passes before the table goes over to ordered maps.
+const MOST_STEPS: usize = 16;
 
 /// Byte strings in the order in which they were added, each once. It has room for 4 GiB of bytes and as many
 /// strings; what is beyond is want of memory.
 #[derive(Drop)]
 pub struct ByteTable {
-    table: Table,
+    strings: Strings,
+    chains: Chains,
+    ordered: Option<Box<Ordered>>,
 }
 
 impl Model for ByteTable {
     ghost use Rattle.std.specs.Prelude as spec;
-    ghost use Rattle.byte_table.specs.Tables.{strings_in, IsTable};
+    ghost use Rattle.byte_table.specs.Finding.{Finds};
+    ghost use Rattle.byte_table.specs.Links.{IsChained};
 
     ghost Value = { spec.List (spec.List spec.ℕ) };
 
-    ghost view = { λ t. strings_in t.table };
+    ghost view = { λ t. t.strings };
 
-    ghost invariant = { λ t. IsTable t.table };
+    ghost invariant = { λ t. spec.MatchOption t.ordered (IsChained t.strings t.chains.heads.items t.chains.nexts.items) (λ o. Finds o.value t.strings) };
 }
 
 impl ByteTable {
@@ -31,7 +41,9 @@ impl ByteTable {
         ensures { result ≡ [] }
     {
         ByteTable {
-            table: Table::new(alloc),
+            strings: Strings::new(alloc),
+            chains: Chains::new(alloc),
+            ordered: None,
         }
     }
 
@@ -39,28 +51,65 @@ impl ByteTable {
     pub fn len(&self) -> usize
         ensures { result ≡ length self.now }
     {
-        self.table.entries.len()
+        self.strings.len()
     }
 
     /// Whether there is no string.
     pub fn is_empty(&self) -> bool
         ensures { result ≡ (length self.now == 0) }
     {
-        self.table.entries.is_empty()
+        self.strings.len() == 0
     }
 
     /// The string of this number, counted from 0 in the order in which they were added.
     pub fn get(&self, at: usize) -> Option<&[u8]>
         ensures { option_copied result ≡ slice_get self.now at }
     {
-        self.table.get(at)
+        self.strings.get(at)
+    }
+
+    /// Where a string that has this hash stands, and how many others were passed in its chain.
+    fn walk(&self, hash: u32, string: &[u8]) -> Walk
+        requires { hash ≡ hash_of string.now }
+        ensures { MatchOption result.found (list_any (bytes_eq string.now) self.now ≡ false) (λ at. slice_get self.now at ≡ Some string.now) }
+    {
+        match &self.ordered {
+            None => self.chains.walk(&self.strings, hash, string),
+            Some(ordered) => Walk {
+                found: ordered.find(&self.strings, string),
+                passed: 0,
+            },
+        }
     }
 
     /// The number of a string, where it was added.
     pub fn find(&self, string: &[u8]) -> Option<usize>
         ensures { MatchOption result (list_any (bytes_eq string.now) self.now ≡ false) (λ at. slice_get self.now at ≡ Some string.now) }
     {
-        self.table.find(string)
+        self.walk(hash_of(string), string).found
+    }
+
+    /// Goes over to ordered maps.
+    fn go_over(&mut self) -> Result<(), AllocError>
+        ensures { self.new ≡ self.old }
+    {
+        let alloc = self.strings.allocator();
+        let ordered = Ordered::of(&self.strings)?;
+        self.ordered = Some(Box::new(alloc, ordered)?);
+        self.chains = Chains::new(alloc);
+        Ok(())
+    }
+
+    /// Adds a string that has this hash behind all others.
+    fn push(&mut self, hash: u32, string: &[u8]) -> Result<(), AllocError>
+        requires { hash ≡ hash_of string.now }
+        ensures added { OnOk result (self.new ≡ self.old ++ string.now ∷ []) }
+        ensures same { OnErr result (self.new ≡ self.old) }
+    {
+        match &mut self.ordered {
+            None => self.chains.push(&mut self.strings, hash, string),
+            Some(ordered) => ordered.push(&mut self.strings, hash, string),
+        }
     }
 
     /// Adds a string behind all others, and answers nothing; or answers its number, where it was added before.
@@ -69,6 +118,15 @@ impl ByteTable {
         ensures added { IfOk result (λ found. MatchOption found (self.new ≡ self.old ++ string.now ∷ []) (λ at. self.new ≡ self.old)) }
         ensures same { OnErr result (self.new ≡ self.old) }
     {
-        self.table.insert(string)
+        let hash = hash_of(string);
+        let walk = self.walk(hash, string);
+        if let Some(at) = walk.found {
+            return Ok(Some(at));
+        }
+        if walk.passed > MOST_STEPS {
+            self.go_over()?;
+        }
+        self.push(hash, string)?;
+        Ok(None)
     }
 }
