@@ -4,6 +4,9 @@ ghost use Rattle.std.specs.Option.{option_copied};
 ghost use Rattle.std.specs.Str.{bytes_eq};
 ghost use Rattle.byte_table.specs.Hashes.{hash_of};
 
+#[cfg(test)]
+mod tests;
+
 use crate::chains::{Chains, Walk};
 use crate::hashes::hash_of;
 use crate::ordered::Ordered;

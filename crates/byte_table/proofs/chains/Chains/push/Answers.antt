@@ -1,4 +1,4 @@
-use Rattle.std.proofs.Common.{rules, sym, subst, ◌≡◌, ◌+◌, ◌<◌, length, List, ℕ}
+use Rattle.std.proofs.Common.{rules, sym, subst, ◌≡◌, ◌<◌, length, List, ℕ}
 use Rattle.std.specs.Vec.{with_items}
 use Rattle.std.proofs.lemmas.List.{with_items_is}
 use Rattle.byte_table.specs.Links.{IsChained}

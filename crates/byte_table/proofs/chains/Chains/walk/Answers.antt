@@ -1,4 +1,4 @@
-use Rattle.std.proofs.Common.{arith, rules, sym, ap, subst, ◌∙◌, ◌≡◌, ◌==◌, ◌-◌, ◌<◌, ◌≤◌, ◌%◌, true, false, length, List, ℕ}
+use Rattle.std.proofs.Common.{arith, sym, ap, subst, ◌∙◌, ◌≡◌, ◌==◌, ◌-◌, ◌<◌, ◌≤◌, ◌%◌, true, false, length, List, ℕ}
 use Rattle.std.specs.Prelude.{slice_index}
 use Rattle.std.proofs.lemmas.Bool.Decides.{nat_tests}
 use Rattle.byte_table.proofs.Linked.{way_begins, way_goes_on, way_ends, no_bucket, one_is, IsOnWay}

@@ -1,5 +1,5 @@
-use Rattle.std.proofs.Common.{ap, sym, subst, ◌∙◌, ◌≡◌, cond, Bool, true, false, refl, List, ℕ, Some, None, Vec}
-use Rattle.std.specs.Prelude.{IsSome, is_some}
+use Rattle.std.proofs.Common.{ap, sym, subst, ◌∙◌, ◌≡◌, cond, true, false, refl, List, ℕ, Some, Vec}
+use Rattle.std.specs.Prelude.{is_some}
 use Rattle.std.specs.Str.{bytes_eq}
 use Rattle.std.specs.Ordering.{nat_cmp, is_eq}
 use Rattle.std.specs.Cmp.Lexicographic.{slice_cmp}
@@ -8,7 +8,7 @@ use Rattle.std.specs.BTreeMap.{is_at}
 use Rattle.std.specs.Global.{Global}
 use Rattle.byte_table.specs.declared.ordered.Ordered.{Ordered}
 use Rattle.byte_table.specs.Hashes.{second_hash}
-use Rattle.byte_table.specs.Finding.{first_at, other_at, Finds}
+use Rattle.byte_table.specs.Finding.{first_at, other_at}
 use Rattle.byte_table.proofs.Entries.{on_err}
 use Rattle.byte_table.proofs.Found.{found_first, found_other, found_same, other_after, none_there}
 use Rattle.byte_table.proofs.ordered.Ordered.add.Goals as goal

@@ -1,7 +1,7 @@
-use Rattle.std.proofs.Common.{ap, sym, ◌∙◌, ◌≡◌, true, false, get_or, [], Bool, List, ℕ, Some, None}
+use Rattle.std.proofs.Common.{ap, sym, ◌∙◌, ◌≡◌, true, false, get_or, [], Some, None}
 use Rattle.std.specs.Str.{bytes_eq}
 use Rattle.byte_table.specs.Hashes.{second_hash}
-use Rattle.byte_table.specs.Finding.{first_at, other_at}
+use Rattle.byte_table.specs.Finding.{first_at}
 use Rattle.byte_table.proofs.Linked.{one_is}
 use Rattle.byte_table.proofs.Found.{no_first, no_other, first_within, other_there}
 use Rattle.byte_table.proofs.ordered.Ordered.find.Goals as goal

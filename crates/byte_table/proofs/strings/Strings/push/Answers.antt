@@ -1,4 +1,4 @@
-use Rattle.std.proofs.Common.{◌≡◌, ◌+◌, ◌<◌, ◌^◌, ◌++◌, ◌∷◌, [], ap, ◌∙◌, rules, arith, length, List, ℕ}
+use Rattle.std.proofs.Common.{◌≡◌, ◌+◌, ◌<◌, ◌^◌, ◌++◌, ◌∷◌, [], ap, ◌∙◌, rules, length, List, ℕ}
 use Rattle.byte_table.specs.declared.strings.Entry.{Entry}
 use Rattle.byte_table.proofs.Entries.{IsBehind, on_err, bytes_alone, both_pushed, still_entries}
 use Rattle.byte_table.proofs.strings.Strings.push.Goals as goal

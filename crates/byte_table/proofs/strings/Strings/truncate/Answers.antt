@@ -1,6 +1,5 @@
-use Rattle.std.proofs.Common.{sym, ap, ◌∙◌, take, map, List, ℕ}
+use Rattle.std.proofs.Common.{sym, ap, ◌∙◌, take, map}
 use Rattle.std.proofs.lemmas.List.{take-map}
-use Rattle.byte_table.specs.declared.strings.Entry.{Entry}
 use Rattle.byte_table.specs.Entries.{bytes_of}
 use Rattle.byte_table.proofs.strings.Strings.truncate.Goals as goal
 
