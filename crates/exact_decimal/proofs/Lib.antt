@@ -1,5 +1,6 @@
 pub mod Powers
 pub mod Kept
+pub mod Laws
 pub mod OneForm
 pub mod Values
 pub mod Runs

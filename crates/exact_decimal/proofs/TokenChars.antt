@@ -13,7 +13,7 @@ use Rattle.exact_decimal.proofs.Parts.{before-cons, after-cons}
 is_small : ℕ → Bool
 is_small c = leb 97 c && leb c 122
 
-all_mono : (p q : ℕ → Bool) → ((c : ℕ) → p c ≡ true → q c ≡ true) → (cs : List ℕ) → list_all p cs ≡ true → list_all q cs ≡ true
+pub all_mono : (p q : ℕ → Bool) → ((c : ℕ) → p c ≡ true → q c ≡ true) → (cs : List ℕ) → list_all p cs ≡ true → list_all q cs ≡ true
 all_mono p q f [] h = refl
 all_mono p q f (c ∷ cs) h = let both = and_parts (p c) (list_all p cs) h in and_from (q c) (list_all q cs) (f c both.0) (all_mono p q f cs both.1)
 
@@ -38,10 +38,10 @@ nothing_behind p (c ∷ cs) h =
 
 -- ---- characters
 
-from_digit : (c : ℕ) → is_ascii_digit c ≡ true → is_token_char c ≡ true
+pub from_digit : (c : ℕ) → is_ascii_digit c ≡ true → is_token_char c ≡ true
 from_digit c e = or_left (is_ascii_digit c || is_sign c || is_point c) (is_ascii_alphabetic c) (or_left (is_ascii_digit c || is_sign c) (is_point c) (or_left (is_ascii_digit c) (is_sign c) e))
 
-from_sign : (c : ℕ) → is_sign c ≡ true → is_token_char c ≡ true
+pub from_sign : (c : ℕ) → is_sign c ≡ true → is_token_char c ≡ true
 from_sign c e = or_left (is_ascii_digit c || is_sign c || is_point c) (is_ascii_alphabetic c) (or_left (is_ascii_digit c || is_sign c) (is_point c) (or_right (is_ascii_digit c) (is_sign c) e))
 
 from_point : (c : ℕ) → is_point c ≡ true → is_token_char c ≡ true
@@ -93,7 +93,7 @@ sign_passes (c ∷ cs) h = go (is_sign c) refl h
     go true e k = and_from (is_token_char c) (list_all is_token_char cs) (from_sign c e) k
     go false e k = k
 
-real_passes : (token : List ℕ) → is_real token ≡ true → list_all is_token_char token ≡ true
+pub real_passes : (token : List ℕ) → is_real token ≡ true → list_all is_token_char token ≡ true
 unfolding is_real whole_part fraction_part mantissa has_exponent exponent_part
 real_passes token h =
     let both = and_parts (is_digits (digits_part token)) (not (has_exponent token) || is_digits (unsigned (exponent_part token))) h in

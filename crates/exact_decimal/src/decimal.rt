@@ -4,27 +4,37 @@ ghost use Rattle.exact_decimal.specs.Tokens.{zero_decimal};
 
 use std::marker::Model;
 
+/// What the second quarter of 128 bits counts.
+const HALF: u128 = 1 << 32;
+
 /// A decimal in its one form: `digits` is not divisible by 10 unless it is 0, and zero has no sign
 /// and power 0. There are at most 38 digits, and the leading one stands at a power of ten from -400
 /// to 308.
 #[derive(Clone, Copy, Debug, PartialEq, Eq, Hash)]
 pub struct Decimal {
-    digits: u128,
+    first: u32,
+    second: u32,
+    third: u32,
+    fourth: u32,
     up: u16,
     down: u16,
     negative: bool,
 }
+
+const _: () = prove!(std::mem::size_of::<Decimal>() <= 28);
 
 impl Model for Decimal {
     ghost use Rattle.exact_decimal.specs.Decimals.{DecimalValue, IsNormal};
 
     ghost Value = { DecimalValue };
 
-    ghost view = { λ d. record { negative = d.negative; digits = d.digits; up = d.up; down = d.down } };
+    ghost use Rattle.std.specs.Prelude.{◌+◌, ◌*◌, ◌^◌, ◌%◌, ◌/◌, ◌<◌};
 
-    ghost inverse = { λ v. record { digits = v.digits; up = v.up; down = v.down; negative = v.negative } };
+    ghost view = { λ d. record { negative = d.negative; digits = ((d.fourth * 2 ^ 32 + d.third) * 2 ^ 32 + d.second) * 2 ^ 32 + d.first; up = d.up; down = d.down } };
 
-    ghost invariant = { λ d. IsNormal (record { negative = d.negative; digits = d.digits; up = d.up; down = d.down }) };
+    ghost inverse = { λ v. record { first = v.digits % 2 ^ 32; second = v.digits / 2 ^ 32 % 2 ^ 32; third = v.digits / 2 ^ 32 / 2 ^ 32 % 2 ^ 32; fourth = v.digits / 2 ^ 32 / 2 ^ 32 / 2 ^ 32; up = v.up; down = v.down; negative = v.negative } };
+
+    ghost invariant = { λ d. (d.first < 2 ^ 32) × (d.second < 2 ^ 32) × (d.third < 2 ^ 32) × IsNormal (record { negative = d.negative; digits = ((d.fourth * 2 ^ 32 + d.third) * 2 ^ 32 + d.second) * 2 ^ 32 + d.first; up = d.up; down = d.down }) };
 }
 
 impl Decimal {
@@ -41,7 +51,10 @@ impl Decimal {
         ensures { result ≡ record { negative = negative; digits = digits; up = up; down = down } }
     {
         Decimal {
-            digits,
+            first: (digits % HALF) as u32,
+            second: (digits / HALF % HALF) as u32,
+            third: (digits / HALF / HALF % HALF) as u32,
+            fourth: (digits / HALF / HALF / HALF) as u32,
             up,
             down,
             negative,
@@ -60,7 +73,9 @@ impl Decimal {
     pub fn digits(&self) -> u128
         ensures { result ≡ self.now.digits }
     {
-        self.digits
+        ((u128::from(self.fourth) * HALF + u128::from(self.third)) * HALF + u128::from(self.second))
+            * HALF
+            + u128::from(self.first)
     }
 
     /// The power of ten.

@@ -5,15 +5,16 @@ use Rattle.std.specs.declared.cmp.Ordering.{Ordering}
 use Rattle.std.specs.declared.cmp.Ordering.TheVariants.{Less, Equal, Greater}
 use Rattle.std.specs.List.{AllByRecursion}
 use Rattle.std.specs.List.Sorted.{IsStrictlySortedBy}
+use Rattle.std.proofs.lemmas.Bool.{and_parts}
 use Rattle.exact_decimal.specs.declared.number.Number.{Number}
 use Rattle.exact_decimal.specs.declared.number.Number.TheVariants.{Finite, Up, Down, NotANumber}
 use Rattle.exact_decimal.specs.Decimals.{DecimalValue, decimal_cmp}
 use Rattle.exact_decimal.specs.Order.{less, is_finite}
 use Rattle.page_model.specs.declared.page.Bucket.{Bucket}
-use Rattle.histogram_layout.specs.Layouts.{is_up, may_follow, are_cumulative, finite_part, finite_bound, differences, cumulative_counts, layout_of}
+use Rattle.page_model.specs.Rules.{is_up}
+use Rattle.histogram_layout.specs.Layouts.{may_follow, are_cumulative, finite_part, finite_bound, differences, cumulative_counts, layout_of}
 use Rattle.histogram_layout.specs.Laws.{OneCountMore, BoundsIncrease}
-use Rattle.exact_decimal.proofs.OrderLaws.{decimal_cmp_total}
-use Rattle.histogram_layout.proofs.Sums.{both}
+use Rattle.exact_decimal.proofs.Laws.{decimal_cmp_total}
 
 length-differences : (before : ℕ) (buckets : List Bucket) → length (differences before (cumulative_counts buckets)) ≡ length buckets
 length-differences before [] = refl
@@ -45,7 +46,7 @@ record HasNext (b c : Bucket) : Type 0 where
 has_next : (b c : Bucket) → may_follow b c ≡ true → HasNext b c
 unfolding may_follow
 has_next b c h =
-    let parts = both (is_finite b.le) _ (both (is_finite b.le && less b.le c.le) _ h).0 in
+    let parts = and_parts (is_finite b.le) _ (and_parts (is_finite b.le && less b.le c.le) _ h).0 in
     let found = part_of b.le parts.0 in
     record { bound = found.0; is = found.1; part = found.2; less = subst (λ (n : Number). less n c.le ≡ true) found.1 parts.1 }
 
@@ -54,7 +55,7 @@ one_more : (b : Bucket) (bs : List Bucket) → are_cumulative (b ∷ bs) ≡ tru
 unfolding are_cumulative
 one_more b [] h = rw (no_part b.le h) refl
 one_more b (c ∷ bs) h =
-    let parts = both (may_follow b c) _ h in
+    let parts = and_parts (may_follow b c) _ h in
     let next = has_next b c parts.0 in
     let rest = one_more c bs parts.1 in
     rw next.part (omega arith)
@@ -87,7 +88,7 @@ below : (d : DecimalValue) (b : Bucket) (bs : List Bucket) → are_cumulative (b
 unfolding are_cumulative
 below d b [] h low = rw (no_part b.le h) tt
 below d b (c ∷ bs) h low =
-    let parts = both (may_follow b c) _ h in
+    let parts = and_parts (may_follow b c) _ h in
     let next = has_next b c parts.0 in
     let first : decimal_cmp d next.bound ≡ Less = decimal_less d next.bound (subst (λ (n : Number). less (Finite d) n ≡ true) next.is low) in
     rw next.part (first, below d c bs parts.1 (less_on d next.bound c.le first next.less))
@@ -96,7 +97,7 @@ increasing : (b : Bucket) (bs : List Bucket) → are_cumulative (b ∷ bs) ≡ t
 unfolding are_cumulative IsStrictlySortedBy
 increasing b [] h = rw (no_part b.le h) tt
 increasing b (c ∷ bs) h =
-    let parts = both (may_follow b c) _ h in
+    let parts = and_parts (may_follow b c) _ h in
     let next = has_next b c parts.0 in
     rw next.part (below next.bound c bs parts.1 next.less, increasing c bs parts.1)
 

@@ -1,18 +1,12 @@
 -- Counts that don't fall, their differences, and the sums of these.
-use Rattle.std.proofs.Common.{◌≡◌, ℕ, ◌+◌, ◌-◌, ◌≤◌, Bool, true, false, ◌&&◌, List, [], ◌∷◌, refl, ap, arith, rules}
+use Rattle.std.proofs.Common.{◌≡◌, ℕ, ◌+◌, ◌-◌, ◌≤◌, true, ◌&&◌, List, [], ◌∷◌, refl, ap, arith, rules}
 use Rattle.std.specs.List.{sum}
 use Rattle.std.proofs.lemmas.List.Sums.{sum_by-cons}
-use Rattle.std.proofs.lemmas.Bool.{leb-true}
+use Rattle.std.proofs.lemmas.Bool.{and_parts, leb-true}
 use Rattle.exact_decimal.specs.Order.{less, is_finite}
 use Rattle.page_model.specs.declared.page.Bucket.{Bucket}
 use Rattle.histogram_layout.specs.Layouts.{may_follow, are_cumulative, differences, last_from, cumulative_counts, layout_of}
 use Rattle.histogram_layout.specs.Laws.{running_sums, CountsSumToCount, RunningSumsAreCumulative}
-
--- both of two tests pass
-pub both : (a b : Bool) → (a && b) ≡ true → (a ≡ true) × (b ≡ true)
-both true true h = (refl, refl)
-both true false h = absurd cc
-both false b h = absurd cc
 
 -- no number is below the one before it
 abbrev pub RisesFrom : ℕ → List ℕ → Type 0
@@ -22,13 +16,13 @@ RisesFrom before (n ∷ ns) = (before ≤ n) × RisesFrom n ns
 -- the count of a bucket that may follow another is no smaller
 not_below : (b c : Bucket) → may_follow b c ≡ true → b.count ≤ c.count
 unfolding may_follow
-not_below b c h = leb-true _ _ (both (is_finite b.le && less b.le c.le) _ h).1
+not_below b c h = leb-true _ _ (and_parts (is_finite b.le && less b.le c.le) _ h).1
 
 -- the counts behind the first of cumulative buckets don't fall
 rises_behind : (b : Bucket) (bs : List Bucket) → are_cumulative (b ∷ bs) ≡ true → RisesFrom b.count (cumulative_counts bs)
 unfolding are_cumulative
 rises_behind b [] h = tt
-rises_behind b (c ∷ bs) h = let parts = both (may_follow b c) _ h in (not_below b c parts.0, rises_behind c bs parts.1)
+rises_behind b (c ∷ bs) h = let parts = and_parts (may_follow b c) _ h in (not_below b c parts.0, rises_behind c bs parts.1)
 
 -- the counts of cumulative buckets don't fall
 pub rises : (buckets : List Bucket) → are_cumulative buckets ≡ true → RisesFrom 0 (cumulative_counts buckets)

@@ -1,20 +1,16 @@
 -- Explicit bounds and the counts between them, from cumulative buckets.
 -- OpenTelemetry metrics data model, "Histogram" (explicit bounds, bucket counts, count); OpenMetrics 1.0, "Histogram" (cumulative
 -- buckets, the last of them `+Inf`); "Prometheus and OpenMetrics Compatibility", "Histograms".
-use Rattle.std.specs.Prelude.{ℕ, ◌-◌, Bool, true, false, ◌&&◌, List, [], ◌∷◌, map, filter_map, Option, Some, None, nat_le}
+use Rattle.std.specs.Prelude.{ℕ, ◌-◌, Bool, false, ◌&&◌, List, [], ◌∷◌, map, filter_map, Option, Some, None, nat_le}
 use Rattle.exact_decimal.specs.Decimals.{DecimalValue}
 use Rattle.exact_decimal.specs.declared.number.Number.{Number}
-use Rattle.exact_decimal.specs.declared.number.Number.TheVariants.{Finite, Up}
+use Rattle.exact_decimal.specs.declared.number.Number.TheVariants.{Finite}
 use Rattle.exact_decimal.specs.Order.{less, is_finite}
 use Rattle.page_model.specs.declared.page.Bucket.{Bucket}
+use Rattle.page_model.specs.Rules.{is_up}
 use Rattle.histogram_layout.specs.declared.intervals.Layout.{Layout}
 
 -- ---- cumulative buckets
-
--- plus infinity
-abbrev pub is_up : Number → Bool
-is_up Up = true
-is_up _ = false
 
 -- the first bucket has a finite bound, and the second a greater one and no smaller count
 unfoldable pub may_follow : Bucket → Bucket → Bool

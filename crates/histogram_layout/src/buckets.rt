@@ -1,6 +1,7 @@
 //! From cumulative buckets to a layout.
 
 ghost use Rattle.std.specs.Prelude.{◌≡◌, true, option_map, IfOk};
+ghost use Rattle.page_model.specs.Rules.{is_up};
 ghost use Rattle.histogram_layout.specs.Layouts as spec;
 
 use crate::intervals::Layout;
@@ -11,7 +12,7 @@ use std::alloc::Global;
 
 /// Whether the number is plus infinity.
 fn is_up(number: &Number) -> bool
-    ensures { result ≡ spec.is_up number.now }
+    ensures { result ≡ is_up number.now }
 {
     matches!(number, Number::Up)
 }
@@ -74,9 +75,11 @@ pub fn layout(alloc: Global, buckets: &[Bucket]) -> Result<Layout, Memory>
         counts.push(bucket.count - before)?;
         before = bucket.count;
     }
+    let bounds = List::from_vec(bounds)?;
+    let counts = List::from_vec(counts)?;
     Ok(Layout {
-        bounds: List::from_vec(bounds),
-        counts: List::from_vec(counts),
+        bounds,
+        counts,
         count: before,
     })
 }

@@ -1,3 +1,4 @@
+//! What a layout holds.
 ghost use Rattle.std.specs.Prelude.{◌≡◌, IfOk};
 
 use exact_decimal::Decimal;
@@ -17,15 +18,15 @@ pub struct Layout {
 }
 
 impl Layout {
-    /// An equal layout in memory of its own.
+    /// An equal layout, whose bounds and counts have one owner more.
     pub fn copy(&self) -> Result<Layout, Memory>
         ensures { IfOk result (λ layout. layout ≡ self.now) }
     {
-        let counts = self.counts.copy()?.into_vec();
-        let bounds = self.bounds.as_slice().to_vec(*counts.allocator())?;
+        let bounds = self.bounds.copy()?;
+        let counts = self.counts.copy()?;
         Ok(Layout {
-            bounds: List::from_vec(bounds),
-            counts: List::from_vec(counts),
+            bounds,
+            counts,
             count: self.count,
         })
     }

@@ -1,4 +1,5 @@
 mod Cases
+pub mod Laws
 pub mod NewNames
 pub mod Order
 pub mod Places

@@ -9,17 +9,17 @@ use Rattle.std.proofs.lemmas.List.Elements.{Contains-get_or, All-map, All-weaker
 use Rattle.std.proofs.lemmas.List.Sorted.{All-permutation}
 use Rattle.std.proofs.lemmas.Map.Keys.{IsDistinct-from_sorted, IsDistinct-IsPermutation}
 use Rattle.std.proofs.Math.Seq.{get_or-append_seam}
-use Rattle.std.proofs.lemmas.Bool.{cases_lt}
+use Rattle.std.proofs.lemmas.Bool.{cases_lt, or_from, or_parts}
 use Rattle.std.proofs.lemmas.Bool.Decides.{nat_tests}
 use Rattle.label_sets.specs.declared.label.Label.{Label}
 use Rattle.label_sets.specs.Sets.{by_name, IsLabelSet}
-use Rattle.label_sets.specs.Labels.{has_name, exported_name, exported_times, IsExportedName, label_renamed, labels_sorted, renamed}
+use Rattle.label_sets.specs.Labels.{has_name, exported_name, exported_times, IsExportedName, has_target_name, is_target_name, label_renamed, labels_sorted, renamed}
 use Rattle.label_sets.specs.Building.{same_name, StandsAt, name_changed}
 use Rattle.label_sets.specs.Keys.{label_cmp}
 use Rattle.label_sets.proofs.Order.{every, same_name_turned, sorted_itself, sorted_is, sorted_ascending, sorted_moves, ascending_from_sort}
 use Rattle.label_sets.specs.Lists.{when_true}
 use Rattle.label_sets.proofs.Places.{any_at}
-use Rattle.label_sets.proofs.Repeats.{same_bytes, neither, both_false}
+use Rattle.label_sets.proofs.Repeats.{same_bytes}
 
 -- how many labels have a name of more than so many bytes
 longer : ℕ → List Label → ℕ
@@ -141,7 +141,7 @@ new_name_begins more ls name = go (has_name ls (codes "exported_" ++ name))
 pub unchanged : (from to : List ℕ) (ls : List Label) → has_name ls from ≡ false → name_changed from to ls ≡ ls
 unchanged from to [] h = refl
 unchanged from to (l ∷ ls) h =
-    let both = neither (bytes_eq l.name from) (has_name ls from) h in
+    let both = or_parts (bytes_eq l.name from) (has_name ls from) h in
     rw both.0 (ap (λ (ms : List Label). l ∷ ms) (unchanged from to ls both.1))
 
 -- the labels behind one of this name have others
@@ -150,7 +150,7 @@ others l from [] e h = refl
 others l from (m ∷ ms) e h =
     let is : l.name ≡ from = (bytes_decides l.name from).0 e in
     let apart : bytes_eq m.name l.name ≡ false = sym (same_bytes m l) ∙ (same_name_turned m l ∙ h.0) in
-    both_false (bytes_eq m.name from) (has_name ms from) (ap (λ (n : List ℕ). bytes_eq m.name n) (sym is) ∙ apart) (others l from ms e h.1)
+    or_from (bytes_eq m.name from) (has_name ms from) (ap (λ (n : List ℕ). bytes_eq m.name n) (sym is) ∙ apart) (others l from ms e h.1)
 
 not_the_one : (l m : Label) (from : List ℕ) → same_name l m ≡ false → bytes_eq m.name from ≡ true → bytes_eq l.name from ≡ false
 not_the_one l m from apart e = ap (λ (n : List ℕ). bytes_eq l.name n) (sym ((bytes_decides m.name from).0 e)) ∙ (sym (same_bytes l m) ∙ apart)
@@ -168,8 +168,8 @@ changed_at from to (l ∷ ls) (suc at) d h lt e =
 changed_lacks : (from to name : List ℕ) (ls : List Label) → has_name ls name ≡ false → bytes_eq to name ≡ false → has_name (name_changed from to ls) name ≡ false
 changed_lacks from to name [] h e = refl
 changed_lacks from to name (l ∷ ls) h e =
-    let both = neither (bytes_eq l.name name) (has_name ls name) h in
-    both_false _ (has_name (name_changed from to ls) name) (pick (bytes_eq l.name from) both.0) (changed_lacks from to name ls both.1 e)
+    let both = or_parts (bytes_eq l.name name) (has_name ls name) h in
+    or_from _ (has_name (name_changed from to ls) name) (pick (bytes_eq l.name from) both.0) (changed_lacks from to name ls both.1 e)
   where
     pick : (b : Bool) → bytes_eq l.name name ≡ false → bytes_eq (cond b (record { name = to; value = l.value }) l).name name ≡ false
     pick true k = e
@@ -194,14 +194,14 @@ head_apart : (from to : List ℕ) (l : Label) (ls : List Label) → AllByRecursi
     → AllByRecursion (λ y. same_name (cond (bytes_eq l.name from) (record { name = to; value = l.value }) l) y ≡ false) (name_changed from to ls)
 head_apart from to l [] h e f = tt
 head_apart from to l (y ∷ ys) h e f =
-    let both = neither (bytes_eq y.name to) (has_name ys to) f in
+    let both = or_parts (bytes_eq y.name to) (has_name ys to) f in
     (apart_changed from to l y h.0 e both.0 (bytes_eq l.name from) (bytes_eq y.name from) refl refl, head_apart from to l ys h.1 e both.1)
 
 changed_distinct : (from to : List ℕ) (ls : List Label) → IsDistinct same_name ls → has_name ls to ≡ false → IsDistinct same_name (name_changed from to ls)
 unfolding IsDistinct
 changed_distinct from to [] h e = tt
 changed_distinct from to (l ∷ ls) h e =
-    let both = neither (bytes_eq l.name to) (has_name ls to) e in
+    let both = or_parts (bytes_eq l.name to) (has_name ls to) e in
     (head_apart from to l ls h.0 both.0 both.1, changed_distinct from to ls h.1 both.1)
 
 -- ---- both names
@@ -302,17 +302,17 @@ renamed_sorted ls two new h c p s =
       record { ascending = ascending; valued = All-permutation (λ (l : Label). l.value ≢ []) two new p (subst (All (λ (l : Label). l.value ≢ [])) (sym c.1) valued) },
     )
 
-untrue : (b : Bool) (name : List ℕ) → when_true b name ≡ None → b ≡ false
-untrue true name e = absurd cc
-untrue false name e = refl
+-- where no label has such a name, none gets another one
+all_stay : (ls all : List Label) → has_target_name ls ≡ false → map (label_renamed all) ls ≡ ls
+all_stay [] all h = refl
+all_stay (l ∷ ls) all h = λ i. one_stays (is_target_name l.name) (or_parts (is_target_name l.name) (has_target_name ls) h).0 i ∷ all_stay ls all (or_parts (is_target_name l.name) (has_target_name ls) h).1 i
+  where
+    one_stays : (b : Bool) → b ≡ false → cond b (record { name = exported_name (length all) all l.name; value = l.value }) l ≡ l
+    one_stays true e = absurd (let f : true ≡ false = e in cc)
+    one_stays false e = refl
 
-pub renamed_same : (ls : List Label) (job instance : Option (List ℕ)) → IsLabelSet ls → job ≡ when_true (has_name ls (codes "job")) (new_job ls) → instance ≡ when_true (has_name ls (codes "instance")) (new_instance ls)
-    → job ≡ None → instance ≡ None → ls ≡ renamed ls
-renamed_same ls job instance h is_job is_instance no_job no_instance =
-    let first : name_changed (codes "job") (new_job ls) ls ≡ ls = unchanged (codes "job") (new_job ls) ls (untrue (has_name ls (codes "job")) (new_job ls) (sym is_job ∙ no_job)) in
-    let second : name_changed (codes "instance") (new_instance ls) ls ≡ ls = unchanged (codes "instance") (new_instance ls) ls (untrue (has_name ls (codes "instance")) (new_instance ls) (sym is_instance ∙ no_instance)) in
-    let same : map (label_renamed ls) ls ≡ ls = sym (both_changed ls ls (job-instance ls)) ∙ (ap (name_changed (codes "instance") (new_instance ls)) first ∙ second) in
-    sym (ap labels_sorted same ∙ sorted_itself ls h.ascending)
+pub renamed_same : (ls : List Label) → IsLabelSet ls → has_target_name ls ≡ false → ls ≡ renamed ls
+renamed_same ls h none = sym (ap labels_sorted (all_stay ls ls none) ∙ sorted_itself ls h.ascending)
 
 -- ---- steps of the search for a free name
 
@@ -336,10 +336,6 @@ stands_some (l ∷ ls) name (Some at) h e = any_at (λ (m : Label). bytes_eq m.n
 -- an answer about a slice of the labels is one about the labels
 pub found_in : (name : List ℕ) (found : Option (List ℕ)) (xs ls : List Label) → xs ≡ ls → found ≡ when_true (has_name xs name) (exported_name (length xs) xs name) → found ≡ when_true (has_name ls name) (exported_name (length ls) ls name)
 found_in name found xs ls e h = subst (λ (ms : List Label). found ≡ when_true (has_name ms name) (exported_name (length ms) ms name)) e h
-
-pub none_found : (found : Option (List ℕ)) → is_some found ≡ false → found ≡ None
-none_found None h = refl
-none_found (Some x) h = absurd cc
 
 pub set_distinct : (ls : List Label) → IsLabelSet ls → IsDistinct same_name ls
 set_distinct ls h = IsDistinct-from_sorted by_name ls h.ascending

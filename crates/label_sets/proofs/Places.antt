@@ -1,5 +1,6 @@
 -- Where a name belongs among labels whose names ascend, and what insertion there keeps.
-use Rattle.std.proofs.Common.{◌≡◌, ℕ, zero, suc, ◌+◌, ◌<◌, ◌≤◌, Bool, true, false, ◌||◌, List, [], ◌∷◌, ◌++◌, length, take, drop, get_or, Option, Some, None, refl, sym, ap, subst, ◌∙◌, arith, drop-cons, length-drop, add-one, append_assoc, ◌-◌}
+use Rattle.std.proofs.Common.{◌≡◌, ℕ, zero, suc, ◌+◌, ◌<◌, ◌≤◌, Bool, true, List, [], ◌∷◌, ◌++◌, length, take, drop, get_or, Option, Some, None, refl, sym, ap, subst, ◌∙◌, arith, drop-cons, length-drop, add-one, append_assoc, ◌-◌}
+use Rattle.std.proofs.lemmas.Bool.{or_right}
 use Rattle.std.proofs.lemmas.Grind.{common_steps}
 use Rattle.std.proofs.Math.Seq.{take-append_seam, drop-append_seam, take-suc}
 use Rattle.std.proofs.lemmas.Map.Keys.{IsDistinct-IsPermutation}
@@ -57,11 +58,7 @@ belongs_behind ls name at k m is h le read less below = subst (λ (n : ℕ). Bel
 pub any_at : (p : Label → Bool) (ls : List Label) (k : ℕ) (d : Label) → k < length ls → p (get_or ls k d) ≡ true → list_any p ls ≡ true
 any_at p [] k d lt e = absurd (omega arith)
 any_at p (m ∷ ms) zero d lt e = rw e refl
-any_at p (m ∷ ms) (suc k) d lt e = or_true (p m) (list_any p ms) (any_at p ms k d (omega arith) e)
-  where
-    or_true : (a b : Bool) → b ≡ true → (a || b) ≡ true
-    or_true true b h = refl
-    or_true false b h = h
+any_at p (m ∷ ms) (suc k) d lt e = or_right (p m) (list_any p ms) (any_at p ms k d (omega arith) e)
 
 pub taken_at : (ls : List Label) (name : List ℕ) (k : ℕ) (m : Label) → k < length ls → m ≡ get_or ls k m → slice_cmp nat_cmp m.name name ≡ Equal → BelongsAt ls name None
 taken_at ls name k m lt read e = any_at (λ (l : Label). bytes_eq l.name name) ls k m lt

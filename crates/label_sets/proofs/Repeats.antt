@@ -3,6 +3,7 @@ use Rattle.std.proofs.Common.{◌≡◌, ℕ, suc, ◌+◌, ◌<◌, Bool, true,
 use Rattle.std.specs.List.{AllByRecursion, IsDistinct}
 use Rattle.std.specs.Prelude.{is_none}
 use Rattle.std.specs.Str.{bytes_eq}
+use Rattle.std.proofs.lemmas.Bool.{or_from, or_parts}
 use Rattle.std.proofs.lemmas.Map.Text.{is_eq-slice_cmp}
 use Rattle.label_sets.specs.declared.label.Label.{Label}
 use Rattle.label_sets.specs.Building.{same_name}
@@ -12,24 +13,17 @@ use Rattle.label_sets.specs.Labels.{has_name, has_distinct_names, repeated_at}
 abbrev AreFresh : List Label → List Label → Type 0
 AreFresh taken ls = AllByRecursion (λ (l : Label). has_name taken l.name ≡ false) ls
 
-pub both_false : (a b : Bool) → a ≡ false → b ≡ false → (a || b) ≡ false
-both_false a b e f = rw (e, f) refl
-
-pub neither : (a b : Bool) → (a || b) ≡ false → (a ≡ false) × (b ≡ false)
-neither true b h = absurd cc
-neither false b h = (refl, h)
-
 pub same_bytes : (x y : Label) → same_name x y ≡ bytes_eq x.name y.name
 same_bytes x y = is_eq-slice_cmp x.name y.name
 
 fresh_more : (x : Label) (taken xs : List Label) → AllByRecursion (λ y. same_name x y ≡ false) xs → AreFresh taken xs → AreFresh (x ∷ taken) xs
 fresh_more x taken [] d f = tt
-fresh_more x taken (y ∷ ys) d f = (both_false (bytes_eq x.name y.name) (has_name taken y.name) (sym (same_bytes x y) ∙ d.0) f.0, fresh_more x taken ys d.1 f.1)
+fresh_more x taken (y ∷ ys) d f = (or_from (bytes_eq x.name y.name) (has_name taken y.name) (sym (same_bytes x y) ∙ d.0) f.0, fresh_more x taken ys d.1 f.1)
 
 fresh_less : (x : Label) (taken xs : List Label) → AreFresh (x ∷ taken) xs → AllByRecursion (λ y. same_name x y ≡ false) xs × AreFresh taken xs
 fresh_less x taken [] f = (tt, tt)
 fresh_less x taken (y ∷ ys) f =
-    let first = neither (bytes_eq x.name y.name) (has_name taken y.name) f.0 in
+    let first = or_parts (bytes_eq x.name y.name) (has_name taken y.name) f.0 in
     let rest = fresh_less x taken ys f.1 in
     ((same_bytes x y ∙ first.0, rest.0), (first.1, rest.1))
 

@@ -43,7 +43,7 @@ kind_at-kind_place Unknown = refl
 same_kind : (a b : Kind) → kind_place a ≡ kind_place b → a ≡ b
 same_kind a b e = sym (kind_at-kind_place a) ∙ (ap kind_at e ∙ kind_at-kind_place b)
 
-kind_decides : (a b : Kind) → Decides (kind_eq a b) (a ≡ b)
+pub kind_decides : (a b : Kind) → Decides (kind_eq a b) (a ≡ b)
 kind_decides a b = let d = Decides-eqb (kind_place a) (kind_place b) in (λ e. same_kind a b (d.0 e), λ e. d.1 (ap kind_place e))
 
 pub key_decides : (a b : SeriesKey) → Decides (key_eq a b) (a ≡ b)

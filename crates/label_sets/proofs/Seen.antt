@@ -6,6 +6,7 @@ use Rattle.std.specs.List.{IsDistinct, list_any}
 use Rattle.std.specs.Cmp.Lexicographic.{slice_cmp}
 use Rattle.std.specs.Str.{bytes_eq}
 use Rattle.std.specs.Ordering.{nat_cmp}
+use Rattle.std.proofs.lemmas.Bool.{or_from, or_parts}
 use Rattle.std.proofs.lemmas.Map.Text.{btree_map_updates_str}
 use Rattle.std.proofs.lemmas.Map.Keys.{IsDistinct-push}
 use Rattle.std.proofs.lemmas.Cmp.{eq_by_cmp_equiv}
@@ -16,7 +17,7 @@ use Rattle.label_sets.specs.declared.label.Label.{Label}
 use Rattle.label_sets.specs.Building.{same_name}
 use Rattle.label_sets.specs.Labels.{has_name, repeated_at}
 use Rattle.label_sets.proofs.Order.{same_name_turned, by_name_total}
-use Rattle.label_sets.proofs.Repeats.{repeated_at-distinct, repeated_at-append, same_bytes, both_false, neither}
+use Rattle.label_sets.proofs.Repeats.{repeated_at-distinct, repeated_at-append, same_bytes}
 use Rattle.label_sets.proofs.Places.{all_of}
 
 -- whether the map has a name
@@ -45,8 +46,8 @@ seen_twice ls at seen d name f lt is old =
 none_same : (m : Label) (xs : List Label) → has_name xs m.name ≡ false → list_any (same_name m) xs ≡ false
 none_same m [] h = refl
 none_same m (x ∷ xs) h =
-    let both = neither (bytes_eq x.name m.name) (has_name xs m.name) h in
-    both_false (same_name m x) (list_any (same_name m) xs) (same_name_turned m x ∙ (same_bytes x m ∙ both.0)) (none_same m xs both.1)
+    let both = or_parts (bytes_eq x.name m.name) (has_name xs m.name) h in
+    or_from (same_name m x) (list_any (same_name m) xs) (same_name_turned m x ∙ (same_bytes x m ∙ both.0)) (none_same m xs both.1)
 
 one_more : (b x : Bool) (old : Option (Unit {0})) → is_some old ≡ x → is_some (cond b (Some tt) old) ≡ (x || b)
 one_more true true old h = refl

@@ -71,10 +71,18 @@ pub record IsExportedName (ls : List Label) (name new : List ℕ) : Type 0 where
   pub free : has_name ls new ≡ false
   pub least : (k : ℕ) → 0 < k → k < times → has_name ls (exported_times k name) ≡ true
 
+-- a name that the target's own labels have
+abbrev pub is_target_name : List ℕ → Bool
+is_target_name name = bytes_eq name (codes "job") || bytes_eq name (codes "instance")
+
+-- some label has such a name
+abbrev pub has_target_name : List Label → Bool
+has_target_name ls = list_any (λ (l : Label). is_target_name l.name) ls
+
 -- the label, with another name where it is one that the target's own labels have
 abbrev pub label_renamed : LabelSet → Label → Label
 label_renamed ls l =
-    if bytes_eq l.name (codes "job") || bytes_eq l.name (codes "instance")
+    if is_target_name l.name
     then record { name = exported_name (length ls) ls l.name; value = l.value } else l
 
 -- a scraped label set, so that the target's own `job` and `instance` can be added to it

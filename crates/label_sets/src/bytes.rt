@@ -1,6 +1,5 @@
 ghost use Rattle.std.specs.Prelude.{◌≡◌, ◌==◌, IfOk, length};
 
-use crate::copied::Copied;
 use std::alloc::{AllocError, Global};
 use std::marker::Model;
 
@@ -70,11 +69,5 @@ impl Bytes {
         Ok(Bytes {
             items: self.items.clone()?,
         })
-    }
-}
-
-impl Copied for Bytes {
-    fn copied(&self) -> Result<Bytes, AllocError> {
-        self.copy()
     }
 }

@@ -1,6 +1,5 @@
 ghost use Rattle.std.specs.Prelude.{◌≡◌, IfOk};
 
-use crate::copied::Copied;
 use crate::text::{Name, Text};
 use std::alloc::AllocError;
 
@@ -22,18 +21,12 @@ impl Label {
         !self.value.is_empty()
     }
 
-    /// An equal label in memory of its own.
+    /// An equal label, whose long texts have one owner more.
     pub fn copy(&self) -> Result<Label, AllocError>
         ensures { IfOk result (λ l. l ≡ self.now) }
     {
         let name = self.name.copy()?;
         let value = self.value.copy()?;
         Ok(Label { name, value })
-    }
-}
-
-impl Copied for Label {
-    fn copied(&self) -> Result<Label, AllocError> {
-        self.copy()
     }
 }

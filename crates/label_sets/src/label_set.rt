@@ -1,10 +1,9 @@
 ghost use Rattle.std.specs.Prelude.{◌≡◌, ◌==◌, ◌≤◌, ◌<◌, None, [], length, IfOk, IfErr, OnOk};
 ghost use Rattle.std.specs.Option.{option_copied};
 
-use crate::copied::Copied;
 use crate::label::Label;
-use crate::list::List;
-use crate::renaming::{exported, rename};
+use crate::renaming::{exported, has_target_name, rename};
+use crate::shared::Shared;
 use crate::sorting::sort_by_name;
 use crate::text::Text;
 use std::alloc::{AllocError, Global};
@@ -37,8 +36,12 @@ impl From<AllocError> for LabelFault {
 /// data model, "Metric names and labels").
 #[derive(Drop)]
 pub struct LabelSet {
-    labels: Vec<Label>,
+    labels: Shared<Label>,
 }
+
+const _: () = prove!(std::mem::size_of::<LabelSet>() <= 16);
+
+const _: () = prove!(std::mem::size_of::<Label>() <= 64);
 
 impl Model for LabelSet {
     ghost use Rattle.std.specs.Prelude as spec;
@@ -47,9 +50,9 @@ impl Model for LabelSet {
 
     ghost Value = { spec.List OneLabel };
 
-    ghost view = { λ s. s.labels.items };
+    ghost view = { λ s. s.labels };
 
-    ghost invariant = { λ s. IsSet s.labels.items };
+    ghost invariant = { λ s. IsSet s.labels };
 }
 
 impl LabelSet {
@@ -58,22 +61,22 @@ impl LabelSet {
     ghost use Rattle.label_sets.specs.Building.{FaultOf};
 
     /// The set without labels. It takes no memory.
-    pub fn empty(alloc: Global) -> LabelSet
+    pub fn empty(_alloc: Global) -> LabelSet
         ensures { result ≡ [] }
     {
         LabelSet {
-            labels: Vec::new(alloc),
+            labels: Shared::none(),
         }
     }
 
     /// The set of the labels that have a value, where there are at most `most` in all and no two
     /// have one name, empty values included.
-    pub fn build(alloc: Global, pairs: List<Label>, most: u32) -> Result<LabelSet, LabelFault>
-        ensures ok { IfOk result (λ set. set ≡ label_set pairs) }
-        ensures faultless { OnOk result ((length pairs ≤ most) × (repeated_at [] 0 pairs ≡ None)) }
-        ensures fault { IfErr result (FaultOf pairs most) }
+    pub fn build(alloc: Global, pairs: Vec<Label>, most: u32) -> Result<LabelSet, LabelFault>
+        ensures ok { IfOk result (λ set. set ≡ label_set pairs.items) }
+        ensures faultless { OnOk result ((length pairs.items ≤ most) × (repeated_at [] 0 pairs.items ≡ None)) }
+        ensures fault { IfErr result (FaultOf pairs.items most) }
     {
-        let mut labels = pairs.into_vec();
+        let mut labels = pairs;
         if labels.len() > most as usize {
             return Err(LabelFault::TooMany);
         }
@@ -81,6 +84,16 @@ impl LabelSet {
             return Err(LabelFault::Twice(at as u32));
         }
         labels.retain(|label| label.has_value());
+        let labels = Shared::of(labels)?;
+        Ok(LabelSet { labels })
+    }
+
+    /// The set of labels that are known to be one, as they are.
+    pub fn from_sorted(labels: Vec<Label>) -> Result<LabelSet, AllocError>
+        requires { IsLabelSet labels.items }
+        ensures { IfOk result (λ set. set ≡ labels.items) }
+    {
+        let labels = Shared::of(labels)?;
         Ok(LabelSet { labels })
     }
 
@@ -95,14 +108,14 @@ impl LabelSet {
     pub fn len(&self) -> usize
         ensures { result ≡ length self.now }
     {
-        self.labels.len()
+        self.labels.as_slice().len()
     }
 
     /// Whether there is no label.
     pub fn is_empty(&self) -> bool
         ensures { result ≡ (length self.now == 0) }
     {
-        self.labels.is_empty()
+        self.labels.as_slice().is_empty()
     }
 
     /// For the proof of a caller: the names ascend, and no value is empty. It does nothing.
@@ -118,15 +131,16 @@ impl LabelSet {
     pub fn renamed(self, alloc: Global) -> Result<LabelSet, AllocError>
         ensures { IfOk result (λ set. set ≡ renamed self) }
     {
-        let mut labels = self.labels;
-        let job = exported(alloc, labels.as_slice(), "job")?;
-        let instance = exported(alloc, labels.as_slice(), "instance")?;
-        if job.is_none() && instance.is_none() {
-            return Ok(LabelSet { labels });
+        if !has_target_name(self.labels.as_slice()) {
+            return Ok(self);
         }
+        let job = exported(alloc, self.labels.as_slice(), "job")?;
+        let instance = exported(alloc, self.labels.as_slice(), "instance")?;
+        let mut labels = copies(alloc, self.labels.as_slice())?;
         rename(&mut labels, b"job", job);
         rename(&mut labels, b"instance", instance);
         labels.sort_unstable();
+        let labels = Shared::of(labels)?;
         Ok(LabelSet { labels })
     }
 
@@ -134,7 +148,7 @@ impl LabelSet {
     pub fn value(&self, name: &[u8]) -> Option<&Text>
         ensures { option_copied result ≡ label_value name.now self.now }
     {
-        for label in &self.labels {
+        for label in self.labels.as_slice() {
             if label.name.as_bytes() == name {
                 return Some(&label.value);
             }
@@ -146,12 +160,13 @@ impl LabelSet {
     pub fn without(&self, alloc: Global, name: &[u8]) -> Result<LabelSet, AllocError>
         ensures { IfOk result (λ set. set ≡ without_label name.now self.now) }
     {
-        let mut labels = Vec::with_capacity(alloc, self.labels.len())?;
-        for label in &self.labels {
+        let mut labels = Vec::with_capacity(alloc, self.labels.as_slice().len())?;
+        for label in self.labels.as_slice() {
             if label.name.as_bytes() != name {
                 labels.push(label.copy()?)?;
             }
         }
+        let labels = Shared::of(labels)?;
         Ok(LabelSet { labels })
     }
 
@@ -160,7 +175,7 @@ impl LabelSet {
         ensures { result ≡ label_sets_eq (without_label name.now self.now) other.now }
     {
         let mut others = other.labels.as_slice();
-        for label in &self.labels {
+        for label in self.labels.as_slice() {
             if label.name.as_bytes() == name {
                 continue;
             }
@@ -175,23 +190,24 @@ impl LabelSet {
         others.is_empty()
     }
 
-    /// An equal set in memory of its own.
+    /// The same set, with one owner more.
     pub fn copy(&self) -> Result<LabelSet, AllocError>
         ensures { IfOk result (λ set. set ≡ self.now) }
     {
-        let mut labels = Vec::with_capacity(*self.labels.allocator(), self.labels.len())?;
-        for label in &self.labels {
-            let label = label.copy()?;
-            labels.push(label)?;
-        }
+        let labels = self.labels.copy()?;
         Ok(LabelSet { labels })
     }
 }
 
-impl Copied for LabelSet {
-    fn copied(&self) -> Result<LabelSet, AllocError> {
-        self.copy()
+/// Equal labels in memory of their own.
+fn copies(alloc: Global, labels: &[Label]) -> Result<Vec<Label>, AllocError>
+    ensures { IfOk result (λ copies. copies.items ≡ labels.now) }
+{
+    let mut copies = Vec::with_capacity(alloc, labels.len())?;
+    for label in labels {
+        copies.push(label.copy()?)?;
     }
+    Ok(copies)
 }
 
 impl PartialEq for LabelSet {

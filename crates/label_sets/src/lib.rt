@@ -1,24 +1,22 @@
 //! What a series is known by: names, texts, label sets and kinds, and the small list types that
-//! contracts see as plain lists.
+//! contracts see as plain lists. A copy of any of them is one owner more and no copy of the bytes.
 #![tactic(auto)]
 
 mod bytes;
-mod copied;
 mod kind;
 mod label;
 mod label_set;
-pub mod laws;
 mod list;
 mod renaming;
-mod repr;
 mod series_key;
+pub mod set_laws;
+mod shared;
 mod sorting;
 #[cfg(test)]
 mod tests;
 mod text;
 
 pub use bytes::Bytes;
-pub use copied::Copied;
 pub use kind::Kind;
 pub use label::Label;
 pub use label_set::{LabelFault, LabelSet};

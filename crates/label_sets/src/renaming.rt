@@ -1,7 +1,7 @@
 ghost use Rattle.std.specs.Prelude.{◌≡◌, length, IfOk, MatchOption, set};
 ghost use Rattle.std.specs.List.{IsDistinct};
 ghost use Rattle.label_sets.specs.Lists.{when_true};
-ghost use Rattle.label_sets.specs.Labels.{exported_name, has_name};
+ghost use Rattle.label_sets.specs.Labels.{exported_name, has_name, has_target_name, is_target_name};
 ghost use Rattle.label_sets.specs.Building.{StandsAt, name_changed, same_name};
 
 use crate::label::Label;
@@ -10,6 +10,25 @@ use std::alloc::{AllocError, Global};
 
 /// Put before the names of a scraped set that the target's own labels have.
 const EXPORTED: &str = "exported_";
+
+/// Whether a target's own labels have this name.
+fn is_target_name(name: &[u8]) -> bool
+    ensures { result ≡ is_target_name name.now }
+{
+    name == b"job".as_slice() || name == b"instance".as_slice()
+}
+
+/// Whether a label has a name that a target's own labels have. Most sets have none: one pass tells.
+pub(crate) fn has_target_name(labels: &[Label]) -> bool
+    ensures { result ≡ has_target_name labels.now }
+{
+    for label in labels {
+        if is_target_name(label.name.as_bytes()) {
+            return true;
+        }
+    }
+    false
+}
 
 /// Where the first label of this name stands.
 fn find(labels: &[Label], name: &[u8]) -> Option<usize>
@@ -45,10 +64,10 @@ fn free_name(alloc: Global, labels: &[Label], name: &str) -> Result<Name, AllocE
     for _ in 0..labels.len() {
         next.insert_str(0, EXPORTED)?;
         if find(labels, next.as_bytes()).is_none() {
-            return Ok(Name::from_string(next));
+            return Name::from_string(next);
         }
     }
-    Ok(Name::from_string(next))
+    Name::from_string(next)
 }
 
 /// Gives the label of one name another one, where there is one to give.

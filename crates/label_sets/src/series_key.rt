@@ -1,6 +1,5 @@
 ghost use Rattle.std.specs.Prelude.{◌≡◌, IfOk};
 
-use crate::copied::Copied;
 use crate::kind::Kind;
 use crate::label_set::LabelSet;
 use crate::text::{Name, Text};
@@ -17,7 +16,7 @@ pub struct SeriesKey {
 }
 
 impl SeriesKey {
-    /// An equal key in memory of its own.
+    /// An equal key, whose labels and long texts have one owner more.
     pub fn copy(&self) -> Result<SeriesKey, AllocError>
         ensures { IfOk result (λ key. key ≡ self.now) }
     {
@@ -30,11 +29,5 @@ impl SeriesKey {
             unit,
             labels,
         })
-    }
-}
-
-impl Copied for SeriesKey {
-    fn copied(&self) -> Result<SeriesKey, AllocError> {
-        self.copy()
     }
 }

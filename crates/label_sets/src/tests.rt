@@ -1,15 +1,15 @@
-use crate::{Copied, Kind, Label, LabelFault, LabelSet, List, Name, SeriesKey, Text};
+use crate::{Kind, Label, LabelFault, LabelSet, List, Name, SeriesKey, Text};
 use std::alloc::{AllocError, Global};
 use std::collections::{BTreeMap, BTreeSet, HashMap};
 
-fn pairs(alloc: Global, written: &[(&str, &str)]) -> Result<List<Label>, AllocError> {
+fn pairs(alloc: Global, written: &[(&str, &str)]) -> Result<Vec<Label>, AllocError> {
     let mut labels = Vec::new(alloc);
     for (name, value) in written {
         let name = Name::from_str(alloc, name)?;
         let value = Text::from_str(alloc, value)?;
         labels.push(Label { name, value })?;
     }
-    Ok(List::from_vec(labels))
+    Ok(labels)
 }
 
 fn set(alloc: Global, written: &[(&str, &str)]) -> Result<LabelSet, LabelFault> {
@@ -81,7 +81,7 @@ fn renames(rt: HostRuntime) -> Result<(), LabelFault> {
 fn many(alloc: Global, count: u32) -> Result<Vec<Label>, AllocError> {
     let mut labels = Vec::new(alloc);
     for n in (0..count).rev() {
-        let name = Name::from_string(format!(in alloc; "l{n:03}")?);
+        let name = Name::from_string(format!(in alloc; "l{n:03}")?)?;
         let value = Text::from_str(alloc, "v")?;
         labels.push(Label { name, value })?;
     }
@@ -91,10 +91,10 @@ fn many(alloc: Global, count: u32) -> Result<Vec<Label>, AllocError> {
 #[test]
 fn limits(rt: HostRuntime) -> Result<(), LabelFault> {
     let alloc = rt.alloc();
-    let most = LabelSet::build(alloc, List::from_vec(many(alloc, 64)?), 64)?;
+    let most = LabelSet::build(alloc, many(alloc, 64)?, 64)?;
     assert_eq!(rt; most.len(), 64);
     assert!(rt; most.labels()[0].name.as_str() == "l000", "sorted");
-    let over = LabelSet::build(alloc, List::from_vec(many(alloc, 65)?), 64);
+    let over = LabelSet::build(alloc, many(alloc, 65)?, 64);
     assert_eq!(rt; over.err(), Some(LabelFault::TooMany));
     let mut twice = many(alloc, 40)?;
     let again = Label {
@@ -102,7 +102,7 @@ fn limits(rt: HostRuntime) -> Result<(), LabelFault> {
         value: Text::from_str(alloc, "v")?,
     };
     assert!(rt; twice.push(again).is_ok(), "ample memory");
-    let twice = LabelSet::build(alloc, List::from_vec(twice), 64);
+    let twice = LabelSet::build(alloc, twice, 64);
     assert_eq!(rt; twice.err(), Some(LabelFault::Twice(40)));
     let few = set(alloc, &[("a", ""), ("b", "1"), ("a", "2"), ("b", "3")]);
     assert_eq!(rt; few.err(), Some(LabelFault::Twice(2)));
@@ -163,9 +163,7 @@ fn texts_of_bytes(rt: HostRuntime) -> Result<(), AllocError> {
         names.contains(&Name::from_str(alloc, "a")?),
         "an equal name"
     );
-    let mut list = List::with_capacity(alloc, 1)?;
-    assert!(rt; list.push(7u64).is_ok(), "ample memory");
-    let copies = List::from_vec(list.into_vec()).copied()?;
+    let copies = List::from_vec(vec![in alloc; 7u64]?)?.copy()?;
     assert_eq!(rt; copies.as_slice(), [7].as_slice());
     Ok(())
 }
@@ -175,7 +173,7 @@ fn stays(alloc: Global, text: &str) -> Result<bool, AllocError> {
     let name = Name::from_utf8(alloc, text.as_bytes())?;
     let same_name = name.copy()?.as_str() == text;
     let first = name.into_text();
-    let second = Text::from_string(String::from_str(alloc, text)?);
+    let second = Text::from_string(String::from_str(alloc, text)?)?;
     let third = Text::from_utf8(alloc, text.as_bytes())?.copy()?;
     let same_text = first.as_str() == text && first == second && second == third;
     Ok(same_name && same_text && third.len() == text.len())

@@ -1,4 +1,5 @@
-ghost use Rattle.std.specs.Prelude.{◌≡◌, ◌==◌, ℕ, ◌+◌, IfOk, OnErr, SomeIff, string_bytes, IsUtf8, length, refl, Some};
+//! Texts and names: few bytes lie in the value, more are shared by those that hold them.
+ghost use Rattle.std.specs.Prelude.{◌≡◌, ◌==◌, ℕ, ◌+◌, [], IfOk, OnErr, SomeIff, string_bytes, IsUtf8, length, refl, Some};
 ghost use Rattle.std.specs.Str.{bytes_eq};
 ghost use Rattle.std.specs.Ordering.{nat_cmp};
 ghost use Rattle.std.specs.Cmp.{partial_equiv_from_equiv};
@@ -7,44 +8,68 @@ ghost use Rattle.std.specs.Cmp.Rules.{hashing};
 ghost use Rattle.std.specs.Hash as fed;
 ghost use Rattle.std.proofs.Common.{rules};
 
-use crate::copied::Copied;
-use crate::repr::Repr;
+use arrayvec::ArrayString;
 use std::alloc::{AllocError, Global};
 use std::cmp::Ordering;
 use std::hash::{Hash, Hasher};
 use std::marker::Model;
+use std::sync::ArcStr;
+
+/// Where the bytes of a text lie: up to 16 in the value itself, more in memory that may have several
+/// owners.
+#[derive(Drop)]
+enum Stored {
+    Inline(ArrayString<16>),
+    Shared(ArcStr),
+}
 
 /// A text of UTF-8.
 #[derive(Drop)]
 pub struct Text {
-    text: Repr,
+    stored: Stored,
 }
+
+const _: () = prove!(std::mem::size_of::<Text>() <= 32);
 
 impl Model for Text {
     ghost use Rattle.std.specs.Prelude as spec;
+    ghost use Rattle.label_sets.specs.Stored.{stored_bytes};
 
     ghost Value = { spec.List spec.ℕ };
 
-    ghost view = { λ t. t.text };
+    ghost view = { λ t. stored_bytes t.stored };
 }
 
 impl Text {
-    /// The text of a string, without a copy.
-    pub fn from_string(text: String) -> Text
-        ensures { result ≡ string_bytes text }
+    /// The text without bytes. It takes no memory.
+    pub fn empty() -> Text
+        ensures { result ≡ [] }
     {
         Text {
-            text: Repr::from_string(text),
+            stored: Stored::Inline(ArrayString::new()),
         }
+    }
+
+    /// The text of a string, whose bytes are kept where they are many.
+    pub fn from_string(text: String) -> Result<Text, AllocError>
+        ensures { IfOk result (λ t. t ≡ string_bytes text) }
+    {
+        let stored = match ArrayString::from(text.as_str()) {
+            Ok(short) => Stored::Inline(short),
+            Err(_) => Stored::Shared(ArcStr::from_string(text)?),
+        };
+        Ok(Text { stored })
     }
 
     /// A copy of a text.
     pub fn from_str(alloc: Global, text: &str) -> Result<Text, AllocError>
         ensures { IfOk result (λ t. t ≡ text.now) }
     {
-        Ok(Text {
-            text: Repr::from_str(alloc, text)?,
-        })
+        let stored = match ArrayString::from(text) {
+            Ok(short) => Stored::Inline(short),
+            Err(_) => Stored::Shared(ArcStr::from_str(alloc, text)?),
+        };
+        Ok(Text { stored })
     }
 
     /// The text that bytes spell, or `None` where they are no UTF-8 (RFC 3629), for which no
@@ -65,52 +90,51 @@ impl Text {
         requires { IsUtf8 bytes.now }
         ensures { IfOk result (λ t. t ≡ bytes.now) }
     {
-        Ok(Text {
-            text: Repr::from_utf8(alloc, bytes)?,
-        })
+        let text = unsafe { std::str::from_utf8_unchecked(bytes) };
+        Text::from_str(alloc, text)
     }
 
     /// The bytes of the text.
     pub fn as_bytes(&self) -> &[u8]
         ensures { result.now ≡ self.now }
     {
-        self.text.as_str().as_bytes()
+        self.as_str().as_bytes()
     }
 
     /// The text as a slice.
+    #[inline]
     pub fn as_str(&self) -> &str
         ensures { result.now ≡ self.now }
     {
-        self.text.as_str()
+        match &self.stored {
+            Stored::Inline(text) => text.as_str(),
+            Stored::Shared(text) => text.as_str(),
+        }
     }
 
     /// How many bytes the text has.
     pub fn len(&self) -> usize
         ensures { result ≡ length self.now }
     {
-        self.text.as_str().len()
+        self.as_str().len()
     }
 
     /// Whether the text has no byte.
     pub fn is_empty(&self) -> bool
         ensures { result ≡ (length self.now == 0) }
     {
-        self.text.as_str().is_empty()
+        self.as_str().is_empty()
     }
 
-    /// An equal text in memory of its own.
+    /// The same text, with one owner more where it has many bytes.
     pub fn copy(&self) -> Result<Text, AllocError>
         ensures { IfOk result (λ t. t ≡ self.now) }
     {
-        Ok(Text {
-            text: self.text.copy()?,
-        })
-    }
-}
-
-impl Copied for Text {
-    fn copied(&self) -> Result<Text, AllocError> {
-        self.copy()
+        let stored = match &self.stored {
+            Stored::Inline(text) => Stored::Inline(*text),
+            Stored::Shared(text) => Stored::Shared(text.clone()?),
+        };
+        Ok(Text { stored })
     }
 }
 
@@ -165,7 +189,7 @@ impl Hash for Text {
 /// A name: a text of UTF-8 that stands for a metric, a label or a family.
 #[derive(Drop)]
 pub struct Name {
-    text: Repr,
+    text: Text,
 }
 
 impl Model for Name {
@@ -177,29 +201,27 @@ impl Model for Name {
 }
 
 impl Name {
-    /// The name that a string spells, without a copy.
-    pub fn from_string(text: String) -> Name
-        ensures { result ≡ string_bytes text }
+    /// The name that a string spells, whose bytes are kept where they are many.
+    pub fn from_string(text: String) -> Result<Name, AllocError>
+        ensures { IfOk result (λ n. n ≡ string_bytes text) }
     {
-        Name {
-            text: Repr::from_string(text),
-        }
+        let text = Text::from_string(text)?;
+        Ok(Name { text })
     }
 
     /// The text of the name, without a copy.
     pub fn into_text(self) -> Text
         ensures { result ≡ self }
     {
-        Text { text: self.text }
+        self.text
     }
 
     /// A copy of a name.
     pub fn from_str(alloc: Global, text: &str) -> Result<Name, AllocError>
         ensures { IfOk result (λ n. n ≡ text.now) }
     {
-        Ok(Name {
-            text: Repr::from_str(alloc, text)?,
-        })
+        let text = Text::from_str(alloc, text)?;
+        Ok(Name { text })
     }
 
     /// The name that bytes spell, or `None` where they are no UTF-8 (RFC 3629), for which no
@@ -208,10 +230,8 @@ impl Name {
         ensures name { IfOk result (λ n. SomeIff n (IsUtf8 bytes.now) bytes.now) }
         ensures memory { OnErr result (IsUtf8 bytes.now) }
     {
-        match std::str::from_utf8(bytes) {
-            Ok(text) => Ok(Some(Name::from_str(alloc, text)?)),
-            Err(_) => Ok(None),
-        }
+        let text = Text::from_bytes(alloc, bytes)?;
+        Ok(text.map(|text| Name { text }))
     }
 
     /// The name that bytes spell, for bytes that are known to be UTF-8 (RFC 3629): they are not
@@ -220,16 +240,15 @@ impl Name {
         requires { IsUtf8 bytes.now }
         ensures { IfOk result (λ n. n ≡ bytes.now) }
     {
-        Ok(Name {
-            text: Repr::from_utf8(alloc, bytes)?,
-        })
+        let text = Text::from_utf8(alloc, bytes)?;
+        Ok(Name { text })
     }
 
     /// The bytes of the name.
     pub fn as_bytes(&self) -> &[u8]
         ensures { result.now ≡ self.now }
     {
-        self.text.as_str().as_bytes()
+        self.text.as_bytes()
     }
 
     /// The name as a slice.
@@ -243,29 +262,22 @@ impl Name {
     pub fn len(&self) -> usize
         ensures { result ≡ length self.now }
     {
-        self.text.as_str().len()
+        self.text.len()
     }
 
     /// Whether the name has no byte.
     pub fn is_empty(&self) -> bool
         ensures { result ≡ (length self.now == 0) }
     {
-        self.text.as_str().is_empty()
+        self.text.is_empty()
     }
 
-    /// An equal name in memory of its own.
+    /// The same name, with one owner more where it has many bytes.
     pub fn copy(&self) -> Result<Name, AllocError>
         ensures { IfOk result (λ n. n ≡ self.now) }
     {
-        Ok(Name {
-            text: self.text.copy()?,
-        })
-    }
-}
-
-impl Copied for Name {
-    fn copied(&self) -> Result<Name, AllocError> {
-        self.copy()
+        let text = self.text.copy()?;
+        Ok(Name { text })
     }
 }
 

@@ -1,3 +1,4 @@
+//! The messages of an export request.
 use exact_decimal::Number;
 use histogram_layout::Layout;
 use label_sets::{LabelSet, List, Text};

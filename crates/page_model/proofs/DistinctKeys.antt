@@ -3,17 +3,18 @@ use Rattle.std.proofs.Common.{◌≡◌, ℕ, Bool, true, false, cond, not, ◌&
 use Rattle.std.specs.List.{AllByRecursion, IsDistinct, flat_map, cons_option}
 use Rattle.std.specs.Str.{bytes_eq}
 use Rattle.std.specs.Cmp.Lexicographic.{bytes_decides}
-use Rattle.std.specs.Prelude.{◌==◌, option_map, unwrap_or}
+use Rattle.std.specs.Prelude.{option_map, unwrap_or}
 use Rattle.std.proofs.lemmas.List.{append_cancel_right}
-use Rattle.std.proofs.lemmas.Bool.{eqb-true, and_parts}
+use Rattle.std.proofs.lemmas.Bool.{and_parts, not-true}
 use Rattle.std.proofs.lemmas.Option.{none-some, same_Some}
+use Rattle.label_sets.proofs.Laws.{kind_decides}
 use Rattle.label_sets.specs.declared.kind.Kind.{Kind}
 use Rattle.label_sets.specs.declared.kind.Kind.TheVariants.{Counter, Gauge, Histogram, GaugeHistogram, StateSet, Info, Summary, Unknown}
 use Rattle.label_sets.specs.declared.label_set.LabelSet.{LabelSet}
 use Rattle.label_sets.specs.declared.series_key.SeriesKey.{SeriesKey}
 use Rattle.label_sets.specs.Lists.{first_of_each, first_some}
 use Rattle.label_sets.specs.Labels.{label_sets_eq}
-use Rattle.label_sets.specs.Keys.{key_eq, kind_eq, kind_place}
+use Rattle.label_sets.specs.Keys.{key_eq, kind_eq}
 use Rattle.page_model.specs.declared.format.Format.{Format}
 use Rattle.page_model.specs.declared.item.Item.{Item}
 use Rattle.page_model.specs.declared.item.Sample.{Sample}
@@ -28,10 +29,6 @@ use Rattle.page_model.specs.Pages.{items_of, IsPageOf}
 use Rattle.page_model.specs.Presence.{all_readings, keys_of}
 
 -- ---- lists
-
-not_true : (b : Bool) → not b ≡ true → b ≡ false
-not_true true e = absurd cc
-not_true false e = refl
 
 module _ {A : Type 0} where
   filter_all : (P : A → Type 0) (t : A → Bool) (xs : List A) → AllByRecursion P xs → AllByRecursion P (filter t xs)
@@ -68,7 +65,7 @@ module _ {A : Type 0} where
   first_of_each_distinct e [] = tt
   first_of_each_distinct e (x ∷ xs) =
       let rest = first_of_each e xs in (
-        all_mono (λ y. not (e x y) ≡ true) (λ y. e x y ≡ false) (λ y h. not_true (e x y) h) (filter (λ y. not (e x y)) rest) (filter_passes (λ y. not (e x y)) rest),
+        all_mono (λ y. not (e x y) ≡ true) (λ y. e x y ≡ false) (λ y h. not-true (e x y) h) (filter (λ y. not (e x y)) rest) (filter_passes (λ y. not (e x y)) rest),
         filter_distinct e (λ y. not (e x y)) rest (first_of_each_distinct e xs),
       )
 
@@ -108,23 +105,8 @@ append_distinct e (x ∷ xs) ys h k cross = (both e x xs ys h.0 cross.0, append_
     both e x [] ys h k = k
     both e x (z ∷ zs) ys h k = (h.0, both e x zs ys h.1 k)
 
--- a kind from its place
-kind_at : ℕ → Kind
-kind_at n = cond (n == 0) Counter (cond (n == 1) Gauge (cond (n == 2) Histogram (cond (n == 3) GaugeHistogram (cond (n == 4) StateSet (cond (n == 5) Info (cond (n == 6) Summary Unknown))))))
-
-kind_at-place : (k : Kind) → kind_at (kind_place k) ≡ k
-unfolding kind_at
-kind_at-place Counter = refl
-kind_at-place Gauge = refl
-kind_at-place Histogram = refl
-kind_at-place GaugeHistogram = refl
-kind_at-place StateSet = refl
-kind_at-place Info = refl
-kind_at-place Summary = refl
-kind_at-place Unknown = refl
-
 kind_is : (k l : Kind) → kind_eq k l ≡ true → k ≡ l
-kind_is k l h = sym (kind_at-place k) ∙ ap kind_at (eqb-true (kind_place k) (kind_place l) h) ∙ kind_at-place l
+kind_is k l h = (kind_decides k l).0 h
 
 -- under one kind the name of a key tells the family
 family_is : (f : Format) (k : Kind) (F G : List ℕ) → key_name f k F ≡ key_name f k G → F ≡ G

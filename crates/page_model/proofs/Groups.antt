@@ -4,6 +4,7 @@ use Rattle.std.proofs.lemmas.Bool.{and_parts, and_from}
 use Rattle.std.specs.List.{list_all}
 use Rattle.std.specs.Str.{bytes_eq}
 use Rattle.std.specs.Cmp.Lexicographic.{bytes_decides, pointwise_decides}
+use Rattle.label_sets.proofs.Laws.{same_tests}
 use Rattle.label_sets.specs.declared.kind.Kind.{Kind}
 use Rattle.label_sets.specs.declared.label.Label.{Label}
 use Rattle.label_sets.specs.declared.label_set.LabelSet.{LabelSet}
@@ -152,14 +153,9 @@ module _ (st : Setting) (kind : Kind) (family : List ℕ) (samples : List Sample
   abbrev pub groups_of : List LabelSet
   groups_of = first_of_each label_sets_eq (map (sample_group st kind family) samples)
 
-  bool_same : (a b : Bool) → (a ≡ true → b ≡ true) → (b ≡ true → a ≡ true) → a ≡ b
-  bool_same true b f g = sym (f refl)
-  bool_same false true f g = g refl
-  bool_same false false f g = refl
-
   -- all samples are complete just where all groups are
   pub complete_by_groups : list_all (is_complete_at st kind family samples) samples ≡ list_all is_complete_group groups_of
-  complete_by_groups = bool_same (list_all (is_complete_at st kind family samples) samples) (list_all is_complete_group groups_of)
+  complete_by_groups = same_tests (list_all (is_complete_at st kind family samples) samples) (list_all is_complete_group groups_of)
       (λ h. all_from is_complete_group groups_of (λ g m.
       let s = member_map (sample_group st kind family) samples g (first_member label_sets_eq label_sets_decide (map (sample_group st kind family) samples) g m) in
       ap is_complete_group s.2 ∙ to_group h s.0 s.1))

@@ -6,6 +6,7 @@ use Rattle.std.specs.Str.{bytes_eq}
 use Rattle.std.specs.Cmp.Lexicographic.{bytes_decides}
 use Rattle.std.proofs.lemmas.List.{reverse-append}
 use Rattle.std.proofs.lemmas.Option.{same_Some}
+use Rattle.std.proofs.lemmas.Bool.{false_from_ne_true, or_parts}
 use Rattle.label_sets.specs.declared.kind.Kind.{Kind}
 use Rattle.label_sets.specs.declared.kind.Kind.TheVariants.{Unknown}
 use Rattle.label_sets.specs.Lists.{first_some}
@@ -27,14 +28,10 @@ use Rattle.page_model.proofs.Least.{none_found}
 abbrev IsFresh : List Owned → List ℕ → Type 0
 IsFresh above family = list_any (λ o. is_of family o && (are_one_sort (items.KindOf family Unknown) o.item || is_sample o.item)) above ≡ false
 
-not_true : (b : Bool) → (b ≡ true → ⊥) → b ≡ false
-not_true true f = absurd (f refl)
-not_true false f = refl
-
 type_is_fresh : (st : Setting) (earlier : List Item) (name : List ℕ) (kind : Kind) → item_fault st earlier (items.KindOf name kind) ≡ None → IsFresh (owned_lines st.format earlier) name
 unfolding item_fault item_breaks owned_breaks is_late_descriptor
 type_is_fresh st earlier name kind e =
-    not_true (list_any (λ o. is_of name o && (are_one_sort (items.KindOf name Unknown) o.item || is_sample o.item)) (owned_lines st.format earlier))
+    false_from_ne_true (list_any (λ o. is_of name o && (are_one_sort (items.KindOf name Unknown) o.item || is_sample o.item)) (owned_lines st.format earlier))
     (λ h. none_found (item_breaks st earlier (items.KindOf name kind)) item_rules e rules.Descriptor (inr (inl refl)) (same_sort (owned_lines st.format earlier) h))
   where
     sort : (o : Owned) → are_one_sort (items.KindOf name Unknown) o.item ≡ are_one_sort (items.KindOf name kind) o.item
@@ -63,15 +60,11 @@ type_is_fresh st earlier name kind e =
 
 -- ---- what is true of fresh lines
 
-parts_false : (a b : Bool) → (a || b) ≡ false → (a ≡ false) × (b ≡ false)
-parts_false true b e = absurd (let h : true ≡ false = e in cc)
-parts_false false b e = (refl, e)
-
 -- a family without samples and TYPE lines has no kind declared
 fresh_undeclared : (family : List ℕ) (above : List Owned) → IsFresh above family → first_some (declared_kind family) above ≡ None
 fresh_undeclared family [] h = refl
 fresh_undeclared family (o ∷ above) h =
-    let both = parts_false (is_of family o && (are_one_sort (items.KindOf family Unknown) o.item || is_sample o.item)) (list_any (λ p. is_of family p && (are_one_sort (items.KindOf family Unknown) p.item || is_sample p.item)) above) h in
+    let both = or_parts (is_of family o && (are_one_sort (items.KindOf family Unknown) o.item || is_sample o.item)) (list_any (λ p. is_of family p && (are_one_sort (items.KindOf family Unknown) p.item || is_sample p.item)) above) h in
     ap (λ (k : Option Kind). option_or k (first_some (declared_kind family) above)) (none (is_of family o) o.item both.0) ∙ fresh_undeclared family above both.1
   where
     none : (b : Bool) (item : Item) → (b && (are_one_sort (items.KindOf family Unknown) item || is_sample item)) ≡ false → cond b (kind_of_line item) None ≡ None
@@ -89,7 +82,7 @@ fresh_unsampled : (family : List ℕ) (above : List Owned) → IsFresh above fam
 unfolding samples_of
 fresh_unsampled family [] h = refl
 fresh_unsampled family (o ∷ above) h =
-    let both = parts_false (is_of family o && (are_one_sort (items.KindOf family Unknown) o.item || is_sample o.item)) (list_any (λ p. is_of family p && (are_one_sort (items.KindOf family Unknown) p.item || is_sample p.item)) above) h in
+    let both = or_parts (is_of family o && (are_one_sort (items.KindOf family Unknown) o.item || is_sample o.item)) (list_any (λ p. is_of family p && (are_one_sort (items.KindOf family Unknown) p.item || is_sample p.item)) above) h in
     ap (λ (s : Option Sample). cons_option s (filter_map (sample_in family) above)) (none (is_of family o) o.item both.0) ∙ fresh_unsampled family above both.1
   where
     none : (b : Bool) (item : Item) → (b && (are_one_sort (items.KindOf family Unknown) item || is_sample item)) ≡ false → cond b (sample_of_line item) None ≡ None

@@ -13,8 +13,8 @@ use Rattle.label_sets.specs.Names.{is_metric_name, is_metric_start, is_metric_ch
 use Rattle.label_sets.specs.Escapes.{quote_escape, unescaped, is_quotable}
 use Rattle.page_model.proofs.Fronts.{Stops, take_while-append, rest_while-append, quoted-append}
 use Rattle.exact_decimal.specs.Tokens.{is_token_char, is_number_token, is_real}
-use Rattle.exact_decimal.proofs.TokenChars.{token_passes}
-use Rattle.page_model.proofs.TokenChars.{all_mono, real_passes, other_than, no_empty_real}
+use Rattle.exact_decimal.proofs.Laws.{all_mono, real_passes, token_passes}
+use Rattle.page_model.proofs.TokenChars.{other_than, no_empty_real}
 use Rattle.page_model.specs.Written.{Written, WrittenSample, WrittenExemplar, blank, comment, eof, help, type_line, unit_line, sample}
 use Rattle.page_model.specs.OpenItems.{kind_word, SpellsOpen, SpellsOpenLabel, SpellsMoreLabels, SpellsOpenLabels, SpellsOpenList, SpellsOptionalList, SpellsOpenStamp, SpellsExemplar, SpellsOpenSample}
 use Rattle.page_model.specs.OpenReading.{label_at, more_labels_at, list_at, optional_list_at, value_at, is_not_space, stamp_at, exemplar_of, sample_of, kind_named, named_at, descriptor_of, open_line_of}

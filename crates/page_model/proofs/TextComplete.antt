@@ -1,12 +1,12 @@
 -- What a line spells is what is read.
-use Rattle.std.proofs.Common.{◌≡◌, ◌≢◌, ℕ, zero, suc, ◌≤◌, ◌<◌, Bool, true, false, not, ◌||◌, List, [], ◌∷◌, ◌++◌, length, length-append, Option, Some, None, refl, sym, ap, subst, ◌∙◌, append_assoc, codes, ◌⊎◌, inl, inr, arith, eqb}
+use Rattle.std.proofs.Common.{◌≡◌, ◌≢◌, ℕ, zero, suc, ◌≤◌, ◌<◌, Bool, true, false, not, List, [], ◌∷◌, ◌++◌, length, length-append, Option, Some, None, refl, sym, ap, subst, ◌∙◌, append_assoc, codes, ◌⊎◌, inl, inr, arith, eqb}
 use Rattle.std.specs.Prelude.{take_while, ◌==◌}
 use Rattle.std.specs.List.{list_all}
 use Rattle.std.specs.Str.{bytes_eq}
 use Rattle.std.specs.Cmp.Lexicographic.{bytes_decides}
 use Rattle.std.proofs.lemmas.List.{append-nil}
 use Rattle.std.proofs.Common.{eq-eqb}
-use Rattle.std.proofs.lemmas.Bool.{eqb-true, and_parts}
+use Rattle.std.proofs.lemmas.Bool.{eqb-true, and_parts, or_from}
 use Rattle.std.proofs.lemmas.Option.{none-some, same_Some}
 use Rattle.label_sets.specs.declared.kind.Kind.{Kind}
 use Rattle.label_sets.specs.declared.kind.Kind.TheVariants.{Counter, Gauge, Histogram, GaugeHistogram, StateSet, Info, Summary, Unknown}
@@ -16,8 +16,8 @@ use Rattle.label_sets.specs.Names.{is_metric_name, is_metric_start, is_metric_ch
 use Rattle.label_sets.specs.Escapes.{help_escape, quote_escape, unescaped, is_quotable}
 use Rattle.page_model.proofs.Fronts.{Stops, rest_stops, take_while-append, rest_while-append, quoted-append}
 use Rattle.exact_decimal.specs.Tokens.{is_token_char, is_number_token}
-use Rattle.exact_decimal.proofs.TokenChars.{token_passes}
-use Rattle.page_model.proofs.TokenChars.{all_mono, integer_passes, no_empty_token}
+use Rattle.exact_decimal.proofs.Laws.{all_mono, token_passes}
+use Rattle.page_model.proofs.TokenChars.{integer_passes, no_empty_token}
 use Rattle.page_model.specs.Written.{Written, WrittenSample, WrittenExemplar, blank, comment, eof, help, type_line, unit_line, sample}
 use Rattle.page_model.specs.TextItems.{is_integer_token, without_leading_blanks, trimmed, AreBlanks, IsGap, is_not_blank, word_behind_mark, SpellsHelpText, text_kind_word, SpellsLabel, SpellsLabels, SpellsMiddle, SpellsStamp, SpellsSample, SpellsTrimmed, SpellsText}
 use Rattle.page_model.specs.TextReading.{begins_blank, at_blank, label_at, labels_at, middle_from, middle_at, stamp_of, sample_of, kind_named, named_at, marked_of, trimmed_of, text_line_of}
@@ -31,10 +31,6 @@ differs p n c without with_it = go (eqb n c) refl
     go false e = e
     go true e = absurd (let same : n ≡ c = eqb-true n c e in let h : p n ≡ true = subst (λ x. p x ≡ true) (sym same) with_it in let k : true ≡ false = sym h ∙ without in cc)
 
-or_false : (a b : Bool) → a ≡ false → b ≡ false → (a || b) ≡ false
-or_false true b e f = absurd cc
-or_false false b e f = f
-
 eqb_flip : (a b : ℕ) → eqb a b ≡ false → eqb b a ≡ false
 eqb_flip a b h = go (eqb b a) refl
   where
@@ -44,7 +40,7 @@ eqb_flip a b h = go (eqb b a) refl
 
 -- what passes a test that no blank passes is no blank
 not_blank : (p : ℕ → Bool) → p 32 ≡ false → p 9 ≡ false → (c : ℕ) → p c ≡ true → is_blank c ≡ false
-not_blank p space tab c h = or_false (c == 32) (c == 9) (eqb_flip 32 c (differs p 32 c space h)) (eqb_flip 9 c (differs p 9 c tab h))
+not_blank p space tab c h = or_from (c == 32) (c == 9) (eqb_flip 32 c (differs p 32 c space h)) (eqb_flip 9 c (differs p 9 c tab h))
 
 not_false : (b : Bool) → b ≡ false → not b ≡ true
 not_false true e = absurd cc

@@ -1,26 +1,12 @@
 -- A number token and a timestamp have no blank in them, and neither is empty.
-use Rattle.std.proofs.Common.{◌≡◌, ℕ, Bool, true, false, not, ◌||◌, ◌&&◌, List, [], ◌∷◌, refl, sym, subst, ◌∙◌, eqb}
+use Rattle.std.proofs.Common.{◌≡◌, ℕ, Bool, true, false, not, ◌&&◌, List, [], ◌∷◌, refl, sym, subst, ◌∙◌, eqb}
 use Rattle.std.specs.List.{list_all}
 use Rattle.std.specs.Char.{is_ascii_digit}
 use Rattle.std.specs.Str.{bytes_eq}
-use Rattle.std.proofs.lemmas.Bool.{and_from, and_parts, or_left, or_right, eqb-true}
-use Rattle.exact_decimal.specs.Tokens.{is_sign, is_point, unsigned, mantissa, whole_part, fraction_part, is_digits, is_real, is_infinity, is_nan_token, is_number_token, is_token_char}
-use Rattle.exact_decimal.proofs.TokenChars.{token_passes}
+use Rattle.std.proofs.lemmas.Bool.{and_from, and_parts, eqb-true}
+use Rattle.exact_decimal.specs.Tokens.{is_sign, unsigned, mantissa, whole_part, fraction_part, is_digits, is_real, is_infinity, is_nan_token, is_number_token, is_token_char}
+use Rattle.exact_decimal.proofs.Laws.{all_mono, from_digit, from_sign}
 use Rattle.page_model.specs.TextItems.{is_integer_token}
-
-pub all_mono : (p q : ℕ → Bool) → ((c : ℕ) → p c ≡ true → q c ≡ true) → (cs : List ℕ) → list_all p cs ≡ true → list_all q cs ≡ true
-all_mono p q f [] h = refl
-all_mono p q f (c ∷ cs) h = let both = and_parts (p c) (list_all p cs) h in and_from (q c) (list_all q cs) (f c both.0) (all_mono p q f cs both.1)
-
-pub real_passes : (token : List ℕ) → is_real token ≡ true → list_all is_token_char token ≡ true
-unfolding is_number_token
-real_passes token h = token_passes token (or_left (is_real token || is_infinity token) (is_nan_token token) (or_left (is_real token) (is_infinity token) h))
-
-from_digit : (c : ℕ) → is_ascii_digit c ≡ true → is_token_char c ≡ true
-from_digit c e = rw e refl
-
-from_sign : (c : ℕ) → is_sign c ≡ true → is_token_char c ≡ true
-from_sign c e = or_left (is_ascii_digit c || is_sign c || is_point c) _ (or_left (is_ascii_digit c || is_sign c) (is_point c) (or_right (is_ascii_digit c) (is_sign c) e))
 
 -- a whole number with a sign has only such characters
 pub integer_passes : (token : List ℕ) → is_integer_token token ≡ true → list_all is_token_char token ≡ true

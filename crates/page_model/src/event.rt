@@ -1,3 +1,4 @@
+//! What a scrape gives, and what a target shows of it.
 ghost use Rattle.std.specs.Prelude.{◌≡◌, IfOk};
 
 use crate::page::Page;
@@ -45,7 +46,7 @@ pub struct Shown {
 }
 
 impl Shown {
-    /// An equal one in memory of its own.
+    /// The same: its page and long texts have one owner more.
     pub fn copy(&self) -> Result<Shown, Memory>
         ensures { IfOk result (λ shown. shown ≡ self.now) }
     {

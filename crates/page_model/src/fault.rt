@@ -1,3 +1,4 @@
+//! Why a page is refused: a rule and a line, or want of memory.
 ghost use Rattle.std.specs.Prelude.{◌≡◌};
 ghost use Rattle.page_model.specs.declared.fault.PageFault.TheVariants as faults;
 

@@ -1,3 +1,5 @@
+//! The forms of pages, and how a target treats their labels.
+
 /// The text form of a page.
 #[derive(Clone, Copy, Debug, PartialEq, Eq)]
 pub enum Format {

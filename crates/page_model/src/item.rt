@@ -1,7 +1,8 @@
+//! The types of what one line of a page says.
 ghost use Rattle.std.specs.Prelude.{◌≡◌, IfOk};
 
 use exact_decimal::Number;
-use label_sets::{Copied, Kind, LabelSet, Memory, Name, Text};
+use label_sets::{Kind, LabelSet, Memory, Name, Text};
 
 /// A sample's exemplar (OpenMetrics 1.0, "Exemplars").
 #[derive(Drop)]
@@ -13,7 +14,7 @@ pub struct Exemplar {
 }
 
 impl Exemplar {
-    /// An equal exemplar in memory of its own.
+    /// An equal exemplar, whose labels have one owner more.
     pub fn copy(&self) -> Result<Exemplar, Memory>
         ensures { IfOk result (λ exemplar. exemplar ≡ self.now) }
     {
@@ -23,12 +24,6 @@ impl Exemplar {
             value: self.value,
             stamp: self.stamp,
         })
-    }
-}
-
-impl Copied for Exemplar {
-    fn copied(&self) -> Result<Exemplar, Memory> {
-        self.copy()
     }
 }
 

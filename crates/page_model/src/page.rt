@@ -1,8 +1,9 @@
+//! The types of a page that is read: families, their readings, and what a reading says.
 ghost use Rattle.std.specs.Prelude.{◌≡◌, IfOk};
 
 use crate::item::Exemplar;
 use exact_decimal::{Decimal, Number};
-use label_sets::{Copied, Kind, List, Memory, Name, SeriesKey, Text};
+use label_sets::{Kind, List, Memory, Name, SeriesKey, Text};
 use std::alloc::Global;
 
 /// A cumulative bucket of a histogram.
@@ -14,24 +15,12 @@ pub struct Bucket {
     pub count: u64,
 }
 
-impl Copied for Bucket {
-    fn copied(&self) -> Result<Bucket, Memory> {
-        Ok(*self)
-    }
-}
-
 /// A quantile of a summary.
 #[derive(Clone, Copy, Debug, PartialEq, Eq)]
 pub struct Quantile {
     /// Its place, as 0.99.
     pub at: Decimal,
     pub value: Number,
-}
-
-impl Copied for Quantile {
-    fn copied(&self) -> Result<Quantile, Memory> {
-        Ok(*self)
-    }
 }
 
 /// The value of a reading.
@@ -50,7 +39,7 @@ pub enum Value {
 }
 
 impl Value {
-    /// An equal value in memory of its own.
+    /// An equal value, whose list has one owner more.
     pub fn copy(&self) -> Result<Value, Memory>
         ensures { IfOk result (λ value. value ≡ self.now) }
     {
@@ -82,7 +71,7 @@ pub struct Reading {
 }
 
 impl Reading {
-    /// An equal reading in memory of its own.
+    /// An equal reading, whose labels, lists and long texts have one owner more.
     pub fn copy(&self) -> Result<Reading, Memory>
         ensures { IfOk result (λ reading. reading ≡ self.now) }
     {
@@ -99,12 +88,6 @@ impl Reading {
     }
 }
 
-impl Copied for Reading {
-    fn copied(&self) -> Result<Reading, Memory> {
-        self.copy()
-    }
-}
-
 /// A metric family.
 #[derive(Drop)]
 pub struct Family {
@@ -118,7 +101,7 @@ pub struct Family {
 }
 
 impl Family {
-    /// An equal family in memory of its own.
+    /// An equal family, whose readings and long texts have one owner more.
     pub fn copy(&self) -> Result<Family, Memory>
         ensures { IfOk result (λ family. family ≡ self.now) }
     {
@@ -133,12 +116,6 @@ impl Family {
             unit,
             readings,
         })
-    }
-}
-
-impl Copied for Family {
-    fn copied(&self) -> Result<Family, Memory> {
-        self.copy()
     }
 }
 
@@ -163,7 +140,7 @@ impl Page {
         }
     }
 
-    /// An equal page in memory of its own.
+    /// The same page: its families have one owner more.
     pub fn copy(&self) -> Result<Page, Memory>
         ensures { IfOk result (λ page. page ≡ self.now) }
     {

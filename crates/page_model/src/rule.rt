@@ -1,3 +1,4 @@
+//! The twenty rules of a page.
 ghost use Rattle.std.specs.Prelude.{◌≡◌};
 
 use std::fmt;

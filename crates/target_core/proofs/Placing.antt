@@ -1,12 +1,31 @@
 -- What a function gives of the values of a list, one after the other.
-use Rattle.std.proofs.Common.{rules, ◌≡◌, ap, ◌∙◌, List, [], ◌∷◌, ◌++◌, Option, Some, None}
+use Rattle.std.proofs.Common.{rules, ◌≡◌, ℕ, ◌+◌, ◌<◌, ap, sym, ◌∙◌, List, [], ◌∷◌, ◌++◌, Option, Some, None, length, take, get_or, map, add-one}
 use Rattle.std.specs.List.{filter_map, cons_option}
+use Rattle.std.proofs.Math.Seq.{take-suc}
 use Rattle.std.proofs.lemmas.List.Elements.{filter_map-append}
 
 -- a value that has an image is placed behind the others
-pub placed : {X Y : Type 0} (h : X → Option Y) (xs : List X) (x : X) (y : Y) → h x ≡ Some y → filter_map h (xs ++ x ∷ []) ≡ filter_map h xs ++ y ∷ []
+placed : {X Y : Type 0} (h : X → Option Y) (xs : List X) (x : X) (y : Y) → h x ≡ Some y → filter_map h (xs ++ x ∷ []) ≡ filter_map h xs ++ y ∷ []
 placed h xs x y is = filter_map-append h xs (x ∷ []) ∙ ap (λ o. filter_map h xs ++ cons_option o []) is
 
 -- a value without an image is passed over
-pub passed_over : {X Y : Type 0} (h : X → Option Y) (xs : List X) (x : X) → h x ≡ None → filter_map h (xs ++ x ∷ []) ≡ filter_map h xs
+passed_over : {X Y : Type 0} (h : X → Option Y) (xs : List X) (x : X) → h x ≡ None → filter_map h (xs ++ x ∷ []) ≡ filter_map h xs
 passed_over h xs x is = filter_map-append h xs (x ∷ []) ∙ ap (λ o. filter_map h xs ++ cons_option o []) is ∙ search rules
+
+-- one value more from the front
+one_more : {X : Type 0} (xs : List X) (i : ℕ) (x : X) → i < length xs → x ≡ get_or xs i x → take (i + 1) xs ≡ take i xs ++ x ∷ []
+one_more xs i x within read = ap (λ n. take n xs) (add-one i) ∙ take-suc xs i x within ∙ ap (λ y. take i xs ++ y ∷ []) (sym read)
+
+-- the same two for the value at a place of a list
+pub placed_at : {X Y : Type 0} (h : X → Option Y) (xs : List X) (i : ℕ) (x : X) (y : Y) → i < length xs → x ≡ get_or xs i x → h x ≡ Some y
+    → filter_map h (take (i + 1) xs) ≡ filter_map h (take i xs) ++ y ∷ []
+placed_at h xs i x y within read is = ap (filter_map h) (one_more xs i x within read) ∙ placed h (take i xs) x y is
+
+pub passed_at : {X Y : Type 0} (h : X → Option Y) (xs : List X) (i : ℕ) (x : X) → i < length xs → x ≡ get_or xs i x → h x ≡ None
+    → filter_map h (take (i + 1) xs) ≡ filter_map h (take i xs)
+passed_at h xs i x within read is = ap (filter_map h) (one_more xs i x within read) ∙ passed_over h (take i xs) x is
+
+-- what a function gives of images
+pub filter_map-map : {W X Y : Type 0} (h : X → Option Y) (f : W → X) (ws : List W) → filter_map h (map f ws) ≡ filter_map (λ w. h (f w)) ws
+filter_map-map h f [] = search rules
+filter_map-map h f (w ∷ ws) = ap (cons_option (h (f w))) (filter_map-map h f ws)

@@ -18,9 +18,17 @@ use Rattle.otlp_tree.specs.declared.tree.HistogramPoint.{HistogramPoint}
 use Rattle.otlp_tree.specs.declared.tree.HistogramValue.{HistogramValue}
 use Rattle.otlp_tree.specs.declared.tree.SummaryPoint.{SummaryPoint}
 use Rattle.otlp_tree.specs.declared.tree.SummaryValue.{SummaryValue}
-use Rattle.target_core.specs.declared.points.Point.{Point}
+use Rattle.label_sets.specs.declared.label_set.LabelSet.{LabelSet}
 
 -- ---- points before they have the form of their kind
+
+-- the labels of a series, since when its value counts, where its kind has starts, when the value was read, and the value; times
+-- in nanoseconds since the Unix epoch
+pub record Point : Type 0 where
+  pub labels : LabelSet
+  pub start : Option ℕ
+  pub time : ℕ
+  pub value : Value
 
 -- the kinds whose points have a start
 unfoldable pub has_start : Kind → Bool

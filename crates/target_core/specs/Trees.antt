@@ -19,8 +19,7 @@ use Rattle.otlp_tree.specs.declared.tree.Metric.{Metric}
 use Rattle.otlp_tree.specs.declared.tree.Shape.{Shape}
 use Rattle.otlp_tree.specs.declared.tree.Shape.TheVariants as shapes
 use Rattle.target_core.specs.declared.target.Target.{Target}
-use Rattle.target_core.specs.declared.points.Point.{Point}
-use Rattle.target_core.specs.Points.{point_of, number_point, histogram_point, summary_point}
+use Rattle.target_core.specs.Points.{Point, point_of, number_point, histogram_point, summary_point}
 
 -- what a function gives of values, where it gives something
 abbrev pub some_of : {X Y : Type 0} → (X → Option Y) → List X → Option (List Y)

@@ -1,24 +1,24 @@
-//! Points in the forms of their kinds.
+//! The points of readings, in the forms of their kinds.
 ghost use Rattle.std.specs.Prelude.{◌≡◌, Option, IfOk};
 ghost use Rattle.target_core.specs.Points as spec;
 
-use crate::points::Point;
+use crate::points::{start_at, start_or_moment};
 use exact_decimal::Number;
 use histogram_layout::Layout;
 use label_sets::{List, Memory};
 use otlp_tree::{HistogramPoint, HistogramValue, NumberPoint, SummaryPoint, SummaryValue};
-use page_model::{Bucket, Value};
+use page_model::{Bucket, Reading, Value};
 use std::alloc::Global;
 
-/// A form of points, which a point has where its value is of that kind.
-pub(crate) trait FromPoint: Sized {
-    ghost use Rattle.target_core.specs.declared.points.Point.{Point as OnePoint};
+/// A form of points, in which a reading has one where its value is of that kind.
+pub(crate) trait FromReading: Sized {
+    ghost use Rattle.target_core.specs.Points.{Point, point_of};
 
-    ghost form_of: { OnePoint → Option Self };
+    ghost form_of: { Point → Option Self };
 
-    /// The point in this form, where it has it.
-    fn from_point(alloc: Global, point: Point) -> Result<Option<Self>, Memory>
-        ensures { IfOk result (λ form. form ≡ form_of point) };
+    /// The point of a reading in this form, where it has one. Its labels and lists are shared.
+    fn from_reading(alloc: Global, moment: u64, reading: &Reading) -> Result<Option<Self>, Memory>
+        ensures { IfOk result (λ form. form ≡ form_of (point_of moment reading.now)) };
 }
 
 /// The number of a value that is one.
@@ -32,28 +32,26 @@ fn number_in(value: &Value) -> Option<Number>
     }
 }
 
-impl FromPoint for NumberPoint {
+impl FromReading for NumberPoint {
     ghost form_of = { spec.number_point };
 
-    #[tactic(auto, unfolding(crate::specs::Points::number_point))]
-    fn from_point(_alloc: Global, point: Point) -> Result<Option<NumberPoint>, Memory> {
-        let Some(number) = number_in(&point.value) else {
+    #[tactic(auto, unfolding(crate::specs::Points::number_point, crate::specs::Points::point_of))]
+    fn from_reading(
+        _alloc: Global,
+        moment: u64,
+        reading: &Reading,
+    ) -> Result<Option<NumberPoint>, Memory> {
+        let Some(number) = number_in(&reading.value) else {
             return Ok(None);
         };
+        let labels = reading.key.labels.copy()?;
         Ok(Some(NumberPoint {
-            labels: point.labels,
-            start: point.start,
-            time: point.time,
+            labels,
+            start: start_at(moment, reading),
+            time: moment,
             value: Some(number),
         }))
     }
-}
-
-/// The start of a point, or its time where it has none.
-fn start_or_time(point: &Point) -> u64
-    ensures { result ≡ spec.start_or_time point.now }
-{
-    point.start.unwrap_or(point.time)
 }
 
 /// The layout of buckets that are cumulative.
@@ -83,19 +81,23 @@ fn histogram_in(alloc: Global, value: &Value) -> Result<Option<HistogramValue>, 
     Ok(Some(HistogramValue { layout, sum: *sum }))
 }
 
-impl FromPoint for HistogramPoint {
+impl FromReading for HistogramPoint {
     ghost form_of = { spec.histogram_point };
 
-    #[tactic(auto, unfolding(crate::specs::Points::histogram_point))]
-    fn from_point(alloc: Global, point: Point) -> Result<Option<HistogramPoint>, Memory> {
-        let start = start_or_time(&point);
-        let Some(histogram) = histogram_in(alloc, &point.value)? else {
+    #[tactic(auto, unfolding(crate::specs::Points::histogram_point, crate::specs::Points::point_of))]
+    fn from_reading(
+        alloc: Global,
+        moment: u64,
+        reading: &Reading,
+    ) -> Result<Option<HistogramPoint>, Memory> {
+        let Some(histogram) = histogram_in(alloc, &reading.value)? else {
             return Ok(None);
         };
+        let labels = reading.key.labels.copy()?;
         Ok(Some(HistogramPoint {
-            labels: point.labels,
-            start,
-            time: point.time,
+            labels,
+            start: start_or_moment(moment, reading),
+            time: moment,
             value: Some(histogram),
         }))
     }
@@ -103,32 +105,37 @@ impl FromPoint for HistogramPoint {
 
 /// The summary of a value that is one.
 #[tactic(auto, unfolding(crate::specs::Points::summary_in))]
-fn summary_in(value: Value) -> Option<SummaryValue>
-    ensures { result ≡ spec.summary_in value }
+fn summary_in(value: &Value) -> Result<Option<SummaryValue>, Memory>
+    ensures { IfOk result (λ summary. summary ≡ spec.summary_in value.now) }
 {
-    match value {
-        Value::Quantiles { list, count, sum } => Some(SummaryValue {
-            count: count.unwrap_or(0),
-            sum: sum.unwrap_or(exact_decimal::of(0)),
-            quantiles: list,
-        }),
-        _ => None,
-    }
+    let Value::Quantiles { list, count, sum } = value else {
+        return Ok(None);
+    };
+    let quantiles = list.copy()?;
+    Ok(Some(SummaryValue {
+        count: count.unwrap_or(0),
+        sum: sum.unwrap_or(exact_decimal::of(0)),
+        quantiles,
+    }))
 }
 
-impl FromPoint for SummaryPoint {
+impl FromReading for SummaryPoint {
     ghost form_of = { spec.summary_point };
 
-    #[tactic(auto, unfolding(crate::specs::Points::summary_point))]
-    fn from_point(_alloc: Global, point: Point) -> Result<Option<SummaryPoint>, Memory> {
-        let start = start_or_time(&point);
-        let Some(summary) = summary_in(point.value) else {
+    #[tactic(auto, unfolding(crate::specs::Points::summary_point, crate::specs::Points::point_of))]
+    fn from_reading(
+        _alloc: Global,
+        moment: u64,
+        reading: &Reading,
+    ) -> Result<Option<SummaryPoint>, Memory> {
+        let Some(summary) = summary_in(&reading.value)? else {
             return Ok(None);
         };
+        let labels = reading.key.labels.copy()?;
         Ok(Some(SummaryPoint {
-            labels: point.labels,
-            start,
-            time: point.time,
+            labels,
+            start: start_or_moment(moment, reading),
+            time: moment,
             value: Some(summary),
         }))
     }

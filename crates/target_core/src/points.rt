@@ -1,27 +1,9 @@
-//! The points of readings, before they have the form of their kind.
+//! Since when the points of readings count.
 ghost use Rattle.std.specs.Prelude.{◌≡◌};
 ghost use Rattle.target_core.specs.Points as spec;
 
-use label_sets::{Kind, LabelSet, Name, SeriesKey, Text};
-use page_model::{Reading, Value};
-
-/// What a metric is known by, beside its kind.
-#[derive(Drop)]
-pub(crate) struct Identity {
-    pub name: Name,
-    pub unit: Text,
-}
-
-/// A point before it has the form of its kind.
-#[derive(Drop)]
-pub(crate) struct Point {
-    pub labels: LabelSet,
-    /// Since when the value counts, in nanoseconds since the Unix epoch, where its kind has starts.
-    pub start: Option<u64>,
-    /// When the value was read, in nanoseconds since the Unix epoch.
-    pub time: u64,
-    pub value: Value,
-}
+use label_sets::Kind;
+use page_model::Reading;
 
 /// Whether the points of a kind have a start.
 #[tactic(auto, unfolding(crate::specs::Points::has_start))]
@@ -57,7 +39,7 @@ fn created_at(moment: u64, reading: &Reading) -> Option<u64>
 
 /// When the series began, where its kind has starts.
 #[tactic(auto, unfolding(crate::specs::Points::start_at))]
-fn start_at(moment: u64, reading: &Reading) -> Option<u64>
+pub(crate) fn start_at(moment: u64, reading: &Reading) -> Option<u64>
     ensures { result ≡ spec.start_at moment reading.now }
 {
     if !has_start(reading.key.kind) {
@@ -69,25 +51,10 @@ fn start_at(moment: u64, reading: &Reading) -> Option<u64>
     }
 }
 
-/// The point of a reading, and what its metric is known by.
+/// When the series began, or the moment where its kind has no starts.
 #[tactic(auto, unfolding(crate::specs::Points::point_of))]
-pub(crate) fn split(moment: u64, reading: Reading) -> (Identity, Point)
-    ensures name { result.0.name ≡ reading.key.name }
-    ensures unit { result.0.unit ≡ reading.key.unit }
-    ensures point { result.1 ≡ spec.point_of moment reading }
+pub(crate) fn start_or_moment(moment: u64, reading: &Reading) -> u64
+    ensures { result ≡ spec.start_or_time (spec.point_of moment reading.now) }
 {
-    let start = start_at(moment, &reading);
-    let SeriesKey {
-        name,
-        unit,
-        labels,
-        ..
-    } = reading.key;
-    let point = Point {
-        labels,
-        start,
-        time: moment,
-        value: reading.value,
-    };
-    (Identity { name, unit }, point)
+    start_at(moment, reading).unwrap_or(moment)
 }

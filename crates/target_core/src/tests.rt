@@ -29,7 +29,7 @@ fn family(alloc: Global, kind: Kind, readings: Vec<Reading>) -> Result<Family, M
         kind,
         help: Text::from_str(alloc, "Help.")?,
         unit: Text::from_str(alloc, "seconds")?,
-        readings: List::from_vec(readings),
+        readings: List::from_vec(readings)?,
     })
 }
 
@@ -45,7 +45,7 @@ fn page(alloc: Global) -> Result<Page, Memory> {
     let gauge = family(alloc, Kind::Gauge, Vec::from_array(alloc, [gauge])?)?;
     let families = Vec::from_array(alloc, [counter, nothing, gauge])?;
     Ok(Page {
-        families: List::from_vec(families),
+        families: List::from_vec(families)?,
         samples: 6,
     })
 }
@@ -61,7 +61,7 @@ fn buckets(alloc: Global) -> Result<Value, Memory> {
         count: 5,
     };
     Ok(Value::Buckets {
-        buckets: List::from_vec(Vec::from_array(alloc, [first, last])?),
+        buckets: List::from_vec(Vec::from_array(alloc, [first, last])?)?,
         sum: None,
     })
 }
@@ -87,14 +87,14 @@ fn observations(alloc: Global) -> Result<Page, Memory> {
     let summary = family(alloc, Kind::Summary, Vec::from_array(alloc, [summary])?)?;
     let families = Vec::from_array(alloc, [histogram, passed_over, summary])?;
     Ok(Page {
-        families: List::from_vec(families),
+        families: List::from_vec(families)?,
         samples: 5,
     })
 }
 
 fn request(alloc: Global, outcome: Outcome) -> Result<Request, Memory> {
     let target = Target::copied(alloc, "j", "h:1", "h", 1)?;
-    event_request(alloc, &target, MOMENT, outcome)
+    event_request(alloc, &target, MOMENT, &outcome)
 }
 
 fn metric(request: &Request, scope: usize, place: usize) -> Option<&Metric> {

@@ -8,7 +8,7 @@ use crate::resource::resource;
 use crate::target::Target;
 use label_sets::{LabelSet, List, Memory, Text};
 use otlp_tree::{Metric, NumberPoint, Request, ScopeMetrics, Shape};
-use page_model::{Family, Outcome, Page};
+use page_model::{Family, Outcome};
 use std::alloc::Global;
 
 /// A gauge with one point and no labels.
@@ -22,12 +22,12 @@ fn target_gauge(alloc: Global, name: &str, time: u64, number: u64) -> Result<Met
         time,
         value: Some(exact_decimal::of(number)),
     };
-    let points = Vec::from_array(alloc, [point])?;
+    let points = List::from_vec(Vec::from_array(alloc, [point])?)?;
     Ok(Metric {
         name: Text::from_str(alloc, name)?,
-        description: Text::from_string(String::new(alloc)),
-        unit: Text::from_string(String::new(alloc)),
-        shape: Shape::Gauge(List::from_vec(points)),
+        description: Text::empty(),
+        unit: Text::empty(),
+        shape: Shape::Gauge(points),
     })
 }
 
@@ -42,8 +42,8 @@ fn target_metrics(alloc: Global, moment: u64, up: u64, samples: u64) -> Result<V
 }
 
 /// The metrics of families, in order.
-fn page_metrics(alloc: Global, moment: u64, families: Vec<Family>) -> Result<Vec<Metric>, Memory>
-    ensures { IfOk result (λ metrics. metrics.items ≡ filter_map (trees.family_metric moment) families.items) }
+fn page_metrics(alloc: Global, moment: u64, families: &[Family]) -> Result<Vec<Metric>, Memory>
+    ensures { IfOk result (λ metrics. metrics.items ≡ filter_map (trees.family_metric moment) families.now) }
 {
     let mut metrics = Vec::with_capacity(alloc, families.len())?;
     for family in families {
@@ -66,10 +66,9 @@ fn push_scope(
     if metrics.is_empty() {
         return Ok(());
     }
-    scopes.push(ScopeMetrics {
-        name: Text::from_str(alloc, name)?,
-        metrics: List::from_vec(metrics),
-    })?;
+    let name = Text::from_str(alloc, name)?;
+    let metrics = List::from_vec(metrics)?;
+    scopes.push(ScopeMetrics { name, metrics })?;
     Ok(())
 }
 
@@ -83,39 +82,46 @@ fn up(outcome: &Outcome) -> u64
     }
 }
 
-/// The page of a scrape, empty where the scrape failed.
-fn page_of(alloc: Global, outcome: Outcome) -> Page
-    ensures { result ≡ page_of_outcome outcome }
+/// The families of a scrape's page; a scrape that failed has none.
+fn families_of(outcome: &Outcome) -> &[Family]
+    ensures { result.now ≡ (page_of_outcome outcome.now).families }
 {
     match outcome {
-        Outcome::Page(page) => page,
-        Outcome::Failed(_) => Page::empty(alloc),
+        Outcome::Page(page) => page.families.as_slice(),
+        Outcome::Failed(_) => &[],
+    }
+}
+
+/// How many samples a scrape's page has.
+fn samples_of(outcome: &Outcome) -> u32
+    ensures { result ≡ (page_of_outcome outcome.now).samples }
+{
+    match outcome {
+        Outcome::Page(page) => page.samples,
+        Outcome::Failed(_) => 0,
     }
 }
 
 /// The tree of the event that a scrape of a target without a past is, at a moment in nanoseconds
 /// since the Unix epoch (OTLP 1.x, `ExportMetricsServiceRequest`). The names, labels and HELP texts of
-/// the page are moved into it. Want of memory is the only error.
+/// the page are shared with it. Want of memory is the only error.
 #[tactic(auto, unfolding(crate::specs::Trees::event_request))]
 pub fn event_request(
     alloc: Global,
     target: &Target,
     moment: u64,
-    outcome: Outcome,
+    outcome: &Outcome,
 ) -> Result<Request, Memory>
-    ensures { IfOk result (λ request. request ≡ trees.event_request target.now moment outcome) }
+    ensures { IfOk result (λ request. request ≡ trees.event_request target.now moment outcome.now) }
 {
-    let up = up(&outcome);
-    let page = page_of(alloc, outcome);
-    let samples = u64::from(page.samples);
-    let resource = resource(alloc, target)?;
+    let up = up(outcome);
+    let samples = u64::from(samples_of(outcome));
+    let resource = List::from_vec(resource(alloc, target)?)?;
     let mut scopes = Vec::with_capacity(alloc, 2)?;
-    let metrics = page_metrics(alloc, moment, page.families.into_vec())?;
+    let metrics = page_metrics(alloc, moment, families_of(outcome))?;
     push_scope(alloc, &mut scopes, "bridge", metrics)?;
     let metrics = target_metrics(alloc, moment, up, samples)?;
     push_scope(alloc, &mut scopes, "bridge.target", metrics)?;
-    Ok(Request {
-        resource: List::from_vec(resource),
-        scopes: List::from_vec(scopes),
-    })
+    let scopes = List::from_vec(scopes)?;
+    Ok(Request { resource, scopes })
 }

@@ -1,5 +1,0 @@
-use Rattle.exact_decimal.proofs.OrderLaws.{decimal_cmp_total}
-use Rattle.exact_decimal.proofs.laws.total_order_law.Goals as goal
-
-pub returns : goal.returns
-returns c = decimal_cmp_total

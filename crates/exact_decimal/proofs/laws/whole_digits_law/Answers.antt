@@ -1,5 +1,0 @@
-use Rattle.exact_decimal.proofs.Answered.{whole_digits}
-use Rattle.exact_decimal.proofs.laws.whole_digits_law.Goals as goal
-
-pub returns : goal.returns
-returns c = whole_digits
