@@ -1,4 +1,4 @@
-ghost use Rattle.std.specs.Prelude.{◌≡◌, ◌==◌, ◌++◌, [], ◌∷◌, length, IfOk, OnOk, OnErr, MatchOption, slice_get, Some, false};
+ghost use Rattle.std.specs.Prelude.{◌≡◌, ◌==◌, ◌<◌, ◌++◌, [], ◌∷◌, length, IfOk, OnOk, OnErr, MatchOption, slice_get, slice_index_or, Some, false};
 ghost use Rattle.std.specs.List.{list_any};
 ghost use Rattle.std.specs.Option.{option_copied};
 ghost use Rattle.std.specs.Str.{bytes_eq};
@@ -69,6 +69,14 @@ impl ByteTable {
         ensures { option_copied result ≡ slice_get self.now at }
     {
         self.strings.get(at)
+    }
+
+    /// The string of a number that one has.
+    pub fn at(&self, at: usize) -> &[u8]
+        requires { at < length self.now }
+        ensures { result.now ≡ slice_index_or self.now at [] }
+    {
+        self.strings.at(at)
     }
 
     /// Where a string that has this hash stands, and how many others were passed in its chain.
