@@ -1,0 +1,4 @@
+pub mod Hashes
+pub mod Entries
+pub mod Links
+pub mod Finding

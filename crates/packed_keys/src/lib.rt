@@ -1,0 +1,17 @@
+//! Keys of samples, label sets and names as bytes that no others have, in tables that no page makes slow; what
+//! was put in is read back, so that nobody has to keep it beside.
+#![tactic(auto)]
+
+mod keys;
+mod packing;
+mod sample_key;
+mod seen_keys;
+mod seen_names;
+mod seen_sets;
+mod unpacking;
+
+pub use keys::Keys;
+pub use sample_key::SampleKey;
+pub use seen_keys::SeenKeys;
+pub use seen_names::SeenNames;
+pub use seen_sets::SeenSets;

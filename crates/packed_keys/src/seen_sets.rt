@@ -1,0 +1,79 @@
+ghost use Rattle.std.specs.Prelude.{◌≡◌, ◌<◌, ◌++◌, [], ◌∷◌, length, IfOk, OnErr, slice_get, Some, if◌then◌else◌};
+ghost use Rattle.std.specs.List.{list_any};
+ghost use Rattle.label_sets.specs.Labels.{label_sets_eq, without_label};
+
+use crate::packing::put_labels_without;
+use crate::unpacking::read_set;
+use byte_table::ByteTable;
+use label_sets::{LabelSet, Memory};
+use std::alloc::Global;
+use std::marker::Model;
+
+/// The label sets that were seen, each once, in the order in which they were seen.
+#[derive(Drop)]
+pub struct SeenSets {
+    table: ByteTable,
+    /// The place of the last answer: what comes together is often of one set.
+    last: usize,
+    /// The room in which a set is packed.
+    packed: Vec<u8>,
+}
+
+impl Model for SeenSets {
+    ghost use Rattle.std.specs.Prelude as spec;
+    ghost use Rattle.std.specs.List.{All};
+    ghost use Rattle.label_sets.specs.declared.label_set.LabelSet.{LabelSet as Set};
+    ghost use Rattle.packed_keys.specs.Packing.{labels_in};
+    ghost use Rattle.packed_keys.specs.Texts.{IsPackedSet};
+
+    ghost Value = { spec.List Set };
+
+    ghost view = { λ s. spec.map labels_in s.table };
+
+    ghost invariant = { λ s. All IsPackedSet s.table };
+}
+
+impl SeenSets {
+    /// No sets. It takes no memory.
+    pub fn new(alloc: Global) -> SeenSets
+        ensures { result ≡ [] }
+    {
+        SeenSets {
+            table: ByteTable::new(alloc),
+            last: 0,
+            packed: Vec::new(alloc),
+        }
+    }
+
+    /// How many sets there are.
+    pub fn len(&self) -> usize
+        ensures { result ≡ length self.now }
+    {
+        self.table.len()
+    }
+
+    /// Adds the set without the label of this name, where it is new, and answers its place. No set is made.
+    pub fn insert_without(&mut self, labels: &LabelSet, name: &[u8]) -> Result<usize, Memory>
+        ensures place { IfOk result (λ at. slice_get self.new at ≡ Some (without_label name.now labels.now)) }
+        ensures sets { IfOk result (λ at. self.new ≡ (if list_any (label_sets_eq (without_label name.now labels.now)) self.old then self.old else self.old ++ without_label name.now labels.now ∷ [])) }
+        ensures err { OnErr result (self.new ≡ self.old) }
+    {
+        self.packed.clear();
+        put_labels_without(&mut self.packed, labels, name)?;
+        let packed = self.packed.as_slice();
+        if self.table.get(self.last) == Some(packed) {
+            return Ok(self.last);
+        }
+        let count = self.table.len();
+        self.last = self.table.insert(packed)?.unwrap_or(count);
+        Ok(self.last)
+    }
+
+    /// The set at a place.
+    pub fn set(&self, alloc: Global, at: usize) -> Result<LabelSet, Memory>
+        requires { at < length self.now }
+        ensures { IfOk result (λ set. slice_get self.now at ≡ Some set) }
+    {
+        read_set(alloc, self.table.at(at))
+    }
+}
