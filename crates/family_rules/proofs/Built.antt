@@ -27,7 +27,7 @@ use Rattle.page_model.specs.Items.{is_eof, sample_of_line, kind_of_line, help_of
 use Rattle.page_model.specs.Owners.{Owned, is_of, declared_kind, kind_of, owned_lines, samples_of, kept_labels}
 use Rattle.page_model.specs.Rules.{is_late_descriptor, is_split, is_same_series, is_duplicate, is_open_metrics, is_without_eof}
 use Rattle.page_model.specs.Readings.{value_with, value_of, stamp_of, exemplars_of, reading_labels, key_name, reading_of, readings_of, help_in, unit_in, family_of, families_of, page_of}
-use Rattle.family_rules.specs.declared.sample_key.SampleKey.{SampleKey}
+use Rattle.packed_keys.specs.declared.sample_key.SampleKey.{SampleKey}
 use Rattle.sample_groups.specs.Groups.{groups_from, reading_from}
 use Rattle.sample_groups.specs.Parts.{is_grouped, entry_of}
 use Rattle.sample_groups.specs.Sound.{AreSound}

@@ -1,4 +1,5 @@
 pub mod Lists
+pub mod Named
 pub mod Faults
 pub mod Kept
 pub mod Standing

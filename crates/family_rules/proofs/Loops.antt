@@ -1,12 +1,13 @@
 -- The loops that build readings and families.
-use Rattle.std.proofs.Common.{◌≡◌, ℕ, ◌+◌, arith, List, [], ◌∷◌, ◌++◌, drop, length, Option, Some, None, refl, sym, ap, ◌∙◌}
-use Rattle.std.specs.Option.{MatchOption}
-use Rattle.std.proofs.lemmas.List.{append-nil, append_assoc, drop-drop}
+use Rattle.std.proofs.Common.{◌≡◌, ◌≤◌, ℕ, zero, suc, arith, List, [], ◌∷◌, ◌++◌, drop, length, Option, Some, None, refl, sym, ap, ◌∙◌}
+use Rattle.std.specs.Prelude.{slice_get, MatchOption}
+use Rattle.std.proofs.lemmas.List.{append-nil, append_assoc, drop_all}
+use Rattle.family_rules.specs.LeftFamilies.{named}
 use Rattle.label_sets.specs.declared.kind.Kind.{Kind}
 use Rattle.page_model.specs.declared.page.Family.{Family}
 use Rattle.page_model.specs.declared.page.Reading.{Reading}
 use Rattle.family_rules.specs.declared.family.FamilySoFar.{FamilySoFar}
-use Rattle.family_rules.specs.declared.sample_key.SampleKey.{SampleKey}
+use Rattle.packed_keys.specs.declared.sample_key.SampleKey.{SampleKey}
 use Rattle.family_rules.specs.Steps.{readings_at, family_at, families_at}
 
 pub no_length : {A : Type 0} (xs : List A) → length xs ≡ 0 → xs ≡ []
@@ -34,7 +35,31 @@ pub families_end : (it : List (List ℕ × FamilySoFar)) (keys : List SampleKey)
 unfolding families_at
 families_end it keys fs whole none h = sym (append-nil fs) ∙ ap (λ es. fs ++ families_at es keys) (sym none) ∙ h
 
--- one key more is passed over
-pub passed_one : (o : Option SampleKey) (keys next whole : List SampleKey) (n : ℕ) → MatchOption o ((keys ≡ []) × (next ≡ [])) (λ x. keys ≡ x ∷ next) → keys ≡ drop n whole → next ≡ drop (n + 1) whole
-passed_one None keys next whole n step h = step.1 ∙ sym (ap (drop 1) step.0) ∙ ap (drop 1) h ∙ drop-drop 1 n whole
-passed_one (Some x) keys next whole n step h = sym (ap (drop 1) step) ∙ ap (drop 1) h ∙ drop-drop 1 n whole
+-- each family that is kept is one of the page
+pub families_count : (es : List (List ℕ × FamilySoFar)) (keys : List SampleKey) → length (families_at es keys) ≡ length es
+unfolding families_at
+families_count [] keys = refl
+families_count (e ∷ es) keys = ap suc (families_count es (drop (length e.1.values) keys))
+
+-- the next of the values that are to come has the next of the names
+pub next_named : {V : Type 0} (names : List (List ℕ)) (at : ℕ) (name : List ℕ) (v : V) (values : List V) → slice_get names at ≡ Some name
+    → named (drop at names) (v ∷ values) ≡ (name, v) ∷ named (drop (suc at) names) values
+next_named [] at name v values h = absurd (let e : None ≡ Some name = h in cc)
+next_named (n ∷ ns) zero name v values h = let same : n ≡ name = let e : Some n ≡ Some name = h in cc in λ i. (same i, v) ∷ named ns values
+next_named (n ∷ ns) (suc at) name v values h = next_named ns at name v values h
+
+-- no name is left
+pub no_names : {V : Type 0} (names : List (List ℕ)) (at : ℕ) (values : List V) → length names ≤ at → named (drop at names) values ≡ []
+no_names names at values h = ap (λ ns. named ns values) (drop_all at names h)
+
+-- the next of values that come one after the other, where there is one
+abbrev pub IsNextOf : {A : Type 0} → Option A → List A → List A → Type 0
+IsNextOf o old new = MatchOption o ((old ≡ []) × (new ≡ [])) (λ x. old ≡ x ∷ new)
+
+pub none_left : {A : Type 0} (o : Option A) (old new : List A) → o ≡ None → IsNextOf o old new → old ≡ []
+none_left None old new e h = h.0
+none_left (Some x) old new e h = absurd (let f : Some x ≡ None = e in cc)
+
+pub one_left : {A : Type 0} (o : Option A) (x : A) (old new : List A) → o ≡ Some x → IsNextOf o old new → old ≡ x ∷ new
+one_left None x old new e h = absurd (let f : None ≡ Some x = e in cc)
+one_left (Some y) x old new e h = let same : y ≡ x = let f : Some y ≡ Some x = e in cc in h ∙ ap (λ z. z ∷ new) same

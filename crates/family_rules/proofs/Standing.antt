@@ -36,7 +36,8 @@ use Rattle.family_rules.specs.declared.family.Descriptor.{Descriptor}
 use Rattle.family_rules.specs.declared.family.Descriptor.TheVariants as sorts
 use Rattle.family_rules.specs.declared.family.FamilySoFar.{FamilySoFar}
 use Rattle.family_rules.specs.Checking.{Checking, no_lines, has_samples, has_sort, groups_in, so_far, left_before, left_families, current_family, key_of, keys_of, IsTextItem, Stands}
-use Rattle.family_rules.specs.Steps.{is_of_sort, is_late_in, current_kind, is_current_family, known_in, is_current_sample, has_incomplete, left_stop, place_stop, key_eq, with_left, begun, reached, current_with, with_current, with_part_in, with_sample, IsReady}
+use Rattle.family_rules.specs.Steps.{is_of_sort, is_late_in, current_kind, is_current_family, known_in, is_current_sample, has_incomplete, left_stop, place_stop, with_left, begun, reached, current_with, with_current, with_part_in, with_sample, IsReady}
+use Rattle.packed_keys.specs.Packing.{key_eq}
 use Rattle.family_rules.proofs.Lists.{or_false, bytes_same, bytes_swap, pairs, lookup-map, map-pairs, insert_entry-last}
 use Rattle.family_rules.proofs.Faults.{AreFit, fit_lines, sound_samples, none_above, left_fault, place_fault}
 use Rattle.family_rules.proofs.Kept.{known_lines, fresh, reversed_samples, grown, so_far-other, so_far-help, so_far-kind, so_far-unit, so_far-sample, so_far-none, late_known}

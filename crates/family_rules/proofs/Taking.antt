@@ -8,7 +8,6 @@ use Rattle.std.specs.Map.{lookup}
 use Rattle.std.specs.Option.{option_or}
 use Rattle.std.specs.Str.{bytes_eq}
 use Rattle.std.proofs.lemmas.List.{append-nil}
-use Rattle.indexmap.specs.IndexSet.{insert_key}
 use Rattle.exact_decimal.specs.declared.number.Number.{Number}
 use Rattle.std.specs.Bool.{then_some}
 use Rattle.label_sets.specs.declared.kind.Kind.{Kind}
@@ -32,9 +31,10 @@ use Rattle.sample_groups.proofs.Steps.{shared_group}
 use Rattle.sample_groups.proofs.Orders.{order_kept}
 use Rattle.family_rules.specs.declared.family.Descriptor.{Descriptor}
 use Rattle.family_rules.specs.declared.family.Descriptor.TheVariants as sorts
-use Rattle.family_rules.specs.declared.sample_key.SampleKey.{SampleKey}
+use Rattle.packed_keys.specs.declared.sample_key.SampleKey.{SampleKey}
 use Rattle.family_rules.specs.Checking.{Checking, groups_in, so_far, left_families, current_family, keys_of, key_of, IsTextItem, Stands}
-use Rattle.family_rules.specs.Steps.{is_current_family, current_kind, is_of_sort, begun, reached, current_with, with_current, with_part_in, with_sample, left_stop, place_stop, fits_order, order_stop, sample_stop, key_eq, is_current_sample, part_or_rule, TellsPart, Takes, IsReady}
+use Rattle.family_rules.specs.Steps.{is_current_family, current_kind, is_of_sort, begun, reached, current_with, with_current, with_part_in, with_sample, left_stop, place_stop, fits_order, order_stop, sample_stop, is_current_sample, part_or_rule, TellsPart, Takes, IsReady}
+use Rattle.packed_keys.specs.Packing.{key_eq}
 use Rattle.family_rules.proofs.Lists.{bytes_same, pairs}
 use Rattle.family_rules.proofs.Faults.{AreFit, fit_lines, text_family, plain_or_grouped, plain_name, plain_measure, sound_samples, described, described_fault, unit_fault, left_fault, measure_fault, rest_fault, sample_fault, blank_fault, comment_fault, eof_fault}
 use Rattle.family_rules.proofs.Kept.{reversed_samples}
@@ -488,8 +488,19 @@ module _ (c : Checking) where
         (eof_fault st earlier s.text (fits st c earlier s) ∙ sym (left_at_end st c earlier s) ∙ sym told ∙ none);
   })
 
-pub insert_new : (keys : List SampleKey) (key : SampleKey) → list_any (key_eq key) keys ≡ false → insert_key key_eq keys key ≡ keys ++ key ∷ []
-insert_new keys key h = rw h refl
+-- a key that was added stands behind the others
+pub put_new_key : (keys : List SampleKey) (key : SampleKey) (added : Bool) → added ≡ true → cond added (keys ++ key ∷ []) keys ≡ keys ++ key ∷ []
+put_new_key keys key added h = ap (λ b. cond b (keys ++ key ∷ []) keys) h
+
+-- an answer that is a rule
+pub is_rule : (P : Option Rule → Type 0) (broken : Option Rule) → is_some broken ≡ true → ((rule : Rule) → broken ≡ Some rule → P (Some rule)) → P broken
+is_rule P None h more = absurd (let f : false ≡ true = h in cc)
+is_rule P (Some rule) h more = more rule refl
+
+-- an answer that is none
+pub is_no_rule : (broken : Option Rule) → is_some broken ≡ false → broken ≡ None
+is_no_rule None h = refl
+is_no_rule (Some rule) h = absurd (let f : true ≡ false = h in cc)
 
 -- the sample is added where it breaks no rule
 pub sample_added : (c d e : Checking) (key : SampleKey) (value : Number) (seen : List SampleKey) → d ≡ record c { seen = seen; samples = c.samples + 1 } → seen ≡ c.seen ++ key ∷ []

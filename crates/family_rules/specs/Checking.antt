@@ -23,7 +23,7 @@ use Rattle.sample_groups.specs.Groups.{Gathered, groups_from}
 use Rattle.sample_groups.specs.Parts.{is_grouped, entry_of}
 use Rattle.family_rules.specs.declared.family.Current.{Current}
 use Rattle.family_rules.specs.declared.family.FamilySoFar.{FamilySoFar}
-use Rattle.family_rules.specs.declared.sample_key.SampleKey.{SampleKey}
+use Rattle.packed_keys.specs.declared.sample_key.SampleKey.{SampleKey}
 
 -- ---- what is kept
 
@@ -130,3 +130,9 @@ abbrev pub Answers : {A : Type 0} → ℕ → Option Rule → Result A PageFault
 Answers line fault (Ok x) = fault ≡ None
 Answers line fault (Err (faults.Refused l rule)) = (l ≡ line) × (fault ≡ Some rule)
 Answers line fault (Err faults.Memory) = ⊤
+
+-- the fault of the end, but for want of memory
+abbrev pub TellsEnd : ℕ → Option Rule → Option PageFault → Type 0
+TellsEnd line fault None = fault ≡ None
+TellsEnd line fault (Some (faults.Refused l rule)) = (l ≡ line) × (fault ≡ Some rule)
+TellsEnd line fault (Some faults.Memory) = ⊤

@@ -1,2 +1,4 @@
+pub mod LeftFamilies
+pub mod Rare
 pub mod Checking
 pub mod Steps

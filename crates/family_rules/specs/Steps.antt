@@ -9,7 +9,6 @@ use Rattle.exact_decimal.specs.declared.number.Number.{Number}
 use Rattle.label_sets.specs.declared.kind.Kind.{Kind}
 use Rattle.label_sets.specs.declared.kind.Kind.TheVariants.{Unknown}
 use Rattle.label_sets.specs.declared.label_set.LabelSet.{LabelSet}
-use Rattle.label_sets.specs.Labels.{label_sets_eq}
 use Rattle.page_model.specs.declared.format.Format.{Format}
 use Rattle.page_model.specs.declared.format.Format.TheVariants.{Text}
 use Rattle.page_model.specs.declared.item.Item.{Item}
@@ -35,7 +34,8 @@ use Rattle.family_rules.specs.declared.family.Current.{Current}
 use Rattle.family_rules.specs.declared.family.Descriptor.{Descriptor}
 use Rattle.family_rules.specs.declared.family.Descriptor.TheVariants as sorts
 use Rattle.family_rules.specs.declared.family.FamilySoFar.{FamilySoFar}
-use Rattle.family_rules.specs.declared.sample_key.SampleKey.{SampleKey}
+use Rattle.packed_keys.specs.declared.sample_key.SampleKey.{SampleKey}
+use Rattle.packed_keys.specs.Packing.{key_eq}
 use Rattle.family_rules.specs.Checking.{Checking, no_lines, has_samples, kind_in, so_far, left_before, keys_of, IsTextItem, AreTextItems, Stands}
 
 -- ---- reading
@@ -94,10 +94,6 @@ place_stop c family sort =
     else if is_current_family c.current family then None
     else if is_some (lookup (bytes_eq family) c.left) then Some rules.Split
     else left_stop c.current
-
--- two samples have one name and one label set
-abbrev pub key_eq : SampleKey → SampleKey → Bool
-key_eq a b = bytes_eq a.name b.name && label_sets_eq a.labels b.labels
 
 -- ---- changes
 

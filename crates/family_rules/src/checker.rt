@@ -11,17 +11,19 @@ ghost use Rattle.page_model.specs.declared.item.Item.TheVariants as items;
 ghost use Rattle.page_model.specs.declared.fault.PageFault.{PageFault};
 ghost use Rattle.page_model.specs.Faults.{item_fault, end_fault};
 ghost use Rattle.page_model.specs.Readings.{page_of};
+ghost use Rattle.page_model.specs.Counts.{counts_of};
 ghost use Rattle.sample_groups.specs.Parts.{is_grouped};
 ghost use Rattle.family_rules.specs.Steps.{with_left};
 
 use crate::family::{Current, Descriptor, FamilySoFar};
+use crate::left::LeftFamilies;
 use crate::pages::families_in;
-use crate::sample_key::SampleKey;
+use crate::rare_text::RareText;
 use crate::suffix::is_sample_name;
 use exact_decimal::Number;
-use indexmap::{IndexMap, IndexSet};
 use label_sets::{Kind, LabelSet, Memory, Name, Text};
-use page_model::{Format, Item, Page, PageFault, Rule, Sample, Treatment};
+use packed_keys::{SampleKey, SeenKeys};
+use page_model::{Format, Item, Page, PageCounts, PageFault, Rule, Sample, Treatment};
 use sample_groups::{Part, is_grouped, part_of};
 use std::alloc::Global;
 use std::marker::Model;
@@ -34,10 +36,9 @@ pub struct Checker {
     format: Format,
     treatment: Treatment,
     limit: u32,
-    /// The families that were left, in the order of their first lines.
-    left: IndexMap<Name, FamilySoFar>,
+    left: LeftFamilies,
     current: Option<Current>,
-    seen: IndexSet<SampleKey>,
+    seen: SeenKeys,
     samples: u32,
     /// The first refusal, or want of memory.
     stopped: Option<PageFault>,
@@ -50,16 +51,16 @@ impl Model for Checker {
 
     ghost view = { λ c. record {
       setting = record { format = c.format; treatment = c.treatment; limit = c.limit };
-      left = c.left.entries;
+      left = c.left;
       current = c.current;
-      seen = c.seen.keys;
+      seen = c.seen;
       samples = c.samples;
       stopped = c.stopped;
     } };
 }
 
 impl Checker {
-    ghost use Rattle.family_rules.specs.Checking.{Stands, IsTextItem, Answers, HasStopped, key_of};
+    ghost use Rattle.family_rules.specs.Checking.{Stands, IsTextItem, Answers, TellsEnd, HasStopped, key_of};
     ghost use Rattle.family_rules.specs.Steps.{Takes, TellsPart, is_current_family, known_in, current_kind, is_late_in, left_stop, place_stop, is_current_sample, begun, reached, current_with, with_current, with_part_in, fits_order, order_stop, with_sample, sample_stop, page_at};
 
     /// A checker that has taken no line. `limit` is the most samples that the page may have.
@@ -77,9 +78,9 @@ impl Checker {
             format,
             treatment,
             limit,
-            left: IndexMap::new(alloc),
+            left: LeftFamilies::new(alloc),
             current: None,
-            seen: IndexSet::new(alloc),
+            seen: SeenKeys::new(alloc),
             samples: 0,
             stopped: None,
         })
@@ -109,7 +110,7 @@ impl Checker {
     fn is_left(&self, family: &Name) -> bool
         ensures { result ≡ is_some (lookup (bytes_eq family.now) self.now.left) }
     {
-        self.left.contains_key(family)
+        self.left.has(family)
     }
 
     /// Rule 9: the family has an earlier descriptor of this sort, or an earlier sample.
@@ -187,22 +188,37 @@ impl Checker {
         }
     }
 
-    fn set_unit(&mut self, unit: Text)
-        ensures { self.new ≡ with_current self.old (current_with (λ f. record f { unit = Some unit }) self.old.current) }
+    fn set_unit(&mut self, unit: Text) -> Result<(), Memory>
+        ensures { OnOk result (self.new ≡ with_current self.old (current_with (λ f. record f { unit = Some unit }) self.old.current)) }
     {
+        let unit = RareText::some(self.alloc, unit)?;
         if let Some(current) = &mut self.current {
-            current.family.unit = Some(unit);
+            current.family.unit = unit;
         }
+        Ok(())
+    }
+
+    /// Makes this the current family for a descriptor of this sort, or answers the rule that is broken by its
+    /// place: 9, 11 or 18.
+    fn place(&mut self, family: Name, sort: Descriptor) -> Result<Option<Rule>, Memory>
+        ensures broken { IfOk result (λ answer. answer ≡ place_stop self.old family sort) }
+        ensures placed { IfOk result (λ answer. answer ≡ None → self.new ≡ reached self.old family) }
+    {
+        if let Some(rule) = self.place_rule(&family, sort) {
+            return Ok(Some(rule));
+        }
+        self.reach(family)?;
+        Ok(None)
     }
 
     /// Takes a HELP line, and answers the rule that it breaks.
     fn take_help(&mut self, name: Name, text: Text) -> Result<Option<Rule>, Memory>
         ensures { IfOk result (Takes (Help name text) self.old self.new) }
     {
-        if let Some(rule) = self.place_rule(&name, Descriptor::Help) {
-            return Ok(Some(rule));
+        let broken = self.place(name, Descriptor::Help)?;
+        if broken.is_some() {
+            return Ok(broken);
         }
-        self.reach(name)?;
         self.set_help(text);
         Ok(None)
     }
@@ -211,10 +227,10 @@ impl Checker {
     fn take_kind(&mut self, name: Name, kind: Kind) -> Result<Option<Rule>, Memory>
         ensures { IfOk result (Takes (KindOf name kind) self.old self.new) }
     {
-        if let Some(rule) = self.place_rule(&name, Descriptor::Type) {
-            return Ok(Some(rule));
+        let broken = self.place(name, Descriptor::Type)?;
+        if broken.is_some() {
+            return Ok(broken);
         }
-        self.reach(name)?;
         self.set_kind(kind);
         Ok(None)
     }
@@ -223,14 +239,15 @@ impl Checker {
     fn take_unit(&mut self, name: Name, unit: Text) -> Result<Option<Rule>, Memory>
         ensures { IfOk result (Takes (Unit name unit) self.old self.new) }
     {
-        if let Some(rule) = self.place_rule(&name, Descriptor::Unit) {
-            return Ok(Some(rule));
+        let is_foreign = is_foreign_unit(&name, &unit);
+        let broken = self.place(name, Descriptor::Unit)?;
+        if broken.is_some() {
+            return Ok(broken);
         }
-        if is_foreign_unit(&name, &unit) {
+        if is_foreign {
             return Ok(Some(Rule::Unit));
         }
-        self.reach(name)?;
-        self.set_unit(unit);
+        self.set_unit(unit)?;
         Ok(None)
     }
 
@@ -286,7 +303,7 @@ impl Checker {
         ensures broken { IfOk result (λ answer. answer ≡ sample_stop self.old key broken) }
         ensures added { IfOk result (λ answer. answer ≡ None → self.new ≡ with_sample self.old key value) }
     {
-        let added = self.seen.insert(key)?;
+        let added = self.seen.insert(&key)?;
         if !added {
             return Ok(Some(Rule::Duplicate));
         }
@@ -450,8 +467,46 @@ impl Checker {
             ..
         } = self;
         put_left(&mut left, current)?;
-        let families = families_in(alloc, left, seen)?;
+        let families = families_in(alloc, left, seen.into_keys())?;
         Ok(Page { families, samples })
+    }
+
+    /// How many families and samples the lines that were taken have.
+    fn into_counts(self) -> Result<PageCounts, Memory>
+        ensures { IfOk result (λ counts. counts ≡ counts_of (page_at self)) }
+    {
+        let Checker {
+            mut left,
+            current,
+            samples,
+            ..
+        } = self;
+        put_left(&mut left, current)?;
+        Ok(PageCounts {
+            families: left.len(),
+            samples,
+        })
+    }
+
+    /// The fault of the end: an earlier refusal or want of memory, then a missing line feed, then a histogram
+    /// that is left incomplete.
+    fn end_fault(&self, line: u32, clean: bool) -> Option<PageFault>
+        ensures answer { (st : Setting) (earlier : List Item) → Stands st self.now earlier → TellsEnd line (end_fault st earlier clean) result }
+        ensures stopped { (fault : PageFault) → HasStopped self.now fault → result ≡ Some fault }
+    {
+        if let Some(fault) = self.stopped {
+            return Some(fault);
+        }
+        if !clean {
+            return Some(PageFault::Refused {
+                line,
+                rule: Rule::NoNewline,
+            });
+        }
+        match self.left_rule() {
+            Some(rule) => Some(PageFault::Refused { line, rule }),
+            None => None,
+        }
     }
 
     /// The page of all lines. `line` is the line past the last, and `clean` says that the page is empty or
@@ -461,30 +516,33 @@ impl Checker {
         ensures page { (st : Setting) (earlier : List Item) → Stands st self earlier → IfOk result (λ page. page ≡ page_of st earlier) }
         ensures stopped { (fault : PageFault) → HasStopped self fault → result ≡ Err fault }
     {
-        if let Some(fault) = self.stopped {
+        if let Some(fault) = self.end_fault(line, clean) {
             return Err(fault);
         }
-        if !clean {
-            return Err(PageFault::Refused {
-                line,
-                rule: Rule::NoNewline,
-            });
-        }
-        if let Some(rule) = self.left_rule() {
-            return Err(PageFault::Refused { line, rule });
-        }
         Ok(self.into_page()?)
+    }
+
+    /// How many families and samples the page of all lines has. It answers as `close` does, and makes no page.
+    pub fn count(self, line: u32, clean: bool) -> Result<PageCounts, PageFault>
+        ensures answer { (st : Setting) (earlier : List Item) → Stands st self earlier → Answers line (end_fault st earlier clean) result }
+        ensures counts { (st : Setting) (earlier : List Item) → Stands st self earlier → IfOk result (λ counts. counts ≡ counts_of (page_of st earlier)) }
+        ensures stopped { (fault : PageFault) → HasStopped self fault → result ≡ Err fault }
+    {
+        if let Some(fault) = self.end_fault(line, clean) {
+            return Err(fault);
+        }
+        Ok(self.into_counts()?)
     }
 }
 
 /// Puts a family behind those that were left.
-fn put_left(left: &mut IndexMap<Name, FamilySoFar>, current: Option<Current>) -> Result<(), Memory>
-    ensures { OnOk result (left.new.entries ≡ with_left left.old.entries current) }
+fn put_left(left: &mut LeftFamilies, current: Option<Current>) -> Result<(), Memory>
+    ensures { OnOk result (left.new ≡ with_left left.old current) }
 {
-    if let Some(Current { name, family }) = current {
-        left.insert(name, family)?;
+    match current {
+        Some(Current { name, family }) => left.put(&name, family),
+        None => Ok(()),
     }
-    Ok(())
 }
 
 /// Whether a unit isn't empty, and with an underscore no suffix of the family's name (OpenMetrics 1.0,

@@ -1,9 +1,12 @@
-ghost use Rattle.std.specs.Prelude.{◌≡◌, ◌||◌, ◌++◌, [], ◌∷◌, OnOk};
+//! What is known of a family from its lines so far.
+ghost use Rattle.std.specs.Prelude.{◌≡◌, ◌||◌, ◌++◌, [], ◌∷◌, None, Some, OnOk, is_some};
 ghost use Rattle.family_rules.specs.Checking.{no_lines, has_samples, kind_in};
 ghost use Rattle.family_rules.specs.Steps.{has, has_incomplete};
 
+use crate::numbers::Numbers;
+use crate::rare_text::RareText;
 use exact_decimal::Number;
-use label_sets::{Kind, List, Memory, Name, Text};
+use label_sets::{Kind, Memory, Name, Text};
 use sample_groups::Groups;
 use std::alloc::Global;
 
@@ -19,12 +22,12 @@ pub enum Descriptor {
 #[derive(Drop)]
 pub struct FamilySoFar {
     pub help: Option<Text>,
-    pub kind: Option<Kind>,
-    pub unit: Option<Text>,
     /// The values of its samples in their order.
-    pub values: List<Number>,
+    pub values: Numbers,
     /// The groups of its samples, where its kind has groups.
     pub groups: Groups,
+    pub unit: RareText,
+    pub kind: Option<Kind>,
 }
 
 /// The family of the nearest line above.
@@ -34,6 +37,9 @@ pub struct Current {
     pub family: FamilySoFar,
 }
 
+// Most families of a page have one sample, and a page may describe families alone.
+const _: () = prove!(std::mem::size_of::<FamilySoFar>() <= 104);
+
 impl FamilySoFar {
     /// A family without lines. It takes no memory.
     pub fn new(alloc: Global) -> FamilySoFar
@@ -41,10 +47,10 @@ impl FamilySoFar {
     {
         FamilySoFar {
             help: None,
-            kind: None,
-            unit: None,
-            values: List::new(alloc),
+            values: Numbers::new(alloc),
             groups: Groups::new(alloc),
+            unit: RareText::none(),
+            kind: None,
         }
     }
 
@@ -63,15 +69,11 @@ impl FamilySoFar {
         matches!(self.kind(), Kind::Histogram | Kind::GaugeHistogram) && !self.groups.are_whole()
     }
 
-    /// Adds the value of a sample. The first one takes room for one alone, since most families have one.
+    /// Adds the value of a sample.
     pub fn push_value(&mut self, alloc: Global, value: Number) -> Result<(), Memory>
         ensures { OnOk result (self.new ≡ record self.old { values = self.old.values ++ value ∷ [] }) }
     {
-        if self.values.is_empty() {
-            self.values = List::with_capacity(alloc, 1)?;
-        }
-        self.values.push(value)?;
-        Ok(())
+        self.values.push(alloc, value)
     }
 
     /// Whether a descriptor of this sort comes too late: behind one of its sort, or behind a sample.

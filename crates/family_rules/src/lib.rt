@@ -4,14 +4,16 @@
 
 mod checker;
 mod family;
+mod left;
+mod numbers;
 mod pages;
-mod sample_key;
+mod rare_text;
 mod suffix;
 #[cfg(test)]
 mod tests;
 
 pub use checker::Checker;
 pub use page_model::{
-    Bucket, Cause, Event, Exemplar, Family, Format, Item, Outcome, Page, PageFault, Quantile,
-    Reading, Rule, Sample, Shown, Treatment, Value,
+    Bucket, Cause, Event, Exemplar, Family, Format, Item, Outcome, Page, PageCounts, PageFault,
+    Quantile, Reading, Rule, Sample, Shown, Treatment, Value,
 };

@@ -3,22 +3,22 @@ ghost use Rattle.std.specs.Prelude.{◌≡◌, [], drop, length, unwrap_or, IfOk
 ghost use Rattle.family_rules.specs.Steps.{reading_at, readings_at, family_at, families_at};
 
 use crate::family::FamilySoFar;
-use crate::sample_key::SampleKey;
+use crate::left::LeftFamilies;
+use crate::numbers::Numbers;
 use exact_decimal::Number;
-use indexmap::set::IntoIter;
-use indexmap::{IndexMap, IndexSet};
 use label_sets::{Kind, List, Memory, Name, SeriesKey, Text};
+use packed_keys::{Keys, SampleKey};
 use page_model::{Family, Reading, Value};
 use sample_groups::is_grouped;
 use std::alloc::Global;
 
 /// The text, or the empty one.
-fn text_or_empty(alloc: Global, text: Option<Text>) -> Text
+fn text_or_empty(text: Option<Text>) -> Text
     ensures { result ≡ unwrap_or text [] }
 {
     match text {
         Some(text) => text,
-        None => Text::from_string(String::new(alloc)),
+        None => Text::empty(),
     }
 }
 
@@ -52,15 +52,16 @@ fn readings(
     alloc: Global,
     kind: Kind,
     unit: &Text,
-    values: List<Number>,
-    keys: &mut IntoIter<SampleKey>,
-) -> Result<List<Reading>, Memory>
-    ensures readings { IfOk result (λ readings. readings ≡ readings_at kind unit.now keys.old values) }
+    values: Numbers,
+    keys: &mut Keys,
+) -> Result<Vec<Reading>, Memory>
+    ensures readings { IfOk result (λ readings. readings.items ≡ readings_at kind unit.now keys.old values) }
     ensures rest { OnOk result (keys.new ≡ drop (length values) keys.old) }
 {
-    let mut readings = List::with_capacity(alloc, values.len())?;
+    let mut readings = Vec::with_capacity(alloc, values.len())?;
     for value in values.into_vec() {
-        let Some(key) = keys.next() else {
+        let next = keys.next(alloc)?;
+        let Some(key) = next else {
             break;
         };
         readings.push(reading(alloc, kind, unit, key, value)?)?;
@@ -68,30 +69,16 @@ fn readings(
     Ok(readings)
 }
 
-/// Passes over so many keys.
-fn pass_over(keys: &mut IntoIter<SampleKey>, count: usize)
-    ensures { keys.new ≡ drop count keys.old }
-{
-    for _ in 0..count {
-        let _key = keys.next();
-    }
-}
-
 /// The family of what is known of it; the keys of its samples come next.
-fn family(
-    alloc: Global,
-    name: Name,
-    known: FamilySoFar,
-    keys: &mut IntoIter<SampleKey>,
-) -> Result<Family, Memory>
+fn family(alloc: Global, name: Name, known: FamilySoFar, keys: &mut Keys) -> Result<Family, Memory>
     ensures family { IfOk result (λ family. family ≡ family_at name known keys.old) }
     ensures rest { OnOk result (keys.new ≡ drop (length known.values) keys.old) }
 {
     let kind = known.kind();
-    let help = text_or_empty(alloc, known.help);
-    let unit = text_or_empty(alloc, known.unit);
+    let help = text_or_empty(known.help);
+    let unit = text_or_empty(known.unit.into_text());
     if is_grouped(kind) {
-        pass_over(keys, known.values.len());
+        keys.pass_over(known.values.len());
         let readings = known.groups.into_readings(alloc, kind, &name, &unit)?;
         return Ok(Family {
             name,
@@ -101,7 +88,7 @@ fn family(
             readings,
         });
     }
-    let readings = readings(alloc, kind, &unit, known.values, keys)?;
+    let readings = List::from_vec(readings(alloc, kind, &unit, known.values, keys)?)?;
     Ok(Family {
         name,
         kind,
@@ -113,17 +100,17 @@ fn family(
 
 /// The families of what is known of each, in their order; the keys of their samples stand one family
 /// behind the other.
-pub fn families_in(
-    alloc: Global,
-    known: IndexMap<Name, FamilySoFar>,
-    keys: IndexSet<SampleKey>,
-) -> Result<List<Family>, Memory>
-    ensures { IfOk result (λ families. families ≡ families_at known.entries keys.keys) }
+pub fn families_in(alloc: Global, known: LeftFamilies, keys: Keys) -> Result<List<Family>, Memory>
+    ensures { IfOk result (λ families. families ≡ families_at known keys) }
 {
-    let mut families = List::with_capacity(alloc, known.len())?;
-    let mut keys = keys.into_iter();
-    for (name, so_far) in known {
+    let mut families = Vec::with_capacity(alloc, known.len())?;
+    let mut entries = known.into_entries();
+    let mut keys = keys;
+    loop {
+        let next = entries.next(alloc)?;
+        let Some((name, so_far)) = next else {
+            return List::from_vec(families);
+        };
         families.push(family(alloc, name, so_far, &mut keys)?)?;
     }
-    Ok(families)
 }

@@ -3,14 +3,14 @@ ghost use Rattle.family_rules.specs.Checking.{IsTextItem};
 
 use crate::Checker;
 use exact_decimal::read;
-use label_sets::{Kind, Label, LabelSet, List, Memory, Name, Text};
-use page_model::{Format, Item, Page, PageFault, Rule, Sample, Treatment};
+use label_sets::{Kind, Label, LabelSet, Memory, Name, Text};
+use page_model::{Format, Item, Page, PageCounts, PageFault, Rule, Sample, Treatment};
 use std::alloc::{AllocError, Global};
 
 fn sample(alloc: Global, name: &str, label: &str, value: &str, number: &str) -> Result<Item, Memory>
     ensures { IfOk result IsTextItem }
 {
-    let mut pairs = List::new(alloc);
+    let mut pairs = Vec::new(alloc);
     pairs.push(Label {
         name: Name::from_str(alloc, label)?,
         value: Text::from_str(alloc, value)?,
@@ -73,15 +73,20 @@ fn item_of(alloc: Global, line: &str) -> Result<Item, Memory>
     }
 }
 
-/// The page of the lines, or the first refusal, which the end answers again.
-fn read_page(alloc: Global, limit: u32, lines: &str, clean: bool) -> Result<Page, PageFault> {
+/// A checker that was given the lines.
+fn read_lines(alloc: Global, limit: u32, lines: &str) -> Result<Checker, PageFault> {
     let mut checker = Checker::new(alloc, Format::Text, Treatment::Scraped, limit)?;
     let mut number: u32 = 0;
     for line in lines.split(';') {
         number = number.saturating_add(1);
         let _answer = checker.item(number, item_of(alloc, line)?);
     }
-    checker.close(9, clean)
+    Ok(checker)
+}
+
+/// The page of the lines, or the first refusal, which the end answers again.
+fn read_page(alloc: Global, limit: u32, lines: &str, clean: bool) -> Result<Page, PageFault> {
+    read_lines(alloc, limit, lines)?.close(9, clean)
 }
 
 fn is_refused(alloc: Global, limit: u32, lines: &str, clean: bool, line: u32, rule: Rule) -> bool {
@@ -167,6 +172,14 @@ fn builds_the_page(rt: HostRuntime) -> Result<(), PageFault> {
     let lines = "help b;histogram h;h_bucket le=1 2;h_bucket le=+Inf 2;counter a;a 2;a 1";
     let page = read_page(rt.alloc(), 4, lines, true)?;
     assert_eq!(rt; page.samples, 4);
+    let counts = read_lines(rt.alloc(), 4, lines)?.count(9, true)?;
+    assert_eq!(rt;
+        counts,
+        PageCounts {
+            families: 3,
+            samples: 4
+        }
+    );
     let mut readings = 0;
     for family in page.families.as_slice() {
         readings = family.readings.len();

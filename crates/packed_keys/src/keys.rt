@@ -1,6 +1,5 @@
-ghost use Rattle.std.specs.Prelude.{◌≡◌, ◌++◌, drop, map, IfOk, IsUtf8};
+ghost use Rattle.std.specs.Prelude.{◌≡◌, [], ◌∷◌, drop, map, IfOk, IsUtf8, MatchOption};
 ghost use Rattle.std.specs.List.{All};
-ghost use Rattle.std.specs.Option.{option_to_list};
 ghost use Rattle.packed_keys.specs.Packing.{key_at};
 ghost use Rattle.packed_keys.specs.Texts.{IsPackedKey};
 
@@ -60,7 +59,7 @@ impl Keys {
 
     /// The next key, where there is one. A name is shared with the key before where it is the same.
     pub fn next(&mut self, alloc: Global) -> Result<Option<SampleKey>, Memory>
-        ensures { IfOk result (λ next. self.old ≡ option_to_list next ++ self.new) }
+        ensures { IfOk result (λ next. MatchOption next ((self.old ≡ []) × (self.new ≡ [])) (λ key. self.old ≡ key ∷ self.new)) }
     {
         if self.at >= self.table.len() {
             return Ok(None);

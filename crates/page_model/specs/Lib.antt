@@ -18,4 +18,5 @@ pub mod Readings
 pub mod Pages
 pub mod PageReading
 pub mod Presence
+pub mod Counts
 pub mod Laws

@@ -1,5 +1,5 @@
 use Rattle.std.proofs.Common.{◌∙◌, ◌≡◌}
-use Rattle.family_rules.specs.declared.sample_key.SampleKey.{SampleKey}
+use Rattle.packed_keys.specs.declared.sample_key.SampleKey.{SampleKey}
 use Rattle.family_rules.specs.Checking.{key_of}
 use Rattle.family_rules.specs.Steps.{sample_stop, order_stop, with_sample, with_current, current_with, with_part_in}
 use Rattle.family_rules.proofs.Taking.{if_ok, if_ok_both, grouped_stop, grouped_added}

@@ -1,8 +1,8 @@
 use Rattle.std.proofs.Common.{◌∙◌, ◌+◌, ◌≤◌, ◌<◌, ◌++◌, ◌∷◌, [], ap, sym, subst}
 use Rattle.std.specs.List.{list_any}
 use Rattle.family_rules.specs.Checking.{Checking}
-use Rattle.family_rules.specs.Steps.{key_eq}
-use Rattle.family_rules.proofs.Taking.{stop_duplicate, stop_broken, stop_many, stop_none, negated, negated_true, insert_new, sample_added}
+use Rattle.packed_keys.specs.Packing.{key_eq}
+use Rattle.family_rules.proofs.Taking.{stop_duplicate, stop_broken, stop_many, stop_none, negated, negated_true, put_new_key, sample_added}
 use Rattle.family_rules.proofs.checker.Checker.add_key.Goals as goal
 
 pub returns-then-not-added-clause-broken : goal.returns-then-not-added-clause-broken
@@ -28,13 +28,13 @@ returns-clause-broken c = stop_none c.args.self.now c.args.key c.args.broken
 
 pub returns-clause-added : goal.returns-clause-added
 returns-clause-added c = λ none.
-    let seen = c.in_ok-added.ensures.keys ∙ insert_new c.self.inside.seen.keys c.args.key (negated_true c.in_ok-added.added _ c.in_ok-added.ensures.added c.if-not-added.false)
+    let seen = c.in_ok-added.ensures.keys ∙ put_new_key c.self.inside.seen c.args.key c.in_ok-added.added c.if-not-added.false
     ∙ ap (λ (v : Checking). v.seen ++ c.args.key ∷ []) c.self.view_is in
-    sample_added c.args.self.now _ c.push_value.new.self c.args.key c.args.value c.insert.new.self.keys (λ i. record {
+    sample_added c.args.self.now _ c.push_value.new.self c.args.key c.args.value c.insert.new.self (λ i. record {
       setting = (c.self.view_is i).setting;
       left = (c.self.view_is i).left;
       current = (c.self.view_is i).current;
-      seen = c.insert.new.self.keys;
+      seen = c.insert.new.self;
       samples = (c.self.view_is i).samples + 1;
       stopped = (c.self.view_is i).stopped;
     }) seen c.in_ok-push_value.ensures

@@ -8,9 +8,9 @@ unfolding owned_lines left_families current_family keys_of
 returns c = record {
   setting = refl;
   text = c.requires;
-  left = c.new.ensures.empty;
+  left = c.new.ensures;
   current = refl;
-  seen = c.new-2.ensures.empty;
+  seen = c.new-2.ensures;
   samples = refl;
   working = refl;
   text_items = tt;

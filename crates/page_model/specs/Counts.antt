@@ -1,0 +1,9 @@
+-- How much a page has.
+-- Prometheus text format 0.0.4, "Text-based format" (lines of samples, metric families).
+use Rattle.std.specs.Prelude.{length}
+use Rattle.page_model.specs.declared.counts.PageCounts.{PageCounts}
+use Rattle.page_model.specs.declared.page.Page.{Page}
+
+-- how many families and sample lines a page has
+abbrev pub counts_of : Page → PageCounts
+counts_of page = record { families = length page.families; samples = page.samples }
