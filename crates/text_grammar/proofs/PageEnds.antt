@@ -17,6 +17,9 @@ use Rattle.page_model.specs.declared.format.Format.TheVariants.{Text}
 use Rattle.page_model.specs.declared.format.Treatment.{Treatment}
 use Rattle.page_model.specs.declared.item.Item.{Item}
 use Rattle.page_model.specs.declared.page.Page.{Page}
+use Rattle.page_model.specs.declared.counts.PageCounts.{PageCounts}
+use Rattle.page_model.specs.Counts.{counts_of}
+use Rattle.text_grammar.specs.declared.page.PageEnd.{PageEnd}
 use Rattle.page_model.specs.declared.fault.PageFault.{PageFault}
 use Rattle.page_model.specs.declared.fault.PageFault.TheVariants as faults
 use Rattle.page_model.specs.Written.{Setting, text_setting, line_limit}
@@ -28,7 +31,7 @@ use Rattle.page_model.proofs.Decides.{front_fault, first_fault_read, page_is_rea
 use Rattle.page_model.proofs.Prefixes.{fault_from-append}
 use Rattle.family_rules.specs.Checking.{Checking}
 use Rattle.family_rules.specs.Checking as checking
-use Rattle.text_grammar.specs.PageFeeding.{Fed, Stands, Answers, LineAnswer, TakesLine, AtLast}
+use Rattle.text_grammar.specs.PageFeeding.{Fed, Stands, Answers, LineAnswer, TakesLine, AtLast, IsEnded, EndAnswer, HasCounts, CountAnswers}
 use Rattle.text_grammar.proofs.PageSteps.{fault_at, fault_snoc, with_snoc}
 
 -- ---- how many lines there are
@@ -75,12 +78,36 @@ module _ (t : Treatment) (limit : ℕ) (fed : List ℕ) (told : List (List ℕ))
   unfolding text_page
   page_is = ap (λ (ls : List (List ℕ)). page_of (text_setting t limit) (items_of Text (map (line_read Text) ls))) lines ∙ ap (page_of (text_setting t limit)) (folded (map (line_read Text) told) [])
 
-  pub close-answers : (number : ℕ) (result : Result Page PageFault) → number ≡ 1 + length told
+  close-answers : (number : ℕ) (result : Result Page PageFault) → number ≡ 1 + length told
       → checking.Answers number (end_fault (text_setting t limit) (with_lines Text (map (line_read Text) told) []) clean) result
       → IfOk result (λ page. page ≡ page_of (text_setting t limit) (with_lines Text (map (line_read Text) told) [])) → Answers (text_setting t limit) fed result
   close-answers number (Ok page) e answer is = (page_is_read (text_setting t limit) fed page).1 (end_is ∙ rw answer refl, is ∙ sym page_is)
   close-answers number (Err (faults.Refused n rule)) e answer is = (first_fault_read (text_setting t limit) fed (n, rule)).1 (end_is ∙ rw answer.1 (ap (λ k. Some (fault_at k rule)) (sym (answer.0 ∙ e))))
   close-answers number (Err faults.Memory) e answer is = tt
+
+-- what the end of a checker that took all lines says of the page
+module _ (t : Treatment) (limit : ℕ) (fed : List ℕ) (e : PageEnd) (ended : IsEnded t limit fed e) where
+  abbrev all_items : List Item
+  all_items = with_lines Text (map (line_read Text) (lines_of fed)) []
+
+  pub end-closed : (result : Result Page PageFault)
+      → ((st : Setting) (earlier : List Item) → checking.Stands st e.checker earlier → checking.Answers e.line (end_fault st earlier e.clean) result)
+      → ((st : Setting) (earlier : List Item) → checking.Stands st e.checker earlier → IfOk result (λ page. page ≡ page_of st earlier)) → Answers (text_setting t limit) fed result
+  end-closed result answer page = close-answers t limit fed (lines_of fed) e.clean refl (sym ended.clean) ended.without_fault e.line result ended.line
+      (answer (text_setting t limit) all_items ended.checker_stands) (page (text_setting t limit) all_items ended.checker_stands)
+
+  pub end-counted : (result : Result PageCounts PageFault)
+      → ((st : Setting) (earlier : List Item) → checking.Stands st e.checker earlier → checking.Answers e.line (end_fault st earlier e.clean) result)
+      → ((st : Setting) (earlier : List Item) → checking.Stands st e.checker earlier → IfOk result (λ counts. counts ≡ counts_of (page_of st earlier))) → CountAnswers (text_setting t limit) fed result
+  end-counted (Ok counts) answer is = record {
+    page = page_of (text_setting t limit) all_items;
+    is_page = close-answers t limit fed (lines_of fed) e.clean refl (sym ended.clean) ended.without_fault e.line (Ok (page_of (text_setting t limit) all_items)) ended.line
+        (answer (text_setting t limit) all_items ended.checker_stands) refl;
+    counted = is (text_setting t limit) all_items ended.checker_stands;
+  }
+  end-counted (Err (faults.Refused n rule)) answer is = close-answers t limit fed (lines_of fed) e.clean refl (sym ended.clean) ended.without_fault e.line (Err (faults.Refused n rule)) ended.line
+      (answer (text_setting t limit) all_items ended.checker_stands) tt
+  end-counted (Err faults.Memory) answer is = tt
 
 -- ---- the last line
 
@@ -96,23 +123,26 @@ module _ (t : Treatment) (limit : ℕ) (fed : List ℕ) (old new : Fed) (a : AtL
   of_t result takes = subst (λ (x : Treatment). LineAnswer (text_setting x limit) (with_lines Text (map (line_read Text) a.told) []) old.lines.line old.lines.number new.checker result) a.treatment
       (takes.answer limit (with_lines Text (map (line_read Text) a.told) []) (subst (λ (x : Treatment). checking.Stands (text_setting x limit) old.checker (with_lines Text (map (line_read Text) a.told) [])) (sym a.treatment) a.checker_stands))
 
-  pub last-refused : (fault : PageFault) → TakesLine old new (Err fault) → Answers (text_setting t limit) fed (Err fault)
+  pub last-refused : (fault : PageFault) → TakesLine old new (Err fault) → EndAnswer t limit fed (Err fault)
   last-refused (faults.Refused n rule) takes =
       let answer = of_t (Err (faults.Refused n rule)) takes in
       front_fault (text_setting t limit) fed (a.told ++ old.lines.line ∷ []) [] (n, rule) (a.lines_are ∙ sym (append-nil (a.told ++ old.lines.line ∷ [])))
       (snoc_fault ∙ rw answer.1 (ap (λ k. Some (fault_at k rule)) (sym (answer.0 ∙ a.number))))
   last-refused faults.Memory takes = tt
 
-  pub last-taken : (u : ⊤) → TakesLine old new (Ok u) → (number : ℕ) → number ≡ 1 + (length a.told + 1) → (result : Result Page PageFault)
-      → ((st : Setting) (earlier : List Item) → checking.Stands st new.checker earlier → checking.Answers number (end_fault st earlier false) result)
-      → ((st : Setting) (earlier : List Item) → checking.Stands st new.checker earlier → IfOk result (λ page. page ≡ page_of st earlier)) → Answers (text_setting t limit) fed result
-  last-taken u takes number e result answer page =
+  pub last-taken : (u : ⊤) → TakesLine old new (Ok u) → (e : PageEnd) → e.checker ≡ new.checker → e.line ≡ 1 + (length a.told + 1) → e.clean ≡ false → IsEnded t limit fed e
+  last-taken u takes e checker line clean =
       let taken = of_t (Ok u) takes in
       let items : with_lines Text (map (line_read Text) (a.told ++ old.lines.line ∷ [])) [] ≡ with_line Text (line_read Text old.lines.line) (with_lines Text (map (line_read Text) a.told) []) =
       ap (λ (ls : List PageLine). with_lines Text ls []) (map-append (line_read Text) a.told (old.lines.line ∷ [])) ∙ with_snoc (map (line_read Text) a.told) (line_read Text old.lines.line) [] in
       let stands = subst (λ (x : List Item). checking.Stands (text_setting t limit) new.checker x) (sym items) taken.1 in
-      close-answers t limit fed (a.told ++ old.lines.line ∷ []) false a.lines_are a.not_clean (snoc_fault ∙ rw taken.0 refl) number result
-      (e ∙ ap (λ k. 1 + k) (sym (length-append a.told (old.lines.line ∷ [])))) (answer (text_setting t limit) _ stands) (page (text_setting t limit) _ stands)
+      record {
+        line = line ∙ ap (λ k. 1 + k) (sym (length-append a.told (old.lines.line ∷ []))) ∙ ap (λ (ls : List (List ℕ)). 1 + length ls) (sym a.lines_are);
+        clean = clean ∙ sym a.not_clean;
+        without_fault = ap (λ (ls : List (List ℕ)). lines_fault (text_setting t limit) [] 1 (map (line_read Text) ls)) a.lines_are ∙ snoc_fault ∙ rw taken.0 refl;
+        checker_stands = subst (λ (ls : List (List ℕ)). checking.Stands (text_setting t limit) e.checker (with_lines Text (map (line_read Text) ls) [])) (sym a.lines_are)
+            (subst (λ (x : Checking). checking.Stands (text_setting t limit) x (with_lines Text (map (line_read Text) (a.told ++ old.lines.line ∷ [])) [])) (sym checker) stands);
+      }
 
 -- ---- the end of the lines
 

@@ -9,6 +9,9 @@ use Rattle.page_model.specs.declared.format.Format.TheVariants.{Text}
 use Rattle.page_model.specs.declared.format.Treatment.{Treatment}
 use Rattle.page_model.specs.declared.item.Item.{Item}
 use Rattle.page_model.specs.declared.page.Page.{Page}
+use Rattle.page_model.specs.declared.counts.PageCounts.{PageCounts}
+use Rattle.page_model.specs.Counts.{counts_of}
+use Rattle.text_grammar.specs.declared.page.PageEnd.{PageEnd}
 use Rattle.page_model.specs.declared.fault.PageFault.{PageFault}
 use Rattle.page_model.specs.declared.fault.PageFault.TheVariants as faults
 use Rattle.page_model.specs.Written.{Setting, text_setting, line_limit}
@@ -95,3 +98,28 @@ pub record AtLast (t : Treatment) (limit : ℕ) (fed : List ℕ) (p : Fed) : Typ
   pub not_clean : ends_clean fed ≡ false
   pub without_fault : lines_fault (text_setting t limit) [] 1 (map (line_read Text) told) ≡ None
   pub checker_stands : checking.Stands (text_setting t limit) p.checker (with_lines Text (map (line_read Text) told) [])
+
+-- the lines of these bytes were all taken
+pub record IsEnded (t : Treatment) (limit : ℕ) (fed : List ℕ) (e : PageEnd) : Type 0 where
+  pub line : e.line ≡ 1 + length (lines_of fed)
+  pub clean : e.clean ≡ ends_clean fed
+  pub without_fault : lines_fault (text_setting t limit) [] 1 (map (line_read Text) (lines_of fed)) ≡ None
+  pub checker_stands : checking.Stands (text_setting t limit) e.checker (with_lines Text (map (line_read Text) (lines_of fed)) [])
+
+-- what is answered to the last of the lines: all are taken, or the first fault; want of memory is free
+abbrev pub EndAnswer : Treatment → ℕ → List ℕ → Result PageEnd PageFault → Type 0
+EndAnswer t limit fed (Ok e) = IsEnded t limit fed e
+EndAnswer t limit fed (Err (faults.Refused line rule)) = FirstFault (text_setting t limit) fed (line, rule)
+EndAnswer t limit fed (Err faults.Memory) = ⊤
+
+-- the page of these bytes has so many families and samples
+pub record HasCounts (st : Setting) (fed : List ℕ) (counts : PageCounts) : Type 0 where
+  pub page : Page
+  pub is_page : IsPageOf st fed page
+  pub counted : counts ≡ counts_of page
+
+-- what counting answers: the numbers of the page, or its first fault; want of memory is free
+abbrev pub CountAnswers : Setting → List ℕ → Result PageCounts PageFault → Type 0
+CountAnswers st fed (Ok counts) = HasCounts st fed counts
+CountAnswers st fed (Err (faults.Refused line rule)) = FirstFault st fed (line, rule)
+CountAnswers st fed (Err faults.Memory) = ⊤

@@ -11,7 +11,7 @@ use crate::line::{LineRead, text_line};
 use family_rules::Checker;
 use label_sets::{Label, Memory};
 use page_lines::{Last, Lines, Step};
-use page_model::{Format, Page, PageFault, Rule, Treatment};
+use page_model::{Format, Page, PageCounts, PageFault, Rule, Treatment};
 use std::alloc::Global;
 use std::marker::Model;
 
@@ -28,6 +28,15 @@ pub struct TextPage {
     labels: Vec<Label>,
     /// The first refusal, or want of memory.
     stopped: Option<PageFault>,
+}
+
+/// The lines of a page, all taken: the checker that took them, the line past the last, and whether the page is
+/// empty or ends with a line feed.
+#[derive(Drop)]
+pub struct PageEnd {
+    checker: Checker,
+    line: u32,
+    clean: bool,
 }
 
 impl Model for TextPage {
@@ -56,7 +65,7 @@ fn line_limit(treatment: Treatment) -> u32
 }
 
 impl TextPage {
-    ghost use Rattle.text_grammar.specs.PageFeeding.{Stands, HasStopped, TakesLine, TakesStep, PieceAnswer, AtLast, Answers};
+    ghost use Rattle.text_grammar.specs.PageFeeding.{Stands, HasStopped, TakesLine, TakesStep, PieceAnswer, AtLast, EndAnswer, Answers, CountAnswers};
 
     /// A reader that was fed nothing. `limit` is the most samples that the page may have.
     pub fn new(alloc: Global, treatment: Treatment, limit: u32) -> Result<TextPage, Memory>
@@ -171,17 +180,37 @@ impl TextPage {
         }
     }
 
-    /// Reads the last line, which has no line feed, and answers its fault or that of the end.
-    fn read_last(self) -> Result<Page, PageFault>
-        ensures { (t : AnyTreatment) (limit : ℕ) (fed : List ℕ) → AtLast t limit fed self → Answers (text_setting t limit) fed result }
+    /// Takes the last line, which has no line feed.
+    fn read_last(self) -> Result<PageEnd, PageFault>
+        ensures { (t : AnyTreatment) (limit : ℕ) (fed : List ℕ) → AtLast t limit fed self → EndAnswer t limit fed result }
     {
         let mut page = self;
         match page.read_line() {
-            Ok(()) => {
-                let line = page.lines.number().saturating_add(1);
-                page.checker.close(line, false)
-            }
+            Ok(()) => Ok(PageEnd {
+                line: page.lines.number().saturating_add(1),
+                checker: page.checker,
+                clean: false,
+            }),
             Err(fault) => Err(fault),
+        }
+    }
+
+    /// Takes what is left of the lines. An earlier refusal, or want of memory, is answered again.
+    fn end(self) -> Result<PageEnd, PageFault>
+        ensures answer { (t : AnyTreatment) (limit : ℕ) (fed : List ℕ) → Stands t limit fed self → EndAnswer t limit fed result }
+        ensures stopped { (fault : AnyFault) → HasStopped fault self → result ≡ Err fault }
+    {
+        if let Some(fault) = self.stopped {
+            return Err(fault);
+        }
+        let mut page = self;
+        match page.lines.finish() {
+            Last::Clean => Ok(PageEnd {
+                line: page.lines.number(),
+                checker: page.checker,
+                clean: true,
+            }),
+            Last::Open => page.read_last(),
         }
     }
 
@@ -191,16 +220,20 @@ impl TextPage {
         ensures answer { (t : AnyTreatment) (limit : ℕ) (fed : List ℕ) → Stands t limit fed self → Answers (text_setting t limit) fed result }
         ensures stopped { (fault : AnyFault) → HasStopped fault self → result ≡ Err fault }
     {
-        if let Some(fault) = self.stopped {
-            return Err(fault);
+        match self.end() {
+            Ok(end) => end.checker.close(end.line, end.clean),
+            Err(fault) => Err(fault),
         }
-        let mut page = self;
-        match page.lines.finish() {
-            Last::Clean => {
-                let line = page.lines.number();
-                page.checker.close(line, true)
-            }
-            Last::Open => page.read_last(),
+    }
+
+    /// Ends the page as `finish` does, and answers how many families and samples it has: no page is made.
+    pub fn count(self) -> Result<PageCounts, PageFault>
+        ensures answer { (t : AnyTreatment) (limit : ℕ) (fed : List ℕ) → Stands t limit fed self → CountAnswers (text_setting t limit) fed result }
+        ensures stopped { (fault : AnyFault) → HasStopped fault self → result ≡ Err fault }
+    {
+        match self.end() {
+            Ok(end) => end.checker.count(end.line, end.clean),
+            Err(fault) => Err(fault),
         }
     }
 }

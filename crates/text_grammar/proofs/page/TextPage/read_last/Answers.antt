@@ -1,4 +1,4 @@
-use Rattle.std.proofs.Common.{◌≡◌, ◌+◌, sym, subst, ap, ◌∙◌, arith, length}
+use Rattle.std.proofs.Common.{◌≡◌, ◌+◌, ap, ◌∙◌, arith, length, false, refl}
 use Rattle.page_lines.specs.Feeding.{Feeding}
 use Rattle.family_rules.specs.Checking.{Checking}
 use Rattle.family_rules.specs.Checking as checking
@@ -8,12 +8,10 @@ use Rattle.text_grammar.proofs.page.TextPage.read_last.Goals as goal
 
 pub returns-in-Ok : goal.returns-in-Ok
 returns-in-Ok c = λ t limit fed a.
-    let same = ap (λ (x : Fed). x.checker) (sym c.page.view_is) in
+    let same = ap (λ (x : Fed). x.checker) c.page.view_is in
     let number : c.number.result ≡ 1 + length a.told = c.number.ensures ∙ ap (λ (x : Fed). x.lines.number) c.page.view_is ∙ ap (λ (x : Feeding). x.number) c.in-Ok.ensures.lines ∙ a.number in
-    let next : c.saturating_add-line.result ≡ 1 + (length a.told + 1) = omega (arith, c.saturating_add-line.ensures, number, a.few) in
-    last-taken t limit fed c.args.self c.read_line.new.self a c.in-Ok.field-0 c.in-Ok.ensures c.saturating_add-line.result next c.close.result
-    (λ st earlier h. c.close.ensures.answer st earlier (subst (λ (x : Checking). checking.Stands st x earlier) same h))
-    (λ st earlier h. c.close.ensures.page st earlier (subst (λ (x : Checking). checking.Stands st x earlier) same h))
+    let next : c.saturating_add.result ≡ 1 + (length a.told + 1) = omega (arith, c.saturating_add.ensures, number, a.few) in
+    last-taken t limit fed c.args.self c.read_line.new.self a c.in-Ok.field-0 c.in-Ok.ensures (record { checker = c.page.inside.checker; line = c.saturating_add.result; clean = false }) same next refl
 
 pub returns-in-Err : goal.returns-in-Err
 returns-in-Err c = λ t limit fed a. last-refused t limit fed c.args.self c.read_line.new.self a c.in-Err.fault c.in-Err.ensures
