@@ -1,6 +1,6 @@
-use Rattle.std.proofs.Common.{sym, ap, subst, ◌∙◌, ◌≡◌, ◌<◌, ◌+◌, length, get_or, [], IsUtf8, List, ℕ, rules}
+use Rattle.std.proofs.Common.{sym, ap, subst, ◌∙◌, ◌≡◌, ◌<◌, length, [], IsUtf8, rules}
 use Rattle.packed_keys.specs.declared.sample_key.SampleKey.{SampleKey}
-use Rattle.packed_keys.specs.Packing.{part_at, labels_in, key_at}
+use Rattle.packed_keys.specs.Packing.{labels_in, key_at}
 use Rattle.packed_keys.specs.Texts.{IsPackedKey, IsPackedSet}
 use Rattle.packed_keys.proofs.Seen.{labels_packed, key_read, name_text, next_key}
 use Rattle.packed_keys.proofs.keys.Keys.next.Goals as goal
