@@ -1,8 +1,11 @@
 //! The hashes of byte strings.
 ghost use Rattle.std.specs.Prelude.{◌≡◌};
-ghost use Rattle.byte_table.specs.Hashes.{hash_of, second_hash};
+ghost use Rattle.byte_table.specs.Hashes.{both_hashes, hash_of};
 
 use std::hash::{FoldHasher, Hasher};
+
+/// How many values a hash has.
+const HASHES: u128 = 1 << 64;
 
 /// The low half of the hash of bytes.
 #[tactic(auto, unfolding(crate::specs::Hashes::hash_of))]
@@ -14,13 +17,15 @@ pub(crate) fn hash_of(bytes: &[u8]) -> u32
     (state.finish() & 0xffff_ffff) as u32
 }
 
-/// Another hash of bytes: bytes that share the first seldom share it.
-#[tactic(auto, unfolding(crate::specs::Hashes::second_hash))]
-pub(crate) fn second_hash(bytes: &[u8]) -> u64
-    ensures { result ≡ second_hash bytes.now }
+/// Two hashes of bytes as one number.
+#[tactic(auto, unfolding(crate::specs::Hashes::both_hashes))]
+pub(crate) fn both_hashes(bytes: &[u8]) -> u128
+    ensures { result ≡ both_hashes bytes.now }
 {
-    let mut state = FoldHasher::default();
-    state.write(b"second");
-    state.write(bytes);
-    state.finish()
+    let mut first = FoldHasher::default();
+    first.write(bytes);
+    let mut second = FoldHasher::default();
+    second.write(b"second");
+    second.write(bytes);
+    u128::from(first.finish()) * HASHES + u128::from(second.finish())
 }

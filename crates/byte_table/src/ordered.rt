@@ -4,16 +4,16 @@ ghost use Rattle.std.specs.List.{list_any};
 ghost use Rattle.std.specs.Str.{bytes_eq};
 ghost use Rattle.byte_table.specs.Hashes.{hash_of};
 
-use crate::hashes::second_hash;
+use crate::hashes::both_hashes;
 use crate::strings::Strings;
 use std::alloc::{AllocError, Global};
 use std::collections::BTreeMap;
 
-/// Where strings stand: one of each second hash by that hash alone, so that mostly numbers are compared, and the
+/// Where strings stand: one of those that share both hashes by these alone, so that numbers are compared, and the
 /// others by their bytes.
 #[derive(Drop)]
 pub(crate) struct Ordered {
-    pub(crate) firsts: BTreeMap<u64, u32>,
+    pub(crate) firsts: BTreeMap<u128, u32>,
     pub(crate) others: BTreeMap<Vec<u8>, u32>,
 }
 
@@ -47,8 +47,8 @@ impl Ordered {
         requires { Finds self.now strings.now }
         ensures { MatchOption result (list_any (bytes_eq string.now) strings.now ≡ false) (λ at. slice_get strings.now at ≡ Some string.now) }
     {
-        let hash = second_hash(string);
-        let first = *self.firsts.get(&hash)? as usize;
+        let hashes = both_hashes(string);
+        let first = *self.firsts.get(&hashes)? as usize;
         if string == strings.at(first) {
             return Some(first);
         }
@@ -61,12 +61,12 @@ impl Ordered {
         ensures added { OnOk result ((strings : List (List ℕ)) → at ≡ length strings → Finds self.old strings → Finds self.new (strings ++ string.now ∷ [])) }
         ensures same { OnErr result ((strings : List (List ℕ)) → Finds self.old strings → Finds self.new strings) }
     {
-        let hash = second_hash(string);
-        if self.firsts.contains_key(&hash) {
+        let hashes = both_hashes(string);
+        if self.firsts.contains_key(&hashes) {
             let key = Vec::from_slice(alloc, string)?;
             self.others.insert(key, at)?;
         } else {
-            self.firsts.insert(hash, at)?;
+            self.firsts.insert(hashes, at)?;
         }
         Ok(())
     }

@@ -78,7 +78,8 @@ fn a_table_goes_over_where_hashes_collide(rt: HostRuntime) -> Result<(), Fail> {
 #[test]
 fn a_table_answers_where_both_hashes_collide(rt: HostRuntime) -> Result<(), Fail> {
     let table = forty(rt.alloc(), &SAME_HASHES)?;
-    assert!(rt; table.ordered.is_some());
+    let others = table.ordered.as_ref().map(|ordered| ordered.others.len());
+    assert_eq!(rt; others, Some(39));
     assert_eq!(rt; table.len(), 40);
     assert_eq!(rt; found(rt.alloc(), &table, &SAME_HASHES)?, 40);
     Ok(())
