@@ -2,15 +2,12 @@
 //! ends with the status that comes back.
 #![tactic(auto)]
 
-use bridge_cli::bridge;
+use bridge_cli::{Status, bridge};
 use bridge_ports::std_edge::{StdSink, StdSource};
 use std::alloc::{AllocError, Global};
 use std::env::{self, Args};
 use std::io::ErrorKind;
 use std::process::ExitCode;
-
-/// The status of want of memory.
-const WANT_OF_MEMORY: u8 = 6;
 
 /// The words behind the program's own name.
 fn words_of(alloc: Global, args: Args) -> Result<Vec<String>, AllocError> {
@@ -29,7 +26,7 @@ fn main(rt: HostRuntime) -> ExitCode {
         Err(_) => Ok(Vec::new(rt.alloc())),
     };
     let Ok(words) = words else {
-        return ExitCode::from(WANT_OF_MEMORY);
+        return ExitCode::from(Status::WantOfMemory.code());
     };
     let mut input = StdSource::new(rt.stdin());
     let mut output = StdSink::new(rt.stdout());

@@ -1,4 +1,7 @@
 mod WordLaws
+mod PlaceLaws
 mod IoLaws
-mod ReadLaws
+mod PageLaws
+mod PageAnswerLaws
+mod CommandLaws
 mod AnswerLaws

@@ -1,17 +1,17 @@
 -- Words: decimal numbers, the last colon of an instance, and what the words of a conversion hold.
-use Rattle.std.proofs.Common.{◌≡◌, ◌≢◌, ℕ, suc, ◌+◌, ◌-◌, ◌^◌, ◌<◌, ◌≤◌, Bool, true, false, not, eqb, List, [], ◌∷◌, ◌++◌, map, length, get_or, take, drop, Result, Ok, Err, refl, sym, ap, subst, ◌∙◌, inl, inr, arith, length-append}
+use Rattle.std.proofs.Common.{◌≡◌, ◌≢◌, ℕ, suc, ◌+◌, ◌-◌, ◌^◌, ◌<◌, ◌≤◌, Bool, true, false, not, eqb, List, [], ◌∷◌, ◌++◌, map, length, get_or, take, drop, Result, Ok, Err, refl, sym, ap, ◌∙◌, inl, inr, arith, length-append}
 use Rattle.std.specs.Prelude.{codes, OnErr, slice_range}
 use Rattle.std.specs.Fmt.{decimal}
 use Rattle.std.specs.Str.Parse.{ParsesUnsigned}
 use Rattle.std.proofs.lemmas.Bool.{cases_order, eqb-false, not-true, not-false, true≢false}
-use Rattle.std.proofs.lemmas.Fmt.{parse-decimal, decimal_is_IsNumeral, decimal_injective}
+use Rattle.std.proofs.lemmas.Fmt.{parse-decimal, decimal_is_IsNumeral}
 use Rattle.std.proofs.lemmas.Str.Parse.{digit_at}
 use Rattle.std.proofs.lemmas.List.{get_or-append-add, get_or_at, take_at, drop_at, drop-drop}
 use Rattle.std.proofs.lemmas.Slice.Eq.{bytes_eq-Decides}
 use Rattle.std.specs.Str.{bytes_eq}
-use Rattle.bridge_cli.specs.CommandWords.{IsPlace, IsCommand, words_of}
-use Rattle.bridge_cli.specs.declared.words.Command.{Command}
-use Rattle.bridge_cli.specs.declared.words.Command.TheVariants.{Help, Version, CheckText, ConvertText}
+use Rattle.bridge_cli.specs.Limits.{most_job, most_nanos}
+use Rattle.bridge_cli.specs.CommandWords.{IsPlace, IsCommand}
+use Rattle.bridge_cli.specs.declared.words.Command.TheVariants.{ConvertText}
 
 -- a text that isn't read as a number is no number's
 pub unread : {E : Type 0} (bs : List ℕ) (r : Result ℕ E) (fault : E) → ParsesUnsigned 64 10 bs r → r ≡ Err fault → (most : ℕ) → most < 2 ^ 64 → (n : ℕ) → n ≤ most → bs ≢ decimal n
@@ -26,7 +26,7 @@ decimal_colon : (n k : ℕ) → n < 2 ^ 64 → k < length (decimal n) → get_or
 decimal_colon n k small inside colon = let digit = digit_at (decimal n) k (decimal_is_IsNumeral n small).0.1 inside in omega (arith, digit.0, digit.1)
 
 -- behind the colon before the port stands none
-behind_colon : (instance host : List ℕ) (port i : ℕ) → port < 2 ^ 64 → instance ≡ host ++ 58 ∷ decimal port → length host < i → i < length instance → get_or instance i 0 ≢ 58
+pub behind_colon : (instance host : List ℕ) (port i : ℕ) → port < 2 ^ 64 → instance ≡ host ++ 58 ∷ decimal port → length host < i → i < length instance → get_or instance i 0 ≢ 58
 behind_colon instance host port i small text behind inside is =
     let k = i - length host - 1 in
     let at : i ≡ length host + suc k = omega arith in
@@ -35,7 +35,7 @@ behind_colon instance host port i small text behind inside is =
     decimal_colon port k small (omega (arith, ap (length {A = ℕ}) text, length-append host (58 ∷ decimal port))) (sym digit ∙ is)
 
 -- the colon before the port
-at_colon : (instance host : List ℕ) (port : ℕ) → instance ≡ host ++ 58 ∷ decimal port → (length host < length instance) × (get_or instance (length host) 0 ≡ 58)
+pub at_colon : (instance host : List ℕ) (port : ℕ) → instance ≡ host ++ 58 ∷ decimal port → (length host < length instance) × (get_or instance (length host) 0 ≡ 58)
 at_colon instance host port text = (
   omega (arith, ap (length {A = ℕ}) text, length-append host (58 ∷ decimal port)),
   ap (λ bs. get_or bs (length host) 0) text ∙ get_or_at host 58 (decimal port) 0 (length host) refl,
@@ -67,16 +67,6 @@ place_parts instance host port colon place last =
       ap (take colon) place.text ∙ take_at host (58 ∷ decimal port) colon (sym at),
       sym (drop-drop 1 colon instance) ∙ ap (drop 1) (ap (drop colon) place.text ∙ drop_at host (58 ∷ decimal port) colon (sym at)),
     )
-
--- an instance has one host and port
-pub same_place : (instance host other : List ℕ) (port number : ℕ) → IsPlace instance host port → IsPlace instance other number → (host ≡ other) × (port ≡ number)
-same_place instance host other port number one two =
-    let at = at_colon instance other number two.text in
-    let last : (length other < length instance) × (get_or instance (length other) 0 ≡ 58) × ((i : ℕ) → length other < i → i < length instance → get_or instance i 0 ≢ 58) =
-    (at.0, at.1, λ i behind inside. behind_colon instance other number i (omega (arith, two.high_port)) two.text behind inside) in
-    let first = place_parts instance host port (length other) one last in
-    let second = place_parts instance other number (length other) two last in
-    (sym first.0 ∙ second.0, decimal_injective port number (omega (arith, one.high_port)) (omega (arith, two.high_port)) (sym first.1 ∙ second.1))
 
 -- a place has a colon
 pub no_place : (instance host : List ℕ) (port : ℕ) → IsPlace instance host port → ((i : ℕ) → i < length instance → get_or instance i 0 ≢ 58) → ⊥
@@ -115,7 +105,7 @@ at_error (Ok x) P p = tt
 at_error (Err e) P p = p
 
 -- the words of a conversion
-pub conversion_is : (job instance time host : List ℕ) (port nanos : ℕ) → 1 ≤ length job → length job ≤ 256 → IsPlace instance host port → time ≡ decimal nanos → nanos ≤ 2 ^ 62
+pub conversion_is : (job instance time host : List ℕ) (port nanos : ℕ) → 1 ≤ length job → length job ≤ most_job → IsPlace instance host port → time ≡ decimal nanos → nanos ≤ most_nanos
     → IsCommand (codes "convert" ∷ codes "text" ∷ job ∷ instance ∷ time ∷ []) (ConvertText (record { job = job; instance = instance; host = host; port = port }) nanos)
 conversion_is job instance time host port nanos some short place e small = record {
   spelled = ap (λ t. codes "convert" ∷ codes "text" ∷ job ∷ instance ∷ t ∷ []) e;
@@ -129,34 +119,3 @@ alike a b different e is = (bytes_eq-Decides a b).0 (not-false _ (sym e ∙ is))
 -- a range from the start is a front
 pub from_start : (xs : List ℕ) (n : ℕ) → slice_range xs 0 n ≡ take n xs
 from_start xs n = let same : n - 0 ≡ n = omega arith in ap (λ k. take k xs) same
-
--- words ask for one command
-pub one_command : (words : List (List ℕ)) (c d : Command) → IsCommand words c → IsCommand words d → c ≡ d
-one_command words Help Help a b = refl
-one_command words Help Version a b = let e : words_of Help ≡ words_of Version = sym a.spelled ∙ b.spelled in cc
-one_command words Help CheckText a b = let e : words_of Help ≡ words_of CheckText = sym a.spelled ∙ b.spelled in cc
-one_command words Help (ConvertText target nanos) a b = let e : words_of Help ≡ words_of (ConvertText target nanos) = sym a.spelled ∙ b.spelled in cc
-one_command words Version Help a b = let e : words_of Version ≡ words_of Help = sym a.spelled ∙ b.spelled in cc
-one_command words Version Version a b = refl
-one_command words Version CheckText a b = let e : words_of Version ≡ words_of CheckText = sym a.spelled ∙ b.spelled in cc
-one_command words Version (ConvertText target nanos) a b = let e : words_of Version ≡ words_of (ConvertText target nanos) = sym a.spelled ∙ b.spelled in cc
-one_command words CheckText Help a b = let e : words_of CheckText ≡ words_of Help = sym a.spelled ∙ b.spelled in cc
-one_command words CheckText Version a b = let e : words_of CheckText ≡ words_of Version = sym a.spelled ∙ b.spelled in cc
-one_command words CheckText CheckText a b = refl
-one_command words CheckText (ConvertText target nanos) a b = let e : words_of CheckText ≡ words_of (ConvertText target nanos) = sym a.spelled ∙ b.spelled in cc
-one_command words (ConvertText target nanos) Help a b = let e : words_of (ConvertText target nanos) ≡ words_of Help = sym a.spelled ∙ b.spelled in cc
-one_command words (ConvertText target nanos) Version a b = let e : words_of (ConvertText target nanos) ≡ words_of Version = sym a.spelled ∙ b.spelled in cc
-one_command words (ConvertText target nanos) CheckText a b = let e : words_of (ConvertText target nanos) ≡ words_of CheckText = sym a.spelled ∙ b.spelled in cc
-one_command words (ConvertText target nanos) (ConvertText other time) a b =
-    let e : words_of (ConvertText target nanos) ≡ words_of (ConvertText other time) = sym a.spelled ∙ b.spelled in
-    let job : target.job ≡ other.job = cc in
-    let instance : target.instance ≡ other.instance = cc in
-    let number : decimal nanos ≡ decimal time = cc in
-    let Placed : List ℕ → Type 0 = λ i. IsPlace i other.host other.port in
-    let place = same_place target.instance target.host other.host target.port other.port a.limits.0.place (subst Placed (sym instance) b.limits.0.place) in
-    let nanos_same = decimal_injective nanos time (omega (arith, a.limits.1)) (omega (arith, b.limits.1)) number in
-    let host : target.host ≡ other.host = place.0 in
-    let port : target.port ≡ other.port = place.1 in
-    let same : record { job = target.job; instance = target.instance; host = target.host; port = target.port } ≡ record { job = other.job; instance = other.instance; host = other.host; port = other.port } = cc in
-    let target_same : target ≡ other = same in
-    ap (λ t. ConvertText t nanos) target_same ∙ ap (ConvertText other) nanos_same

@@ -1,3 +1,13 @@
+pub mod Limits
+pub mod Statuses
 pub mod CommandWords
 pub mod Inputs
+pub mod Stops
+pub mod HelpTexts
+pub mod PageAnswers
+pub mod PageInputs
+pub mod CheckTexts
+pub mod ConvertTexts
+pub mod Answers
 pub mod ProgramOutputs
+pub mod StopAnswers

@@ -1,15 +1,20 @@
 //! The program over any input and output: its words, the page that it reads, and what it prints.
 #![tactic(auto)]
 
-mod answers;
-mod input;
+mod answer;
+mod commands;
+mod digits;
+mod limits;
 mod output;
 mod pages;
 mod program;
+mod status;
 mod stop;
 mod words;
 
-pub use program::{HELP, VERSION, bridge};
+pub use commands::{HELP, VERSION};
+pub use program::bridge;
+pub use status::Status;
 pub use words::Command;
 
 #[cfg(test)]

@@ -1,15 +1,16 @@
 //! A text that is written whole.
-ghost use Rattle.std.specs.Prelude.{◌≡◌, ◌++◌, ℕ, List, take, length, ◌≤◌, ◌-◌, OnOk, OnErr};
+ghost use Rattle.std.specs.Prelude.{◌≡◌, [], OnOk, OnErr};
 ghost use Rattle.std.specs.Io.KnownBytes.{Appends};
 ghost use Rattle.bridge_ports.specs.Causes.{HasCause};
-ghost use Rattle.bridge_cli.specs.Inputs.{WroteFront};
+ghost use Rattle.bridge_cli.specs.ProgramOutputs.{WroteFront};
 
 use bridge_ports::{Failed, Sink};
 
-/// Writes a text whole; where a write fails, a front of it was written.
+/// Writes a text whole; where a write fails, a front of it was written. Nothing is written of an empty text.
 pub(crate) fn write_all<O: Sink>(output: &mut O, text: &[u8]) -> Result<(), Failed>
     ensures whole { OnOk result (Appends (O.held output.old) (O.held output.new) text.now) }
     ensures front { OnErr result (WroteFront (O.held output.old) (O.held output.new) text.now) }
+    ensures empty { text.now ≡ [] → output.new ≡ output.old }
     ensures cause { HasCause (O.write_faults output.old) (O.write_faults output.new) result }
 {
     let mut at = 0usize;

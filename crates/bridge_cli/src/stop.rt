@@ -1,17 +1,41 @@
-//! Why a command ends without an answer.
+//! Why a command ends without its text.
 ghost use Rattle.std.specs.Prelude.{◌≡◌};
 ghost use Rattle.bridge_cli.specs.declared.stop.Stop.TheVariants.{Memory, Read};
+ghost use Rattle.bridge_cli.specs.Stops.{stop_status, stop_of};
 
+use crate::status::Status;
 use bridge_ports::Failed;
+use page_model::{PageFault, Rule};
 use std::alloc::AllocError;
 
-/// Why a command ends without an answer.
+/// Why a command ends without its text.
 #[derive(Clone, Copy, Debug, PartialEq, Eq)]
 pub(crate) enum Stop {
-    /// Memory is wanted.
-    Memory,
+    /// The words fit no form of the command line.
+    NoForm,
+    /// The page on the input has a fault: its line, and the rule that it breaks.
+    Refused { line: u32, rule: Rule },
+    /// The input is too long.
+    TooLong,
     /// A read failed.
     Read,
+    /// Memory is wanted.
+    Memory,
+}
+
+impl Stop {
+    /// The status that the program ends with.
+    pub(crate) fn status(self) -> Status
+        ensures { result ≡ stop_status self }
+    {
+        match self {
+            Stop::NoForm => Status::NoForm,
+            Stop::Refused { .. } => Status::Refused,
+            Stop::TooLong => Status::TooLong,
+            Stop::Read => Status::ReadFailed,
+            Stop::Memory => Status::WantOfMemory,
+        }
+    }
 }
 
 impl From<AllocError> for Stop {
@@ -19,5 +43,24 @@ impl From<AllocError> for Stop {
 
     fn from(_: AllocError) -> Stop {
         Stop::Memory
+    }
+}
+
+impl From<Failed> for Stop {
+    ghost from_gives = { λ _ stop. stop ≡ Read };
+
+    fn from(_: Failed) -> Stop {
+        Stop::Read
+    }
+}
+
+impl From<PageFault> for Stop {
+    ghost from_gives = { λ fault stop. stop ≡ stop_of fault };
+
+    fn from(fault: PageFault) -> Stop {
+        match fault {
+            PageFault::Refused { line, rule } => Stop::Refused { line, rule },
+            PageFault::Memory => Stop::Memory,
+        }
     }
 }

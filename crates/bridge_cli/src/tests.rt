@@ -286,18 +286,28 @@ fn help_and_version(rt: HostRuntime) {
     assert!(rt; version.output.held() == b"bridge 0.1.0\n".as_slice());
 }
 
-#[test]
-fn failed_read_prints_nothing(rt: HostRuntime) {
-    let run = run(rt.alloc(), &CONVERT, PAGE, Some(2), ROOM).expect(&rt, "memory");
-    assert_eq!(rt; run.status, 3);
-    assert!(rt; run.output.held() == b"".as_slice());
-}
+const FAULTY: &[u8] = b"x 1\nx y\n";
+
+// Pages, the read of each that fails, the room of the output, and the status and output of their check. The
+// first read takes the page and the second finds its end, so the third is never made.
+const FAILING: [(&[u8], u64, u64, u8, &str); 7] = [
+    (PAGE, 1, ROOM, 3, ""),
+    (PAGE, 2, ROOM, 3, ""),
+    (PAGE, 3, ROOM, 0, "ok 1 families 1 samples\n"),
+    // A failed read goes before a fault of the page.
+    (FAULTY, 2, ROOM, 3, ""),
+    (FAULTY, 3, ROOM, 1, "refused line 2 rule 4 Syntax\n"),
+    (PAGE, 3, 0, 4, ""),
+    (FAULTY, 3, 10, 4, "refused li"),
+];
 
 #[test]
-fn failed_write_leaves_a_front(rt: HostRuntime) {
-    let run = run(rt.alloc(), &CONVERT, PAGE, None, 10).expect(&rt, "memory");
-    assert_eq!(rt; run.status, 4);
-    assert!(rt; run.output.held() == b"{\"resource".as_slice());
+fn failing_reads_and_writes(rt: HostRuntime) {
+    for (page, bad_read, room, status, text) in &FAILING {
+        let run = run(rt.alloc(), &CHECK, page, Some(*bad_read), *room).expect(&rt, "memory");
+        assert_eq!(rt; run.status, *status, "{bad_read} {room}");
+        assert!(rt; run.output.held() == text.as_bytes(), "{bad_read} {room}");
+    }
 }
 
 /// An input that gives a byte at each read.

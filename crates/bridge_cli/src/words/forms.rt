@@ -1,16 +1,13 @@
 //! The forms of the command line.
 ghost use Rattle.std.specs.Prelude.{◌≡◌, List, ℕ, [], ◌∷◌, map, codes, string_bytes, IfOk, IfSome, IfNone, OnErr};
-ghost use Rattle.bridge_cli.specs.CommandWords.{IsCommand, FitNoForm, AskForPage};
+ghost use Rattle.bridge_cli.specs.CommandWords.{IsCommand, FitNoForm, AskFor, takes_memory};
 
 use super::Command;
 use super::numbers::number;
 use super::place::host_and_port;
+use crate::limits::{MOST_JOB_BYTES, MOST_NANOS};
 use std::alloc::{AllocError, Global};
 use target_core::Target;
-
-const MOST_JOB_BYTES: usize = 256;
-
-const MOST_NANOS: u64 = 1 << 62;
 
 /// The command that one word asks for.
 fn lone_word(word: &str) -> Option<Command>
@@ -48,7 +45,7 @@ fn conversion(
         (IsCommand (codes "convert" ∷ codes "text" ∷ job.now ∷ instance.now ∷ time.now ∷ []))) }
     ensures none { IfOk result (λ found. IfNone found
         (FitNoForm (codes "convert" ∷ codes "text" ∷ job.now ∷ instance.now ∷ time.now ∷ []))) }
-    ensures memory { OnErr result (AskForPage
+    ensures memory { OnErr result (AskFor takes_memory
         (codes "convert" ∷ codes "text" ∷ job.now ∷ instance.now ∷ time.now ∷ [])) }
 {
     if job.is_empty() {
@@ -73,7 +70,7 @@ fn conversion(
 pub(crate) fn command(alloc: Global, words: &[String]) -> Result<Option<Command>, AllocError>
     ensures found { IfOk result (λ found. IfSome found (IsCommand (map string_bytes words.now))) }
     ensures none { IfOk result (λ found. IfNone found (FitNoForm (map string_bytes words.now))) }
-    ensures memory { OnErr result (AskForPage (map string_bytes words.now)) }
+    ensures memory { OnErr result (AskFor takes_memory (map string_bytes words.now)) }
 {
     match words {
         [word] => Ok(lone_word(word.as_str())),

@@ -4,10 +4,7 @@ ghost use Rattle.std.specs.List.{list_all};
 ghost use Rattle.bridge_cli.specs.CommandWords as spec;
 
 use super::numbers::number;
-
-const MOST_HOST_BYTES: usize = 255;
-
-const MOST_PORT: u64 = 65_535;
+use crate::limits::{MOST_HOST_BYTES, MOST_PORT};
 
 /// A host and a port.
 #[derive(Clone, Copy)]

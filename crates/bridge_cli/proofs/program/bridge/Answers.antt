@@ -1,20 +1,20 @@
-use Rattle.std.proofs.Common.{map}
-use Rattle.std.specs.Prelude.{string_bytes, codes}
-use Rattle.bridge_cli.proofs.AnswerLaws.{no_form_answer, printed_whole, printed_front, only_answer}
+use Rattle.bridge_cli.proofs.CommandLaws.{is_no_form}
+use Rattle.bridge_cli.proofs.AnswerLaws.{is_status, only_answer, form_told, printed_whole, printed_through}
 use Rattle.bridge_cli.proofs.program.bridge.Goals as goal
 
-pub returns-in-Ok-Some-clause-only_answer : goal.returns-in-Ok-Some-clause-only_answer
-returns-in-Ok-Some-clause-only_answer g c = λ done. only_answer _ _ _ _ _ (c.run.ensures.answered done (map string_bytes c.args.words.now) (rw c.in-Ok-Some.field-0-is at c.in-Ok-Some.ensures.found))
+pub returns-clause-statuses : goal.returns-clause-statuses
+returns-clause-statuses g c = is_status _ _ c.print.ensures.statuses
 
-pub returns-in-Ok-None-clause-answered : goal.returns-in-Ok-None-clause-answered
-returns-in-Ok-None-clause-answered g c =
-    printed_whole _ _ _ _ 2 _ (codes "words\n") (no_form_answer _ _ (rw c.in-Ok-None.field-0-is at c.in-Ok-None.ensures.none)) c.print.ensures.statuses c.print.ensures.whole
+pub returns-clause-answered : goal.returns-clause-answered
+returns-clause-answered g c = printed_whole _ _ _ _ c.answer-answer.result.status _ _ c.answer-answer.ensures.told c.print.ensures.statuses c.print.ensures.whole
 
-pub returns-in-Ok-None-clause-cut_off : goal.returns-in-Ok-None-clause-cut_off
-returns-in-Ok-None-clause-cut_off g c = λ failed.
-    printed_front _ _ _ _ 2 (codes "words\n") (no_form_answer _ _ (rw c.in-Ok-None.field-0-is at c.in-Ok-None.ensures.none)) (c.print.ensures.front failed)
+pub returns-clause-only_answer : goal.returns-clause-only_answer
+returns-clause-only_answer g c = λ told. only_answer _ _ _ _ _ (returns-clause-answered g c told)
 
-pub returns-in-Ok-None-clause-only_answer : goal.returns-in-Ok-None-clause-only_answer
-returns-in-Ok-None-clause-only_answer g c = λ done.
-    only_answer _ _ _ _ _
-    (printed_whole _ _ _ _ 2 _ (codes "words\n") (no_form_answer _ _ (rw c.in-Ok-None.field-0-is at c.in-Ok-None.ensures.none)) c.print.ensures.statuses c.print.ensures.whole done)
+pub returns-clause-no_form : goal.returns-clause-no_form
+returns-clause-no_form g c = λ e. let a = returns-clause-answered g c (form_told _ e) in is_no_form _ a.answer.bytes _ a.text a.answer.says e
+
+pub returns-clause-read_through : goal.returns-clause-read_through
+returns-clause-read_through g c = λ asks.
+    printed_through _ _ _ c.answer-answer.result.status _ _ c.answer-answer.ensures.statuses (c.answer-answer.ensures.read_through asks) c.answer-answer.ensures.untold c.print.ensures.statuses
+    c.print.ensures.front

@@ -1,0 +1,79 @@
+-- The laws that have a line for each command, and what follows: words ask for one command, and there is one answer.
+use Rattle.std.proofs.Common.{◌≡◌, ◌≢◌, ℕ, true, cond, List, [], ◌∷◌, Option, Some, None, refl, sym, ap, subst, ◌∙◌, arith}
+use Rattle.std.specs.Prelude.{codes, bytes_eq, IsSome}
+use Rattle.std.specs.Fmt.{decimal}
+use Rattle.std.specs.Str.Parse.{digits_value}
+use Rattle.std.proofs.lemmas.Fmt.{decimal_is_IsNumeral}
+use Rattle.bridge_cli.specs.declared.status.Status.TheVariants.{NoForm}
+use Rattle.bridge_cli.specs.declared.words.Command.{Command}
+use Rattle.bridge_cli.specs.declared.words.Command.TheVariants.{Help, Version, CheckText, ConvertText}
+use Rattle.bridge_cli.specs.Statuses.{code_of}
+use Rattle.bridge_cli.specs.CommandWords.{words_of, IsInLimits, IsCommand, FitNoForm, AskFor, reads_page}
+use Rattle.bridge_cli.specs.Inputs.{IsInput}
+use Rattle.bridge_cli.specs.CheckTexts.{checked_text}
+use Rattle.bridge_cli.specs.ConvertTexts.{converted_text}
+use Rattle.bridge_cli.specs.Answers.{Answers, IsAnswer, no_form, answers}
+use Rattle.bridge_cli.proofs.PlaceLaws.{target_of, told_target}
+use Rattle.bridge_cli.proofs.PageAnswerLaws.{AreSame, fixed_once, fixed_form, page_once_at, page_form}
+
+-- ---- a line for each command
+
+-- the command of one word
+abbrev lone_command : List ℕ → Command
+lone_command word = cond (bytes_eq word (codes "--version")) Version Help
+
+-- the command whose words these are, if they are those of one
+abbrev told_by : List (List ℕ) → Command
+told_by (word ∷ []) = lone_command word
+told_by (verb ∷ format ∷ []) = CheckText
+told_by (verb ∷ format ∷ job ∷ instance ∷ time ∷ []) = ConvertText (target_of job instance) (digits_value 10 time)
+told_by _ = Help
+
+-- the words of a command tell it
+told : (command : Command) → IsInLimits command → told_by (words_of command) ≡ command
+told Help limits = refl
+told Version limits = refl
+told CheckText limits = refl
+told (ConvertText target nanos) limits =
+    ap (λ t. ConvertText t (digits_value 10 (decimal nanos))) (told_target target limits.0) ∙ ap (ConvertText target) (decimal_is_IsNumeral nanos (omega (arith, limits.1))).1
+
+-- a command has one answer; where it reads nothing, to all bytes
+command_once : (command : Command) (bytes others : List ℕ) (s r : ℕ) (t u : List ℕ) → (reads_page command ≡ true → bytes ≡ others) → Answers command bytes s t → Answers command others r u
+    → AreSame s r t u
+command_once Help bytes others s r t u same a b = fixed_once _ s r t u a b
+command_once Version bytes others s r t u same a b = fixed_once _ s r t u a b
+command_once CheckText bytes others s r t u same a b = page_once_at checked_text bytes others s r t u (same refl) a b
+command_once (ConvertText target nanos) bytes others s r t u same a b = page_once_at (converted_text target nanos) bytes others s r t u (same refl) a b
+
+-- a command doesn't answer that the words fit no form
+command_form : (command : Command) (bytes : List ℕ) (status : ℕ) (text : List ℕ) → Answers command bytes status text → status ≢ code_of NoForm
+command_form Help bytes status text says e = fixed_form _ status text says e
+command_form Version bytes status text says e = fixed_form _ status text says e
+command_form CheckText bytes status text says e = page_form _ _ bytes status text says e
+command_form (ConvertText target nanos) bytes status text says e = page_form _ _ bytes status text says e
+
+-- ---- what follows
+
+-- words ask for one command
+pub one_command : (words : List (List ℕ)) (c d : Command) → IsCommand words c → IsCommand words d → c ≡ d
+one_command words c d a b = sym (told c a.limits) ∙ ap told_by (sym a.spelled ∙ b.spelled) ∙ told d b.limits
+
+-- words have one answer
+pub one_answer : (words : List (List ℕ)) (bytes others : List ℕ) (s r : ℕ) (t u : List ℕ) → (AskFor reads_page words → bytes ≡ others) → IsAnswer words bytes s t → IsAnswer words others r u
+    → AreSame s r t u
+one_answer words bytes others s r t u same (no_form none) (no_form none2) = (refl, refl)
+one_answer words bytes others s r t u same (no_form none) (answers command r2 u2 is b) = absurd (none command is)
+one_answer words bytes others s r t u same (answers command s2 t2 is a) (no_form none) = absurd (none command is)
+one_answer words bytes others s r t u same (answers command s2 t2 is a) (answers other r2 u2 is2 b) =
+    let At : Command → Type 0 = λ c. Answers c bytes s t in
+    command_once other bytes others s r t u (λ reads. same (other, is2, reads)) (subst At (one_command words command other is is2) a) b
+
+-- what an input tells is one
+pub same_input : (left : Option (List ℕ)) (bytes others : List ℕ) → IsSome left → IsInput left bytes → IsInput left others → bytes ≡ others
+same_input None bytes others told a b = cc
+same_input (Some whole) bytes others told a b = a ∙ sym b
+
+-- where the answer is that the words fit no form, they fit none
+pub is_no_form : (words : List (List ℕ)) (bytes : List ℕ) (status : ℕ) (text : List ℕ) → IsAnswer words bytes status text → status ≡ code_of NoForm → FitNoForm words
+is_no_form words bytes status text (no_form none) e = none
+is_no_form words bytes status text (answers command s t is says) e = absurd (command_form command bytes s t says e)

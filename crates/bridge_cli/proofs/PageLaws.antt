@@ -1,0 +1,123 @@
+-- What an input comes to whose page is fed while it is read.
+use Rattle.std.proofs.Common.{◌≡◌, ℕ, ◌+◌, ◌-◌, ◌<◌, ◌≤◌, List, [], ◌++◌, length, take, Option, Some, None, Result, Ok, Err, refl, sym, ap, subst, ◌∙◌, arith, length-append}
+use Rattle.std.specs.Io.KnownBytes.{Consumes, Keeps, IsAtEnd}
+use Rattle.std.specs.Prelude.{IfErr, IsErrAnd}
+use Rattle.std.proofs.lemmas.List.{append-nil, length-take}
+use Rattle.page_model.specs.declared.format.Treatment.TheVariants.{Scraped}
+use Rattle.page_model.specs.declared.fault.PageFault.{PageFault}
+use Rattle.page_model.specs.declared.fault.PageFault.TheVariants as faults
+use Rattle.page_model.specs.declared.page.Page.{Page}
+use Rattle.page_model.specs.declared.rule.Rule.{Rule}
+use Rattle.page_model.specs.Pages.{FirstFault}
+use Rattle.text_grammar.specs.PageFeeding.{Fed, Stands, Refuses}
+use Rattle.text_grammar.specs.PageFeeding as text
+use Rattle.bridge_ports.specs.Causes.{Rose}
+use Rattle.bridge_cli.specs.declared.pages.FedPage.{FedPage}
+use Rattle.bridge_cli.specs.declared.pages.FedPage.TheVariants.{Reading}
+use Rattle.bridge_cli.specs.declared.stop.Stop.{Stop}
+use Rattle.bridge_cli.specs.declared.stop.Stop.TheVariants.{Read, Memory}
+use Rattle.bridge_cli.specs.declared.status.Status.TheVariants.{Done, TooLong}
+use Rattle.bridge_cli.specs.Limits.{most_page, most_samples, most_block}
+use Rattle.bridge_cli.specs.Statuses.{code_of}
+use Rattle.bridge_cli.specs.Stops.{too_long_text, stop_of}
+use Rattle.bridge_cli.specs.Inputs.{Took, EndsWithin, IsOverlong}
+use Rattle.bridge_cli.specs.PageAnswers.{page_setting, IsPageAnswer, page_done, page_refused, page_too_long}
+use Rattle.bridge_cli.specs.PageInputs.{IsFed, WasFed, IsFedWhole, HoldsPage, StopLeaves, Leaves}
+use Rattle.bridge_cli.specs.ProgramOutputs.{HasAnswer}
+use Rattle.bridge_cli.specs.StopAnswers.{StopsAs}
+use Rattle.bridge_cli.proofs.IoLaws.{consumes_none, consumes_twice, consumes_keeps, all_taken}
+
+-- a fault that stands however the bytes go on is theirs
+pub fault_of : (bytes : List ℕ) (line : ℕ) (rule : Rule) → Refuses page_setting bytes (faults.Refused line rule) → FirstFault page_setting bytes (line, rule)
+fault_of bytes line rule refuses =
+    let At : List ℕ → Type 0 = λ bs. FirstFault page_setting bs (line, rule) in
+    subst At (append-nil bytes) (refuses [])
+
+-- nothing was fed so far
+pub fed_nothing : (left : Option (List ℕ)) (page : Fed) → Stands Scraped most_samples [] page → WasFed left left 0 (Reading page)
+fed_nothing left page stands = record { took = record { bytes = []; from = consumes_none left; count = refl }; few = omega arith; fed = stands }
+
+-- a block more was taken
+abbrev pub took_more : (a b c : Option (List ℕ)) (taken count : ℕ) (block : List ℕ) → Took a b taken → Consumes b c (take count block) → count ≤ length block → Took a c (taken + count)
+took_more a b c taken count block was more inside = record {
+  bytes = was.bytes ++ take count block;
+  from = consumes_twice a b c was.bytes (take count block) was.from more;
+  count = omega (arith, length-append was.bytes (take count block), length-take count block, was.count);
+}
+
+-- a block more was fed
+pub fed_more : (a b c : Option (List ℕ)) (taken count : ℕ) (block : List ℕ) (old new : FedPage) → (was : WasFed a b taken old) → Consumes b c (take count block) → count ≤ length block
+    → count ≤ most_page - taken → IsFed (was.took.bytes ++ take count block) new → WasFed a c (taken + count) new
+fed_more a b c taken count block old new was more inside few fed =
+    record { took = took_more a b c taken count block was.took more inside; few = omega (arith, was.few); fed = fed }
+
+-- the end was reached
+pub fed_all : (a b c : Option (List ℕ)) (taken count : ℕ) (block : List ℕ) (page : FedPage) → WasFed a b taken page → Consumes b c (take count block) → count ≡ 0 → IsAtEnd c
+    → IsFedWhole a page × EndsWithin most_page a c
+fed_all a b c taken count block page was more none ends =
+    let bytes = was.took.bytes in
+    let From : List ℕ → Type 0 = λ bs. Consumes a c bs in
+    let same : bytes ++ take count block ≡ bytes = ap (λ k. bytes ++ take k block) none ∙ append-nil bytes in
+    let from = subst From same (consumes_twice a b c bytes (take count block) was.took.from more) in
+    let few : length bytes ≤ most_page = omega (arith, was.few, was.took.count) in (
+      record { bytes = bytes; on_input = all_taken a c bytes from ends; short = few; fed = was.fed },
+      record { took = record { bytes = bytes; from = from; few = few }; ends = ends },
+    )
+
+-- a block more is too much
+pub fed_too_much : (a b c : Option (List ℕ)) (taken count : ℕ) (block : List ℕ) (page : FedPage) → WasFed a b taken page → Consumes b c (take count block) → count ≤ length block
+    → most_page - taken < count → count ≤ most_block → IsOverlong most_page a c
+fed_too_much a b c taken count block page was more inside many small =
+    let all = took_more a b c taken count block was.took more inside in
+    record { bytes = all.bytes; from = all.from; many = omega (arith, all.count, was.few); soon = omega (arith, all.count, was.few) }
+
+-- ---- stops
+
+-- what is true of a stop is true of a result that is that stop
+pub stop_has : {T : Type 0} (P : Stop → Type 0) (r : Result T Stop) (stop : Stop) → IsErrAnd r (λ s. s ≡ stop) → P stop → IfErr r P
+stop_has P (Ok x) stop is has = absurd is
+stop_has P (Err s) stop is has = subst P (sym is) has
+
+-- a result that is a stop leaves the input as that stop does
+pub stop_leaves : {T : Type 0} (left after : Option (List ℕ)) (before now : ℕ) (r : Result T Stop) (stop : Stop) → IsErrAnd r (λ s. s ≡ stop) → StopLeaves left after before now stop
+    → Leaves left after before now r
+stop_leaves left after before now (Ok x) stop is leaves = absurd is
+stop_leaves left after before now (Err s) stop is leaves =
+    let At : Stop → Type 0 = λ t. StopLeaves left after before now t in subst At (sym is) leaves
+
+-- a read failed
+pub read_failed : (a b c : Option (List ℕ)) (before at now taken : ℕ) (page : FedPage) → WasFed a b taken page → at ≡ before → Keeps b c → Rose at now → StopLeaves a c before now Read
+read_failed a b c before at now taken page was same kept rose = (
+  record { bytes = was.took.bytes; from = consumes_keeps a b c was.took.bytes was.took.from kept; few = omega (arith, was.took.count, was.few) },
+  (let From : ℕ → Type 0 = λ n. Rose n now in subst From same rose),
+)
+
+-- memory was wanted for a block
+pub memory_wanted : (a b c : Option (List ℕ)) (before at now taken count : ℕ) (block : List ℕ) (page : FedPage) → WasFed a b taken page → at ≡ before → Consumes b c (take count block)
+    → count ≤ length block → count ≤ most_page - taken → now ≡ at → StopLeaves a c before now Memory
+memory_wanted a b c before at now taken count block page was same more inside few kept =
+    let all = took_more a b c taken count block was.took more inside in
+    (record { bytes = all.bytes; from = all.from; few = omega (arith, all.count, was.few) }, kept ∙ same)
+
+-- ---- answers
+
+-- the answer to an input that is too long
+pub too_long_answer : (left after : Option (List ℕ)) (text_of : Page → List ℕ) → IsOverlong most_page left after → HasAnswer (IsPageAnswer page_setting text_of) left (code_of TooLong) too_long_text
+too_long_answer None after text_of over = record { bytes = over.bytes; on_input = tt; says = page_too_long over.many }
+too_long_answer (Some bytes) None text_of over = absurd over.from
+too_long_answer (Some bytes) (Some rest) text_of over =
+    record { bytes = bytes; on_input = refl; says = page_too_long (omega (arith, over.many, ap (length {A = ℕ}) over.from, length-append over.bytes rest)) }
+
+-- the answer to a page with a fault
+pub fault_answer : (left : Option (List ℕ)) (page : FedPage) (fault : PageFault) (text_of : Page → List ℕ) → IsFedWhole left page
+    → ((bytes : List ℕ) → IsFed bytes page → text.Answers page_setting bytes (Err fault)) → StopsAs (IsPageAnswer page_setting text_of) left (stop_of fault)
+fault_answer left page (faults.Refused line rule) text_of all ends =
+    record { bytes = all.bytes; on_input = all.on_input; says = page_refused line rule (record { short = all.short; has = ends all.bytes all.fed }) }
+fault_answer left page faults.Memory text_of all ends = tt
+
+-- the answer to a page without a fault, for each command that prints a text of it
+pub page_answer : (left : Option (List ℕ)) (page : Page) (text_of : Page → List ℕ) (printed : List ℕ) → HoldsPage left page → printed ≡ text_of page
+    → HasAnswer (IsPageAnswer page_setting text_of) left (code_of Done) printed
+page_answer left page text_of printed holds says =
+    let Printed : List ℕ → Type 0 = λ t. HasAnswer (IsPageAnswer page_setting text_of) left (code_of Done) t in
+    subst Printed (sym says) (record { bytes = holds.bytes; on_input = holds.on_input; says = page_done page holds.is })

@@ -1,0 +1,30 @@
+-- The limits of the program. The bridge's own.
+use Rattle.std.specs.Prelude.{ℕ, ◌^◌}
+
+-- the most bytes of a page: 64 MiB
+abbrev pub most_page : ℕ
+most_page = 2 ^ 26
+
+-- the most bytes that one read takes: 64 KiB
+abbrev pub most_block : ℕ
+most_block = 2 ^ 16
+
+-- the most samples of a page
+abbrev pub most_samples : ℕ
+most_samples = 200000
+
+-- the latest time, in nanoseconds since the Unix epoch
+abbrev pub most_nanos : ℕ
+most_nanos = 2 ^ 62
+
+-- the most bytes of a job
+abbrev pub most_job : ℕ
+most_job = 256
+
+-- the most bytes of a host
+abbrev pub most_host : ℕ
+most_host = 255
+
+-- the greatest port
+abbrev pub most_port : ℕ
+most_port = 65535

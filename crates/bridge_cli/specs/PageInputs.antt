@@ -1,0 +1,60 @@
+-- A page that is fed while it is read. The bridge's own.
+use Rattle.std.specs.Prelude.{◌≡◌, ℕ, ◌+◌, ◌^◌, ◌<◌, ◌≤◌, ◌-◌, List, length, Option, Result, Ok, Err, ⊤}
+use Rattle.page_model.specs.declared.fault.PageFault.TheVariants as faults
+use Rattle.page_model.specs.declared.format.Treatment.TheVariants.{Scraped}
+use Rattle.page_model.specs.declared.page.Page.{Page}
+use Rattle.text_grammar.specs.PageFeeding.{Stands, Refuses}
+use Rattle.bridge_cli.specs.declared.pages.FedPage.{FedPage}
+use Rattle.bridge_cli.specs.declared.pages.FedPage.TheVariants.{Reading, Faulty}
+use Rattle.bridge_cli.specs.declared.stop.Stop.{Stop}
+use Rattle.bridge_cli.specs.declared.stop.Stop.TheVariants as stops
+use Rattle.bridge_cli.specs.Stops.{StopCause}
+use Rattle.bridge_cli.specs.Limits.{most_page, most_samples}
+use Rattle.bridge_cli.specs.Inputs.{IsInput, Took, TookAtMost, EndsWithin, IsOverlong}
+use Rattle.bridge_cli.specs.PageAnswers.{page_setting, IsPageInput}
+
+-- a page was fed these bytes: it has no fault yet, or this one however the bytes go on
+abbrev pub IsFed : List ℕ → FedPage → Type 0
+IsFed bytes (Reading page) = Stands Scraped most_samples bytes page
+IsFed bytes (Faulty line rule) = Refuses page_setting bytes (faults.Refused line rule)
+
+-- so many bytes more may be fed to a page
+abbrev pub HasRoomFor : ℕ → FedPage → Type 0
+HasRoomFor count (Reading page) = page.lines.fed + count < 2 ^ 32 - 1
+HasRoomFor count (Faulty line rule) = ⊤
+
+-- so many bytes of an input were taken and fed to its page
+pub record WasFed (left after : Option (List ℕ)) (taken : ℕ) (page : FedPage) : Type 0 where
+  pub took : Took left after taken
+  pub few : taken ≤ most_page
+  pub fed : IsFed took.bytes page
+
+-- all the bytes of an input were fed to its page
+pub record IsFedWhole (left : Option (List ℕ)) (page : FedPage) : Type 0 where
+  pub bytes : List ℕ
+  pub on_input : IsInput left bytes
+  pub short : length bytes ≤ most_page
+  pub fed : IsFed bytes page
+
+-- the bytes on the input are this page
+pub record HoldsPage (left : Option (List ℕ)) (page : Page) : Type 0 where
+  pub bytes : List ℕ
+  pub on_input : IsInput left bytes
+  pub is : IsPageInput page_setting page bytes
+
+-- how far the input of a page was taken by a command that stops: through, or not past its limit
+abbrev pub StopsReading : Option (List ℕ) → Option (List ℕ) → Stop → Type 0
+StopsReading left after stops.NoForm = ⊥
+StopsReading left after (stops.Refused line rule) = EndsWithin most_page left after
+StopsReading left after stops.TooLong = IsOverlong most_page left after
+StopsReading left after stops.Read = TookAtMost most_page left after
+StopsReading left after stops.Memory = TookAtMost most_page left after
+
+-- how a command that stops leaves the input of a page, and the count of its faults
+abbrev pub StopLeaves : Option (List ℕ) → Option (List ℕ) → ℕ → ℕ → Stop → Type 0
+StopLeaves left after before now stop = StopsReading left after stop × StopCause before now stop
+
+-- how a command leaves the input of a page, and the count of its faults
+abbrev pub Leaves : {T : Type 0} → Option (List ℕ) → Option (List ℕ) → ℕ → ℕ → Result T Stop → Type 0
+Leaves left after before now (Ok x) = EndsWithin most_page left after × (now ≡ before)
+Leaves left after before now (Err stop) = StopLeaves left after before now stop

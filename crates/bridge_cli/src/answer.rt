@@ -1,0 +1,67 @@
+//! What the program prints, and the status that it ends with.
+ghost use Rattle.std.specs.Prelude.{◌≡◌, ◌++◌, [], IfOk, OnErr};
+ghost use Rattle.std.specs.Cow.{cow_slice_items};
+ghost use Rattle.bridge_cli.specs.Stops as spec;
+ghost use Rattle.bridge_cli.specs.StopAnswers.{IsStopAnswer};
+ghost use Rattle.bridge_cli.specs.Stops.{TakesMemory};
+
+use crate::digits::push_number;
+use crate::status::Status;
+use crate::stop::Stop;
+use page_model::Rule;
+use std::alloc::{AllocError, Global};
+use std::borrow::CowSlice;
+
+/// What the program prints, and the status that it ends with.
+#[derive(Drop)]
+pub(crate) struct Answer {
+    pub(crate) status: Status,
+    pub(crate) text: CowSlice<'static, u8>,
+}
+
+/// The line of a page with a fault.
+#[tactic(auto, unfolding(crate::specs::Stops::refused_text))]
+fn refused_text(alloc: Global, line: u32, rule: Rule) -> Result<Vec<u8>, AllocError>
+    ensures { IfOk result (λ text. text.items ≡ spec.refused_text line rule) }
+{
+    let mut text = Vec::new(alloc);
+    text.extend_from_slice(b"refused line ")?;
+    push_number(&mut text, u64::from(line))?;
+    text.extend_from_slice(b" rule ")?;
+    push_number(&mut text, u64::from(rule.number()))?;
+    text.extend_from_slice(b" ")?;
+    text.extend_from_slice(rule.name().as_bytes())?;
+    text.extend_from_slice(b"\n")?;
+    Ok(text)
+}
+
+/// What is printed where a command stops. Only a fault's line takes memory.
+#[tactic(auto, unfolding(crate::specs::Stops::no_form_text, crate::specs::Stops::too_long_text))]
+fn stop_text(alloc: Global, stop: Stop) -> Result<CowSlice<'static, u8>, AllocError>
+    ensures text { IfOk result (λ text. cow_slice_items text ≡ spec.stop_text stop) }
+    ensures memory { OnErr result (TakesMemory stop) }
+{
+    match stop {
+        Stop::NoForm => Ok(CowSlice::Borrowed(b"words\n")),
+        Stop::Refused { line, rule } => Ok(CowSlice::Owned(refused_text(alloc, line, rule)?)),
+        Stop::TooLong => Ok(CowSlice::Borrowed(b"input too long\n")),
+        Stop::Read => Ok(CowSlice::Borrowed(b"")),
+        Stop::Memory => Ok(CowSlice::Borrowed(b"")),
+    }
+}
+
+/// The answer where a command stops.
+pub(crate) fn stop_answer(alloc: Global, stop: Stop) -> Answer
+    ensures { IsStopAnswer stop result.status (cow_slice_items result.text) }
+{
+    match stop_text(alloc, stop) {
+        Ok(text) => Answer {
+            status: stop.status(),
+            text,
+        },
+        Err(AllocError) => Answer {
+            status: Status::WantOfMemory,
+            text: CowSlice::Borrowed(b""),
+        },
+    }
+}

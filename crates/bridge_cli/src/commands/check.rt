@@ -1,0 +1,42 @@
+//! `check`: whether a page has a fault.
+ghost use Rattle.std.specs.Prelude.{◌≡◌, IfOk, IfErr};
+ghost use Rattle.bridge_cli.specs.declared.status.Status.TheVariants.{Done};
+ghost use Rattle.bridge_cli.specs.declared.words.Command.TheVariants.{CheckText};
+ghost use Rattle.bridge_cli.specs.Statuses.{code_of};
+ghost use Rattle.bridge_cli.specs.Answers.{Answers};
+ghost use Rattle.bridge_cli.specs.CheckTexts as spec;
+ghost use Rattle.bridge_cli.specs.PageInputs.{Leaves};
+ghost use Rattle.bridge_cli.specs.ProgramOutputs.{HasAnswer};
+ghost use Rattle.bridge_cli.specs.StopAnswers.{StopsAs};
+
+use crate::digits::push_number;
+use crate::pages::whole_page;
+use crate::stop::Stop;
+use bridge_ports::Source;
+use page_model::Page;
+use std::alloc::{AllocError, Global};
+
+/// The line of a page without a fault.
+#[tactic(auto, unfolding(crate::specs::CheckTexts::checked_text))]
+fn checked_text(alloc: Global, page: &Page) -> Result<Vec<u8>, AllocError>
+    ensures { IfOk result (λ text. text.items ≡ spec.checked_text page.now) }
+{
+    let mut text = Vec::new(alloc);
+    text.extend_from_slice(b"ok ")?;
+    push_number(&mut text, page.families.len() as u64)?;
+    text.extend_from_slice(b" families ")?;
+    push_number(&mut text, u64::from(page.samples))?;
+    text.extend_from_slice(b" samples\n")?;
+    Ok(text)
+}
+
+/// The families and samples of the page on the input.
+pub(super) fn check<I: Source>(alloc: Global, input: &mut I) -> Result<Vec<u8>, Stop>
+    ensures text { IfOk result (λ text. HasAnswer (Answers CheckText) (I.left input.old) (code_of Done) text.items) }
+    ensures stop { IfErr result (StopsAs (Answers CheckText) (I.left input.old)) }
+    ensures input { Leaves (I.left input.old) (I.left input.new)
+        (I.read_faults input.old) (I.read_faults input.new) result }
+{
+    let page = whole_page(alloc, input)?;
+    Ok(checked_text(alloc, &page)?)
+}

@@ -1,0 +1,53 @@
+//! `convert`: the event that a page becomes.
+ghost use Rattle.std.specs.Prelude.{◌≡◌, IfOk, IfErr};
+ghost use Rattle.bridge_cli.specs.declared.status.Status.TheVariants.{Done};
+ghost use Rattle.bridge_cli.specs.declared.words.Command.TheVariants.{ConvertText};
+ghost use Rattle.bridge_cli.specs.Statuses.{code_of};
+ghost use Rattle.bridge_cli.specs.Answers.{Answers};
+ghost use Rattle.bridge_cli.specs.ConvertTexts as spec;
+ghost use Rattle.bridge_cli.specs.PageInputs.{Leaves};
+ghost use Rattle.bridge_cli.specs.ProgramOutputs.{HasAnswer};
+ghost use Rattle.bridge_cli.specs.StopAnswers.{StopsAs};
+
+use crate::pages::whole_page;
+use crate::stop::Stop;
+use bridge_ports::Source;
+use page_model::{Outcome, Page};
+use std::alloc::{AllocError, Global};
+use target_core::{Target, event_request};
+
+/// The text of the event of a page.
+#[tactic(auto, unfolding(crate::specs::ConvertTexts::converted_text))]
+fn converted_text(
+    alloc: Global,
+    target: &Target,
+    nanos: u64,
+    page: Page,
+) -> Result<Vec<u8>, AllocError>
+    ensures { IfOk result (λ text. text.items ≡ spec.converted_text target.now nanos page) }
+{
+    let request = event_request(alloc, target, nanos, Outcome::Page(page))?;
+    let mut text = Vec::new(alloc);
+    otlp_json::write(&request, &mut text)?;
+    drop(request);
+    text.reserve_exact(1)?;
+    text.extend_from_slice(b"\n")?;
+    Ok(text)
+}
+
+/// The event of the page on the input.
+pub(super) fn convert<I: Source>(
+    alloc: Global,
+    target: &Target,
+    nanos: u64,
+    input: &mut I,
+) -> Result<Vec<u8>, Stop>
+    ensures text { IfOk result (λ text. HasAnswer (Answers (ConvertText target.now nanos))
+        (I.left input.old) (code_of Done) text.items) }
+    ensures stop { IfErr result (StopsAs (Answers (ConvertText target.now nanos)) (I.left input.old)) }
+    ensures input { Leaves (I.left input.old) (I.left input.new)
+        (I.read_faults input.old) (I.read_faults input.new) result }
+{
+    let page = whole_page(alloc, input)?;
+    Ok(converted_text(alloc, target, nanos, page)?)
+}

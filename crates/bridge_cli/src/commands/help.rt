@@ -1,0 +1,36 @@
+//! `--help` and `--version`.
+ghost use Rattle.std.specs.Prelude.{◌≡◌};
+ghost use Rattle.bridge_cli.specs.HelpTexts.{help_text, version_text};
+
+/// What `--help` prints: each form that is built, with an example.
+pub const HELP: &str = "\
+bridge check text
+    reads a page on the input and prints its families and samples, or its first fault
+    bridge check text
+bridge convert text JOB INSTANCE NANOS
+    reads a page on the input and prints the OTLP JSON text of one event
+    bridge convert text node localhost:9100 1700000000000000000
+bridge --help
+    prints these lines
+bridge --version
+    prints the name and the version
+";
+
+/// What `--version` prints.
+pub const VERSION: &str = "bridge 0.1.0\n";
+
+/// The lines of `--help`.
+#[tactic(auto, unfolding(crate::specs::HelpTexts::help_text))]
+pub(super) fn help() -> &'static [u8]
+    ensures { result.now ≡ help_text }
+{
+    HELP.as_bytes()
+}
+
+/// The line of `--version`.
+#[tactic(auto, unfolding(crate::specs::HelpTexts::version_text))]
+pub(super) fn version() -> &'static [u8]
+    ensures { result.now ≡ version_text }
+{
+    VERSION.as_bytes()
+}
