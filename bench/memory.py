@@ -1,0 +1,66 @@
+#!/usr/bin/env python3
+"""The peak memory of `bridge check text` over the size of the page, for pages that take the most.
+
+    python3 bench/memory.py                       both pages
+    python3 bench/memory.py --page summaries|help  writes one
+
+    summaries   200,000 summaries of one quantile in one family; at most 20 times the page
+    help        64 MiB of HELP lines, each of a family without samples; at most 14 times the page
+
+Exit status 1 where a page takes more.
+"""
+
+import itertools
+import os
+import string
+import sys
+import tempfile
+
+from timing import answer, built_program, peak_bytes
+
+MOST_PAGE = 1 << 26
+SUMMARIES = 200_000
+NAME_CHARS = string.ascii_letters.encode()
+
+
+def names() -> itertools.product:
+    """Names of four letters, each once."""
+    return itertools.product(NAME_CHARS, repeat=4)
+
+
+def summaries() -> bytes:
+    """Summaries of one quantile."""
+    each = itertools.islice(names(), SUMMARIES)
+    return b"# TYPE s summary\n" + b"".join(b's{a="%s",quantile="0.5"} 1\n' % bytes(name) for name in each)
+
+
+def help_lines() -> bytes:
+    """As many HELP lines as a page may have."""
+    size = len("# HELP name\n")
+    return b"".join(b"# HELP %s\n" % bytes(name) for name in itertools.islice(names(), MOST_PAGE // size))
+
+
+PAGES = {"summaries": (summaries, 20), "help": (help_lines, 14)}
+
+
+def main() -> int:
+    if sys.argv[1:2] == ["--page"]:
+        sys.stdout.buffer.write(PAGES[sys.argv[2]][0]())
+        return 0
+    program = built_program()
+    above = 0
+    for name, (page, most) in PAGES.items():
+        data = page()
+        with tempfile.TemporaryDirectory() as folder:
+            path = os.path.join(folder, name)
+            with open(path, "wb") as out:
+                out.write(data)
+            told = answer(program, path)
+            times = peak_bytes([program, "check", "text"], path) / len(data)
+        print(f"{name}: {len(data)} bytes, {told.strip()}; peak memory {times:.1f} times the page, at most {most}")
+        above += not told.startswith("ok ") or times > most
+    return 1 if above else 0
+
+
+if __name__ == "__main__":
+    sys.exit(main())
