@@ -1,8 +1,8 @@
 #!/usr/bin/env python3
 """The peak memory of `bridge check text` over the size of the page, for pages that take the most.
 
-    python3 bench/memory.py                       both pages
-    python3 bench/memory.py --page summaries|help  writes one
+    python3 bench/memory.py                           both pages
+    python3 bench/memory.py --page summaries|help     writes one
 
     summaries   200,000 summaries of one quantile in one family; at most 20 times the page
     help        64 MiB of HELP lines, each of a family without samples; at most 14 times the page
@@ -20,24 +20,19 @@ from timing import answer, built_program, peak_bytes
 
 MOST_PAGE = 1 << 26
 SUMMARIES = 200_000
-NAME_CHARS = string.ascii_letters.encode()
-
-
-def names() -> itertools.product:
-    """Names of four letters, each once."""
-    return itertools.product(NAME_CHARS, repeat=4)
 
 
 def summaries() -> bytes:
     """Summaries of one quantile."""
-    each = itertools.islice(names(), SUMMARIES)
-    return b"# TYPE s summary\n" + b"".join(b's{a="%s",quantile="0.5"} 1\n' % bytes(name) for name in each)
+    lines = (b's{id="%06d",quantile="0.99"} 1\n' % number for number in range(SUMMARIES))
+    return b"# TYPE s summary\n" + b"".join(lines)
 
 
 def help_lines() -> bytes:
     """As many HELP lines as a page may have."""
-    size = len("# HELP name\n")
-    return b"".join(b"# HELP %s\n" % bytes(name) for name in itertools.islice(names(), MOST_PAGE // size))
+    names = itertools.product(string.ascii_letters, repeat=4)
+    size = len("#HELP name\n")
+    return "".join(f"#HELP {''.join(name)}\n" for name in itertools.islice(names, MOST_PAGE // size)).encode()
 
 
 PAGES = {"summaries": (summaries, 20), "help": (help_lines, 14)}
