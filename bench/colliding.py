@@ -7,6 +7,7 @@ run. A page with collisions is to take at most twice as long.
 
 Kinds of pages:
     samples     a gauge with one label
+    long        the same, behind a label of 1,000 bytes that all samples share
     outside     an honest counter of requests by path, where clients choose the paths
     families    families of one sample
     groups      a histogram that has the bucket `+Inf` alone, for each value of a label
@@ -15,6 +16,8 @@ Kinds of pages:
 Ways in which they collide, in the hash of the kit (`FoldHasher`, which has no seed):
     packed      all keys have one hash, each hashed as one string of bytes
     bucket      the same, but their hashes share the low 16 bits alone
+    second      the first keys have one hash, and so go over to an ordered map; the others share the second
+                hash, by which that map finds them
     parts       all keys have one hash, each part of them hashed by itself, as a derived `Hash` does
 
 The two pages take turns in each round; the least time of each counts. Exit status 1 where a ratio is above
@@ -36,6 +39,9 @@ MOST_RATIO = 2.0
 MASK = (1 << 64) - 1
 MULTIPLIER = 0x9E37_79B9_7F4A_7C15
 INITIAL = 0x243F_6A88_85A3_08D3
+
+# More keys than one chain has.
+FIRST_KEYS = 100
 
 ALPHANUMERIC = (string.digits + string.ascii_letters).encode()
 NAME_CHARS = set(ALPHANUMERIC + b"_:")
@@ -133,12 +139,20 @@ class Kind(NamedTuple):
     key: Callable[[bytes, bytes], Key]
 
 
+LONG = b"x" * 1_000
+
 KINDS = {
     "samples": Kind(
         VALUE_CHARS,
         lambda pad: b"# TYPE m%s gauge\n" % pad,
         lambda pad, last: b'm%s{b="%s"} 1\n' % (pad, last),
         lambda pad, last: Key(b"m" + pad, [(b"b", last)]),
+    ),
+    "long": Kind(
+        VALUE_CHARS,
+        lambda pad: b"# TYPE m%s gauge\n" % pad,
+        lambda pad, last: b'm%s{a="%s",b="%s"} 1\n' % (pad, LONG, last),
+        lambda pad, last: Key(b"m" + pad, [(b"a", LONG), (b"b", last)]),
     ),
     "outside": Kind(
         PATH_CHARS,
@@ -160,7 +174,14 @@ KINDS = {
     ),
 }
 
-WAYS = {"packed": packed, "bucket": packed, "parts": parts}
+
+
+def second(key: Key) -> list[bytes]:
+    """A key as the second hash meets it."""
+    return [b"second", *packed(key)]
+
+
+WAYS = {"packed": packed, "bucket": packed, "second": second, "parts": parts}
 
 
 def last_at(texts: list[bytes], last: bytes) -> int | None:
@@ -193,16 +214,24 @@ def tails(way: str) -> Iterator[bytes]:
         yield b"00" + bytes(reversed(end))
 
 
-def text_page(name: str, way: str, count: int, collide: bool) -> bytes:
-    """A page of one of the kinds."""
-    kind = KINDS[name]
+def lines_of(kind: Kind, way: str, count: int, collide: bool) -> tuple[bytes, bytes]:
+    """The first line of a kind of page, and the lines of its keys."""
     pad, front = colliding(kind, way)
     own = front if collide else b"ABCDEFGH"
     lasts = [own + tail for tail in itertools.islice(tails(way), count)]
     shared = 0xFFFF if way == "bucket" else MASK
     hashes = {hash_of(WAYS[way](kind.key(pad, last))) & shared for last in lasts[:100]}
     assert (len(hashes) == 1) == collide
-    return kind.head(pad) + b"".join(kind.line(pad, last) for last in lasts)
+    return kind.head(pad), b"".join(kind.line(pad, last) for last in lasts)
+
+
+def text_page(kind: Kind, way: str, count: int, collide: bool) -> bytes:
+    """A page of one of the kinds."""
+    head, lines = lines_of(kind, way, count, collide)
+    if way != "second":
+        return head + lines
+    first_head, first_lines = lines_of(kind, "packed", FIRST_KEYS, collide)
+    return first_head + first_lines + (head if head != first_head else b"") + lines
 
 
 def quantile_page(count: int, collide: bool) -> bytes:
@@ -221,7 +250,7 @@ def quantile_page(count: int, collide: bool) -> bytes:
 
 def page(kind: str, way: str, count: int, collide: bool) -> bytes:
     """A page that collides, or the one beside it."""
-    return quantile_page(count, collide) if kind == "quantiles" else text_page(kind, way, count, collide)
+    return quantile_page(count, collide) if kind == "quantiles" else text_page(KINDS[kind], way, count, collide)
 
 
 def ratio(program: str, kind: str, way: str, count: int, rounds: int) -> float:
