@@ -1,13 +1,14 @@
 #!/usr/bin/env python3
-"""The peak memory of `bridge check text` over the size of the page, for pages that take the most.
+"""The peak memory of `bridge check text` and `convert text` over the size of the page, for pages that take
+the most.
 
     python3 bench/memory.py                           both pages
     python3 bench/memory.py --page summaries|help     writes one
 
-    summaries   200,000 summaries of one quantile in one family; at most 20 times the page
+    summaries   200,000 summaries of one quantile in one family; `check` takes at most 20 times the page
     help        64 MiB of HELP lines, each of a family without samples; at most 14 times the page
 
-Exit status 1 where a page takes more.
+Exit status 1 where `check` takes more.
 """
 
 import itertools
@@ -51,9 +52,11 @@ def main() -> int:
             with open(path, "wb") as out:
                 out.write(data)
             told = answer(program, path)
-            times = peak_bytes([program, "check", "text"], path) / len(data)
-        print(f"{name}: {len(data)} bytes, {told.strip()}; peak memory {times:.1f} times the page, at most {most}")
-        above += not told.startswith("ok ") or times > most
+            check = peak_bytes([program, "check", "text"], path) / len(data)
+            convert = peak_bytes([program, "convert", "text", "j", "h:1", "1000"], path) / len(data)
+        print(f"{name}: {len(data)} bytes, {told.strip()}")
+        print(f"  peak memory over the page: check {check:.1f}, at most {most}; convert {convert:.1f}")
+        above += not told.startswith("ok ") or check > most
     return 1 if above else 0
 
 
