@@ -5,17 +5,9 @@
 # Needs rt and rustc. Words: how often each runs (11).
 set -eu
 runs=${1:-11}
-here=$(cd "$(dirname "$0")" && pwd)
-work=$(mktemp -d)
-trap 'rm -rf "$work"' EXIT
-mkdir -p "$work/crates/time_sets/src"
-mkdir "$work/crates/label_sets"
-for part in src specs proofs; do
-    cp -r "$here/../crates/label_sets/$part" "$work/crates/label_sets/$part"
-done
-grep '^label_sets:' "$here/../crates.txt" > "$work/crates.txt"
-echo 'time_sets: label_sets' >> "$work/crates.txt"
-cat > "$work/crates/time_sets/src/main.rt" <<'TEXT'
+. "$(dirname "$0")/workspace.sh"
+take_crates label_sets
+add_program time_sets label_sets <<'TEXT'
 #![tactic(auto)]
 use label_sets::{Label, LabelSet, List, Name, Text};
 use std::alloc::{AllocError, Global};
@@ -124,8 +116,7 @@ fn main(rt: HostRuntime) -> io::Result<()> {
 }
 TEXT
 rustc -C opt-level=3 --edition 2021 -o "$work/plain" "$here/label_sets/main.rs"
-(cd "$work/crates/time_sets" && rt run -- 1 a </dev/null >"$work/log" 2>&1) || { cat "$work/log"; exit 1; }
-cp "$work/crates/time_sets/out/time_sets" "$work/proved"
+build_program time_sets 1 a
 # in turn, so that both meet the same machine
 each() {
     : > "$work/plain.times"

@@ -5,10 +5,7 @@
 # Needs rt, rustc, awk and taskset. Run from anywhere: bench/page_lines.sh [ROUNDS]
 set -eu
 rounds=${1:-7}
-here=$(cd "$(dirname "$0")" && pwd)
-crates=$here/../crates
-work=$(mktemp -d)
-trap 'rm -rf "$work"' EXIT
+. "$(dirname "$0")/workspace.sh"
 core=$(($(nproc) - 1))
 
 awk 'BEGIN {
@@ -18,18 +15,8 @@ awk 'BEGIN {
         else printf "node_cpu_seconds_total{instance=\"host-%d\",cpu=\"%d\",mode=\"%s\"} %d.%03d\n", i % 97, i % 64, modes[i % 6 + 1], (i * 7919) % 1000003, i % 1000
 }' > "$work/page"
 
-for name in page_lines; do
-    mkdir -p "$work/crates/$name"
-    for part in src specs proofs; do
-        if [ -d "$crates/$name/$part" ]; then cp -R "$crates/$name/$part" "$work/crates/$name/"; fi
-    done
-done
-mkdir -p "$work/crates/lines_bench/src"
-cat > "$work/crates.txt" <<'END'
-page_lines: memchr
-lines_bench: page_lines
-END
-cat > "$work/crates/lines_bench/src/main.rt" <<'END'
+take_crates page_lines
+add_program lines_bench page_lines <<'END'
 //! Goes over the lines of a page on standard input in pieces of 64 KiB, and prints the time.
 #![tactic(auto)]
 
@@ -98,12 +85,11 @@ fn main(rt: HostRuntime) -> io::Result<()> {
     Ok(())
 }
 END
-(cd "$work/crates/lines_bench" && rt run -- </dev/null >"$work/log" 2>&1) || { cat "$work/log"; exit 1; }
-cp "$work/crates/lines_bench/out/lines_bench" "$work/bridge"
+build_program lines_bench
 rustc --edition 2021 -C opt-level=3 -C target-cpu=x86-64-v2 -o "$work/plain" "$here/page_lines/lines.rs"
 
 for round in $(seq "$rounds"); do
-    taskset -c "$core" "$work/bridge" <"$work/page" >>"$work/bridge.times"
+    taskset -c "$core" "$work/proved" <"$work/page" >>"$work/bridge.times"
     taskset -c "$core" "$work/plain" read_until <"$work/page" >>"$work/read_until.times"
     taskset -c "$core" "$work/plain" position <"$work/page" >>"$work/position.times"
 done

@@ -6,10 +6,7 @@
 # Needs rt, rustc, awk and taskset. Run from anywhere: bench/text_page.sh [ROUNDS]
 set -eu
 rounds=${1:-5}
-here=$(cd "$(dirname "$0")" && pwd)
-crates=$here/../crates
-work=$(mktemp -d)
-trap 'rm -rf "$work"' EXIT
+. "$(dirname "$0")/workspace.sh"
 core=$(($(nproc) - 1))
 
 # Families of 1 to 128 samples; a sample has 5 labels on average.
@@ -47,17 +44,8 @@ page() {
 page 20000 > "$work/page.20000"
 page 200000 > "$work/page.200000"
 
-for name in label_sets exact_decimal page_lines page_model sample_groups family_rules text_grammar; do
-    mkdir -p "$work/crates/$name"
-    for part in src specs proofs; do
-        if [ -d "$crates/$name/$part" ]; then cp -R "$crates/$name/$part" "$work/crates/$name/"; fi
-    done
-done
-mkdir -p "$work/crates/page_bench/src"
-# Each of these crates stands on what it stands on in the repository.
-grep -E '^(label_sets|exact_decimal|page_lines|page_model|sample_groups|family_rules|text_grammar):' "$here/../crates.txt" > "$work/crates.txt"
-echo 'page_bench: text_grammar page_model label_sets exact_decimal' >> "$work/crates.txt"
-cat > "$work/crates/page_bench/src/main.rt" <<'END'
+take_crates text_grammar
+add_program page_bench "text_grammar page_model label_sets exact_decimal" <<'END'
 //! Reads a page on standard input in pieces of 64 KiB, as often as the first word says. Prints the time of
 //! each reading and of dropping its page, and a sum over the page.
 #![tactic(auto)]
@@ -155,8 +143,7 @@ fn main(rt: HostRuntime) -> io::Result<()> {
     Ok(())
 }
 END
-(cd "$work/crates/page_bench" && rt run -- 1 </dev/null >"$work/log" 2>&1) || { cat "$work/log"; exit 1; }
-cp "$work/crates/page_bench/out/page_bench" "$work/proved"
+build_program page_bench 1
 rustc --edition 2021 -C opt-level=3 -C target-cpu=x86-64-v2 -o "$work/plain" "$here/text_page/main.rs"
 
 for samples in 20000 200000; do

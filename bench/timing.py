@@ -46,3 +46,9 @@ def built_program() -> str:
     if not os.path.exists(program):
         subprocess.run([os.path.join(TOP, "bridge"), "--version"], check=True, stdout=subprocess.DEVNULL)
     return program
+
+
+def answer(program, path) -> str:
+    """What `check text` prints for a page."""
+    with open(path, "rb") as source:
+        return subprocess.run([program, "check", "text"], stdin=source, capture_output=True, text=True).stdout

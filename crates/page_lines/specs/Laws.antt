@@ -21,7 +21,7 @@ abbrev pub ToldAreFirst : Type 0
 ToldAreFirst = (most : ℕ) (page more : List ℕ) (told : List (List ℕ)) → told_of most page ≡ map whole told
     → (others : List (List ℕ)) × (lines_of (page ++ more) ≡ told ++ others)
 
--- and where it told last that a line is too long, the line behind them is that, however the page goes on
+-- where a page told last that a line is too long, the line behind the lines told is, however the page goes on
 abbrev pub TooLongIsNext : Type 0
 TooLongIsNext = (most : ℕ) (page more : List ℕ) (told : List (List ℕ)) → told_of most page ≡ map whole told ++ too_long ∷ []
     → (line : List ℕ) × (others : List (List ℕ)) × (most < length line) × (lines_of (page ++ more) ≡ told ++ line ∷ others)
