@@ -10,6 +10,7 @@ mod number;
 mod order;
 mod printing;
 mod short;
+mod signed;
 mod token;
 
 pub use buffer::Buffer;
@@ -23,3 +24,5 @@ pub use lengths::printed_len;
 pub use number::{Number, NumberFault, of, read};
 pub use order::{compare, less, nanos, whole};
 pub use printing::{print, print_open};
+pub use signed::signed_whole;
+pub use token::split_sign;
