@@ -10,6 +10,7 @@ mod number_laws;
 mod order;
 mod printing;
 mod short;
+mod signed;
 mod token;
 
 pub use buffer::Buffer;
@@ -23,3 +24,5 @@ pub use number_laws::{
 };
 pub use order::{compare, less, nanos, whole};
 pub use printing::{print, print_open};
+pub use signed::signed_whole;
+pub use token::split_sign;

@@ -40,7 +40,7 @@ struct Exponent {
 
 /// Whether a token has a minus, and the token without its sign.
 #[tactic(auto, unfolding(crate::specs::Tokens::has_minus, crate::specs::Tokens::unsigned))]
-pub(crate) fn split_sign(token: &[u8]) -> (bool, &[u8])
+pub fn split_sign(token: &[u8]) -> (bool, &[u8])
     ensures minus { result.0 ≡ has_minus token.now }
     ensures rest { result.1.now ≡ unsigned token.now }
 {

@@ -9,11 +9,12 @@ use Rattle.label_sets.specs.Names.{is_label_name, is_label_char}
 use Rattle.label_sets.specs.Escapes.{quote_escape, unescaped, quoted_at}
 use Rattle.page_model.specs.TextItems.{without_leading_blanks}
 use Rattle.page_model.specs.TextReading.{label_at, labels_at, middle_at, middle_from, begins_blank}
-use Rattle.text_grammar.specs.declared.scan.Cut.{Cut}
-use Rattle.text_grammar.specs.declared.labels.Next.{Next}
-use Rattle.text_grammar.specs.declared.labels.Next.TheVariants.{End, More, Broken}
-use Rattle.text_grammar.specs.Cuts.{IsNamed}
-use Rattle.text_grammar.specs.LabelReading.{behind_labels, opened_at, IsAfter, IsNext}
+use Rattle.line_scan.specs.declared.scan.Cut.{Cut}
+use Rattle.line_scan.specs.declared.labels.AfterLabel.{AfterLabel}
+use Rattle.line_scan.specs.declared.labels.AfterLabel.TheVariants.{End, More, Broken}
+use Rattle.line_scan.specs.LabelReading.{behind_labels, IsAfter}
+use Rattle.line_scan.specs.Cuts.{IsNamed}
+use Rattle.text_grammar.specs.LabelReading.{opened_at, IsNext}
 
 -- ---- a label
 
@@ -62,7 +63,7 @@ grown_labels before l None = refl
 grown_labels before l (Some y) = ap (λ (ls : List Label). Some (ls, y.1)) (sym (append_assoc before (l ∷ []) y.0))
 
 -- behind a label
-pub next-label : (w cs rest : List ℕ) (before after : List Label) (l : Label) (next : Next) → cs ≡ without_leading_blanks w → None ≡ behind (125 ∷ []) cs → label_at cs ≡ Some (l, rest)
+pub next-label : (w cs rest : List ℕ) (before after : List Label) (l : Label) (next : AfterLabel) → cs ≡ without_leading_blanks w → None ≡ behind (125 ∷ []) cs → label_at cs ≡ Some (l, rest)
     → after ≡ before ++ l ∷ [] → IsUtf8 rest → IsAfter rest next → IsNext w before after next
 next-label w cs rest before after l (End r) e none found grown u h = λ more.
     ap (behind_labels before) (labels_after cs (l, rest) (sym none) found more w e) ∙ rw (h, grown) refl

@@ -1,8 +1,4 @@
-pub mod Quotes
-pub mod Utf8
-pub mod Cutting
 pub mod Digits
-pub mod Tables
 pub mod LabelSteps
 pub mod LineSteps
 pub mod PageSteps

@@ -23,13 +23,13 @@ use Rattle.page_model.specs.Faults.{own_fault, line_breaks, line_rules}
 use Rattle.page_model.specs.PageReading.{line_read}
 use Rattle.page_model.proofs.Fronts.{while_parts, behind_parts, behind-append}
 use Rattle.std.proofs.lemmas.Bool.{cases_eq}
-use Rattle.text_grammar.proofs.Quotes.{other_byte}
-use Rattle.text_grammar.specs.declared.scan.Cut.{Cut}
+use Rattle.line_scan.proofs.Laws.{other_byte}
+use Rattle.line_scan.specs.declared.scan.Cut.{Cut}
 use Rattle.text_grammar.specs.declared.line.LineRead.{LineRead}
 use Rattle.text_grammar.specs.declared.line.LineRead.TheVariants as reads
-use Rattle.text_grammar.specs.Cuts.{IsNamed}
+use Rattle.line_scan.specs.Cuts.{IsNamed}
 use Rattle.text_grammar.specs.LineReading.{says_fault, Reads, IsRead, Makes, help_of, type_of, written_sample}
-use Rattle.text_grammar.proofs.Utf8.{utf8_tail}
+use Rattle.line_scan.proofs.Laws.{utf8_tail}
 
 -- ---- timestamps
 

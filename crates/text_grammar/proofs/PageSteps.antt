@@ -4,7 +4,7 @@ use Rattle.std.specs.Prelude.{option_map}
 use Rattle.std.specs.Option.{option_or}
 use Rattle.std.proofs.lemmas.List.{append-nil, append_assoc, map-append, length-map, length-append, length-drop, take-append-drop}
 use Rattle.std.proofs.Math.Seq.{take-add}
-use Rattle.text_grammar.proofs.Quotes.{tail_slice}
+use Rattle.line_scan.proofs.Laws.{tail_slice}
 use Rattle.std.proofs.lemmas.Bool.Decides.{nat_tests}
 use Rattle.page_lines.specs.declared.Step.{Step}
 use Rattle.page_lines.specs.declared.Step.TheVariants.{Line, More, TooLong}

@@ -1,5 +1,3 @@
-pub mod Cuts
-pub mod Marks
 pub mod LabelReading
 pub mod LineReading
 pub mod PageFeeding

@@ -15,7 +15,7 @@ use Rattle.page_model.specs.Written.{Written, help, type_line, sample, text_sett
 use Rattle.page_model.specs.TextReading.{kind_named, named_at, text_line_of}
 use Rattle.page_model.specs.Faults.{own_fault}
 use Rattle.page_model.specs.PageReading.{line_read}
-use Rattle.text_grammar.specs.declared.scan.Cut.{Cut}
+use Rattle.line_scan.specs.declared.scan.Cut.{Cut}
 use Rattle.text_grammar.specs.declared.line.LineRead.{LineRead}
 use Rattle.text_grammar.specs.declared.line.LineRead.TheVariants as reads
 

@@ -4,36 +4,15 @@ ghost use Rattle.std.specs.Option.{option_copied};
 ghost use Rattle.page_model.specs.TextReading.{begins_blank, label_at, labels_at, middle_at};
 ghost use Rattle.page_model.specs.TextItems.{without_leading_blanks};
 ghost use Rattle.label_sets.specs.Lists.{when_true};
-ghost use Rattle.std.specs.List.{list_any};
-ghost use Rattle.label_sets.specs.Escapes.{is_backslash};
-ghost use Rattle.text_grammar.specs.LabelReading.{IsLabelAt, IsNext, IsAfter, label_of, opened_at, then_blanks};
+ghost use Rattle.line_scan.specs.LabelReading.{IsLabelFound};
+ghost use Rattle.text_grammar.specs.LabelReading.{IsNext, opened_at, then_blanks};
 
-use crate::quoted::{Escapes, quoted_at, unescaped_text};
-use crate::scan::{begins_blank, behind, cut_label_name, without_leading_blanks};
-use label_sets::{Label, Memory, Name};
+use crate::blanks::{begins_blank, without_leading_blanks};
+use label_sets::{Label, Memory};
+use line_scan::{
+    AfterLabel, LabelChar, LabelParts, after_label, behind, cut_name, label_of, quoted_at,
+};
 use std::alloc::Global;
-
-/// A label as it is written.
-#[derive(Clone, Copy)]
-struct LabelParts<'a> {
-    name: &'a [u8],
-    /// The value between the quotes, with its escapes.
-    written: &'a [u8],
-    has_backslash: bool,
-    /// What stands behind the label and the blanks that follow it.
-    rest: &'a [u8],
-}
-
-/// What follows a label, or the opening brace.
-#[derive(Clone, Copy)]
-enum Next<'a> {
-    /// The closing brace, and what stands behind it.
-    End(&'a [u8]),
-    /// A comma, and what stands behind it.
-    More(&'a [u8]),
-    /// Neither.
-    Broken,
-}
 
 /// What stands behind an equals sign and the quote that opens a value, with blanks in front of each.
 fn opened_behind_blanks(bytes: &[u8]) -> Option<&[u8]>
@@ -59,9 +38,9 @@ fn opened_at(bytes: &[u8]) -> Option<&[u8]>
 
 /// The label at the front.
 fn label_at(bytes: &[u8]) -> Option<LabelParts<'_>>
-    ensures { MatchOption result (label_at bytes.now ≡ None) (IsLabelAt bytes.now) }
+    ensures { MatchOption result (label_at bytes.now ≡ None) (IsLabelFound (label_at bytes.now) bytes.now) }
 {
-    let Some(name) = cut_label_name(bytes) else {
+    let Some(name) = cut_name::<LabelChar>(bytes) else {
         return None;
     };
     let Some(opened) = opened_at(name.rest) else {
@@ -78,46 +57,21 @@ fn label_at(bytes: &[u8]) -> Option<LabelParts<'_>>
     })
 }
 
-/// The label that written parts make.
-fn label_of(alloc: Global, parts: LabelParts<'_>) -> Result<Label, Memory>
-    requires name { IsUtf8 parts.name.now }
-    requires written { IsUtf8 parts.written.now }
-    requires backslash { parts.has_backslash ≡ list_any is_backslash parts.written.now }
-    ensures { IfOk result (λ label. label ≡ label_of parts.entry) }
-{
-    let name = Name::from_utf8(alloc, parts.name)?;
-    let value = unescaped_text(alloc, Escapes::Quoted, parts.written, parts.has_backslash)?;
-    Ok(Label { name, value })
-}
-
-/// What follows a label.
-fn after_label(bytes: &[u8]) -> Next<'_>
-    ensures { IsAfter bytes.now result }
-{
-    if let Some(after) = behind(b'}', bytes) {
-        return Next::End(after);
-    }
-    match behind(b',', bytes) {
-        Some(more) => Next::More(more),
-        None => Next::Broken,
-    }
-}
-
 /// Adds the label at the front, and answers what follows it; at a closing brace there is none.
 fn next_label<'a>(
     alloc: Global,
     bytes: &'a [u8],
     labels: &mut Vec<Label>,
-) -> Result<Next<'a>, Memory>
+) -> Result<AfterLabel<'a>, Memory>
     requires { IsUtf8 bytes.now }
     ensures { IfOk result (IsNext bytes.now labels.old.items labels.new.items) }
 {
     let bytes = without_leading_blanks(bytes);
     if let Some(after) = behind(b'}', bytes) {
-        return Ok(Next::End(after));
+        return Ok(AfterLabel::End(after));
     }
     let Some(parts) = label_at(bytes) else {
-        return Ok(Next::Broken);
+        return Ok(AfterLabel::Broken);
     };
     let label = label_of(alloc, parts)?;
     labels.push(label)?;
@@ -138,9 +92,9 @@ fn labels_at<'a>(
     // Each label takes bytes, so there are no more labels than bytes.
     for _ in 0..bytes.len() {
         match next_label(alloc, rest, labels)? {
-            Next::End(after) => return Ok(Some(after)),
-            Next::More(more) => rest = more,
-            Next::Broken => return Ok(None),
+            AfterLabel::End(after) => return Ok(Some(after)),
+            AfterLabel::More(more) => rest = more,
+            AfterLabel::Broken => return Ok(None),
         }
     }
     Ok(None)

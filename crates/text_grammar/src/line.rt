@@ -5,21 +5,22 @@ ghost use Rattle.std.specs.Str.{bytes_eq};
 ghost use Rattle.label_sets.specs.Lists.{when_true};
 ghost use Rattle.exact_decimal.specs.Tokens.{is_number_token};
 ghost use Rattle.page_model.specs.TextItems.{is_integer_token};
-ghost use Rattle.page_model.specs.TextReading.{at_blank, kind_named, marked_of, named_at, sample_of, trimmed_of};
-ghost use Rattle.page_model.specs.Written.{line_limit, label_limit};
+ghost use Rattle.page_model.specs.TextReading.{kind_named, marked_of, named_at, sample_of, trimmed_of};
+ghost use Rattle.page_model.specs.Written.{line_limit};
 ghost use Rattle.page_model.specs.declared.format.Treatment.{Treatment as AnyTreatment};
 ghost use Rattle.text_grammar.specs.LineReading.{Reads, IsRead, IsNamedAt, Makes, help_of, type_of, written_sample};
 
+use crate::blanks::{NotBlank, at_blank, trimmed, without_leading_blanks};
 use crate::labels::middle_at;
-use crate::quoted::{Escapes, has_backslash, unescaped_text};
-use crate::scan::{
-    Cut, behind, cut_metric_name, cut_word, is_blank, trimmed, without_leading_blanks,
-};
 use crate::stamp::{optional_number, stamp_of};
 use exact_decimal::{Number, NumberFault};
-use label_sets::{Kind, Label, LabelFault, LabelSet, Memory, Name};
+use label_sets::{Kind, Label, Memory, Name};
+use line_scan::{
+    Cut, Escapes, MetricChar, behind, cut_chars, cut_name, has_backslash, is_word, own_labels,
+    set_of, unescaped_text,
+};
 use page_model::{Item, Rule, Sample, Treatment};
-use std::alloc::{AllocError, Global};
+use std::alloc::Global;
 
 /// What a line gives.
 #[derive(Drop)]
@@ -29,21 +30,11 @@ pub(crate) enum LineRead {
     Refused(Rule),
 }
 
-/// Whether bytes are empty or begin with a blank.
-fn at_blank(bytes: &[u8]) -> bool
-    ensures { result ≡ at_blank bytes.now }
-{
-    match bytes.split_first() {
-        Some((first, _)) => is_blank(*first),
-        None => true,
-    }
-}
-
 /// The metric name behind the word of a descriptor, and what stands behind the blanks that follow it.
 fn named_at(bytes: &[u8]) -> Option<Cut<'_>>
     ensures { MatchOption result (named_at bytes.now ≡ None) (IsNamedAt bytes.now) }
 {
-    let Some(cut) = cut_metric_name(without_leading_blanks(bytes)) else {
+    let Some(cut) = cut_name::<MetricChar>(without_leading_blanks(bytes)) else {
         return None;
     };
     if !at_blank(cut.rest) {
@@ -53,13 +44,6 @@ fn named_at(bytes: &[u8]) -> Option<Cut<'_>>
         front: cut.front,
         rest: without_leading_blanks(cut.rest),
     })
-}
-
-/// Whether bytes are this word.
-fn is_word(bytes: &[u8], word: &str) -> bool
-    ensures { result ≡ bytes_eq bytes.now word.now }
-{
-    bytes == word.as_bytes()
 }
 
 /// The kind of a word.
@@ -117,7 +101,7 @@ fn marked_line(alloc: Global, bytes: &[u8]) -> Result<LineRead, Memory>
     requires { IsUtf8 bytes.now }
     ensures { (t : AnyTreatment) → IfOk result (Reads t (marked_of bytes.now)) }
 {
-    let word = cut_word(without_leading_blanks(bytes));
+    let word = cut_chars::<NotBlank>(without_leading_blanks(bytes));
     if is_word(word.front, "HELP") {
         return help_line(alloc, word.rest);
     }
@@ -125,16 +109,6 @@ fn marked_line(alloc: Global, bytes: &[u8]) -> Result<LineRead, Memory>
         return type_line(alloc, word.rest);
     }
     Ok(LineRead::Item(Item::Comment))
-}
-
-/// The most labels of a list.
-fn label_limit(treatment: Treatment) -> u32
-    ensures { result ≡ label_limit treatment }
-{
-    match treatment {
-        Treatment::Scraped => 64,
-        Treatment::Written => 66,
-    }
 }
 
 /// The sample of a name, labels and numbers. The labels are refused where two have one name or there are
@@ -151,11 +125,8 @@ fn made_sample(
     requires { IsUtf8 name.now }
     ensures { IfOk result (Makes treatment name.now labels.items value stamp) }
 {
-    let labels = match LabelSet::build(alloc, labels, label_limit(treatment)) {
-        Ok(labels) => labels,
-        Err(LabelFault::Memory) => return Err(AllocError),
-        Err(LabelFault::TooMany) => return Ok(LineRead::Refused(Rule::Labels)),
-        Err(LabelFault::Twice(_)) => return Ok(LineRead::Refused(Rule::Labels)),
+    let Some(labels) = set_of(alloc, treatment, labels)? else {
+        return Ok(LineRead::Refused(Rule::Labels));
     };
     let name = Name::from_utf8(alloc, name)?;
     Ok(LineRead::Item(Item::Sample(Sample {
@@ -193,16 +164,6 @@ fn read_sample(
     made_sample(alloc, treatment, name, labels, value, stamp)
 }
 
-/// The labels that were read, in no more room than they need. The room that they were read into is
-/// for the next line.
-fn own_labels(alloc: Global, labels: &mut Vec<Label>) -> Result<Vec<Label>, Memory>
-    ensures { IfOk result (λ items. items.items ≡ labels.old.items) }
-{
-    let mut items = Vec::with_capacity(alloc, labels.len())?;
-    items.append(labels)?;
-    Ok(items)
-}
-
 /// A sample line.
 fn sample_line(
     alloc: Global,
@@ -213,7 +174,7 @@ fn sample_line(
     requires { IsUtf8 bytes.now }
     ensures { IfOk result (Reads treatment (sample_of bytes.now)) }
 {
-    let Some(name) = cut_metric_name(bytes) else {
+    let Some(name) = cut_name::<MetricChar>(bytes) else {
         return Ok(LineRead::Refused(Rule::Syntax));
     };
     // A line that was refused may have left some.
@@ -221,7 +182,7 @@ fn sample_line(
     let Some(rest) = middle_at(alloc, name.rest, labels)? else {
         return Ok(LineRead::Refused(Rule::Syntax));
     };
-    let value = cut_word(rest);
+    let value = cut_chars::<NotBlank>(rest);
     let Some(stamp) = stamp_of(value.rest) else {
         return Ok(LineRead::Refused(Rule::Syntax));
     };

@@ -12,27 +12,14 @@ ghost use Rattle.page_model.specs.Written.{size_of, is_out_of_i64, short_token};
 ghost use Rattle.page_model.specs.TextItems.{is_integer_token};
 ghost use Rattle.page_model.specs.TextReading.{stamp_of};
 
-use crate::scan::without_leading_blanks;
-use exact_decimal::{Number, whole_digits_law};
+use crate::blanks::without_leading_blanks;
+use exact_decimal::{Number, signed_whole, split_sign};
 
 /// Two to the power of 63: a timestamp lies below it, and not below its opposite.
 const MOST: u128 = 1 << 63;
 
 /// Sizes are counted up to this.
 const ENOUGH: u128 = 1 << 64;
-
-/// Whether a token has a minus, and the token without its sign.
-#[tactic(auto, unfolding(exact_decimal::specs::Tokens::has_minus, exact_decimal::specs::Tokens::unsigned))]
-fn split_sign(token: &[u8]) -> (bool, &[u8])
-    ensures minus { result.0 ≡ has_minus token.now }
-    ensures rest { result.1.now ≡ unsigned token.now }
-{
-    match token.split_first() {
-        Some((b'-', rest)) => (true, rest),
-        Some((b'+', rest)) => (false, rest),
-        _ => (false, token),
-    }
-}
 
 /// Whether each byte is a digit.
 fn are_digits(bytes: &[u8]) -> bool
@@ -89,28 +76,6 @@ fn capped_value(digits: &[u8]) -> u128
     value
 }
 
-/// The number of a whole number's opposite.
-fn opposite(size: u64) -> Number
-    ensures { result ≡ number (45 ∷ decimal size) }
-{
-    let mut buffer = itoa::Buffer::new();
-    let digits = buffer.format(size).as_bytes();
-    let mut token = [b'-'; 41];
-    token[1..digits.len() + 1].copy_from_slice(digits);
-    match exact_decimal::read(&token[..digits.len() + 1]) {
-        Ok(number) => number,
-        Err(_) => Number::NotANumber,
-    }
-}
-
-/// The number of whole milliseconds that are at least zero.
-fn whole(size: u64) -> Number
-    ensures { result ≡ number (decimal size) }
-{
-    whole_digits_law();
-    exact_decimal::of(size)
-}
-
 /// The number of a timestamp; nothing where a signed 64-bit number doesn't hold it.
 pub(crate) fn stamp_number(token: &[u8]) -> Option<Number>
     requires { is_integer_token token.now ≡ true }
@@ -118,16 +83,11 @@ pub(crate) fn stamp_number(token: &[u8]) -> Option<Number>
 {
     let (negative, digits) = split_sign(token);
     let size = capped_value(digits);
-    if negative {
-        if size > MOST {
-            return None;
-        }
-        return Some(opposite(size as u64));
-    }
-    if size >= MOST {
+    let end = if negative { MOST + 1 } else { MOST };
+    if size >= end {
         return None;
     }
-    Some(whole(size as u64))
+    Some(signed_whole(negative, size as u64))
 }
 
 /// The number of a timestamp, or that there is none; nothing where a signed 64-bit number doesn't hold it.

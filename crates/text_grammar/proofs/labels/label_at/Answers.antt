@@ -16,7 +16,7 @@ returns c =
     let n = c.in-Some.ensures in
     let open_utf8 = λ (u : IsUtf8 c.args.bytes.now). c.in-Some-opened_at.ensures.utf8 (n.utf8_rest u) in
     record {
-      found = label-found c.args.bytes.now c.in-Some.name n c.in-Some-opened_at.opened.now c.in-Some-quoted_at.quoted.written.now c.in-Some-quoted_at.quoted.rest.now c.without_leading_blanks.result.now
+      label = label-found c.args.bytes.now c.in-Some.name n c.in-Some-opened_at.opened.now c.in-Some-quoted_at.quoted.written.now c.in-Some-quoted_at.quoted.rest.now c.without_leading_blanks.result.now
           c.in-Some-opened_at.ensures.value c.in-Some-quoted_at.ensures.value c.without_leading_blanks.ensures.value;
       backslash = c.in-Some-quoted_at.ensures.backslash;
       utf8_name = n.utf8_front;

@@ -1,6 +1,6 @@
 use Rattle.std.proofs.Common.{◌≡◌, ◌∙◌, ◌-◌, ◌+◌, refl, sym, arith, length, suc, subst}
 use Rattle.page_model.specs.TextReading.{labels_at}
-use Rattle.text_grammar.specs.declared.labels.Next.TheVariants.{End, More, Broken}
+use Rattle.line_scan.specs.declared.labels.AfterLabel.TheVariants.{End, More, Broken}
 use Rattle.text_grammar.specs.LabelReading.{IsNext}
 use Rattle.text_grammar.proofs.LabelSteps.{no_labels, labels-nothing}
 use Rattle.text_grammar.proofs.labels.labels_at.Goals as goal

@@ -1,6 +1,6 @@
 use Rattle.std.proofs.Common.{◌≡◌, ◌-◌, ◌≤◌, length, IsUtf8}
 use Rattle.page_model.specs.TextReading.{labels_at}
-use Rattle.text_grammar.specs.LabelReading.{behind_labels}
+use Rattle.line_scan.specs.LabelReading.{behind_labels}
 use Rattle.text_grammar.proofs.labels.labels_at.Given as goal
 
 abbrev pub invariant-loop : goal.invariant-loop

@@ -1,4 +1,5 @@
-use Rattle.text_grammar.specs.LabelReading.{IsLabelAt, label_of}
+use Rattle.line_scan.specs.LabelReading.{IsLabelFound, label_of}
+use Rattle.page_model.specs.TextReading.{label_at}
 use Rattle.text_grammar.proofs.LabelSteps.{next-end, next-broken, next-label}
 use Rattle.text_grammar.proofs.labels.next_label.Goals as goal
 
@@ -11,7 +12,7 @@ returns-in_default-label_at c = next-broken c.args.bytes.now c.without_leading_b
 pub returns : goal.returns
 returns c =
     let parts = c.in-Some-label_at.parts in
-    let at : IsLabelAt c.without_leading_blanks-bytes.result.now parts = c.in-Some-label_at.ensures in
+    let at : IsLabelFound (label_at c.without_leading_blanks-bytes.result.now) c.without_leading_blanks-bytes.result.now parts = c.in-Some-label_at.ensures in
     let u = c.without_leading_blanks-bytes.ensures.utf8 c.requires in
     next-label c.args.bytes.now c.without_leading_blanks-bytes.result.now parts.rest.now c.args.labels.now.items c.push.new.self.items (label_of parts) c.after_label.result
-    c.without_leading_blanks-bytes.ensures.value c.in_default.ensures.value at.found (rw (← c.in_ok-label.ensures) c.in_ok-push.ensures.items) (at.utf8_rest u) c.after_label.ensures
+    c.without_leading_blanks-bytes.ensures.value c.in_default.ensures.value at.label (rw (← c.in_ok-label.ensures) c.in_ok-push.ensures.items) (at.utf8_rest u) c.after_label.ensures

@@ -1,6 +1,6 @@
 use Rattle.std.proofs.Common.{rules, arith, ◌≡◌, get_or}
-use Rattle.text_grammar.proofs.Quotes.{tail_slice}
-use Rattle.text_grammar.proofs.Utf8.{utf8_drop}
+use Rattle.line_scan.proofs.Laws.{tail_slice}
+use Rattle.line_scan.proofs.Laws.{utf8_drop}
 use Rattle.text_grammar.proofs.labels.opened_at.Goals as goal
 
 pub returns-in-61-clause-utf8 : goal.returns-in-61-clause-utf8

@@ -1,0 +1,5 @@
+pub mod Quotes
+pub mod Utf8
+pub mod Cutting
+pub mod Tables
+pub mod Laws

@@ -1,0 +1,3 @@
+pub mod Cuts
+pub mod Marks
+pub mod LabelReading

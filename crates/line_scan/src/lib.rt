@@ -1,0 +1,16 @@
+//! What the readers of a line share in both formats: names and quoted values are cut from the front of bytes,
+//! escapes are taken away, and the labels that were gathered become a label set.
+#![tactic(auto)]
+
+mod chars;
+mod labels;
+mod quoted;
+mod scan;
+
+pub use chars::{Blank, CharClass, LabelChar, MetricChar, NameClass};
+pub use labels::{AfterLabel, LabelParts, after_label, label_of, own_labels, set_of};
+pub use quoted::{Escapes, QuotedValue, has_backslash, quoted_at, unescaped_text};
+pub use scan::{Cut, behind, behind_text, cut_chars, cut_name, front_len, is_word};
+
+#[cfg(test)]
+mod tests;
