@@ -6,7 +6,9 @@ use Rattle.std.proofs.lemmas.List.{append-nil, length-take}
 use Rattle.page_model.specs.declared.format.Treatment.TheVariants.{Scraped}
 use Rattle.page_model.specs.declared.fault.PageFault.{PageFault}
 use Rattle.page_model.specs.declared.fault.PageFault.TheVariants as faults
+use Rattle.page_model.specs.declared.counts.PageCounts.{PageCounts}
 use Rattle.page_model.specs.declared.page.Page.{Page}
+use Rattle.page_model.specs.Counts.{counts_of}
 use Rattle.page_model.specs.declared.rule.Rule.{Rule}
 use Rattle.page_model.specs.Pages.{FirstFault}
 use Rattle.text_grammar.specs.PageFeeding.{Fed, Stands, Refuses}
@@ -22,7 +24,7 @@ use Rattle.bridge_cli.specs.Statuses.{code_of}
 use Rattle.bridge_cli.specs.Stops.{too_long_text, stop_of}
 use Rattle.bridge_cli.specs.Inputs.{Took, EndsWithin, IsOverlong}
 use Rattle.bridge_cli.specs.PageAnswers.{page_setting, IsPageAnswer, page_done, page_refused, page_too_long}
-use Rattle.bridge_cli.specs.PageInputs.{IsFed, WasFed, IsFedWhole, HoldsPage, StopLeaves, Leaves}
+use Rattle.bridge_cli.specs.PageInputs.{IsFed, WasFed, IsFedWhole, HoldsPage, HoldsCounts, StopLeaves, Leaves}
 use Rattle.bridge_cli.specs.ProgramOutputs.{HasAnswer}
 use Rattle.bridge_cli.specs.StopAnswers.{StopsAs}
 use Rattle.bridge_cli.proofs.IoLaws.{consumes_none, consumes_twice, consumes_keeps, all_taken}
@@ -121,3 +123,21 @@ pub page_answer : (left : Option (List ℕ)) (page : Page) (text_of : Page → L
 page_answer left page text_of printed holds says =
     let Printed : List ℕ → Type 0 = λ t. HasAnswer (IsPageAnswer page_setting text_of) left (code_of Done) t in
     subst Printed (sym says) (record { bytes = holds.bytes; on_input = holds.on_input; says = page_done page holds.is })
+
+-- the answer to a page with a fault whose families and samples were asked for
+pub count_fault_answer : (left : Option (List ℕ)) (page : FedPage) (fault : PageFault) (text_of : Page → List ℕ) → IsFedWhole left page
+    → ((bytes : List ℕ) → IsFed bytes page → text.CountAnswers page_setting bytes (Err fault)) → StopsAs (IsPageAnswer page_setting text_of) left (stop_of fault)
+count_fault_answer left page (faults.Refused line rule) text_of all ends = fault_answer left page (faults.Refused line rule) text_of all ends
+count_fault_answer left page faults.Memory text_of all ends = tt
+
+-- the numbers of a page that an input holds
+pub holds_counts : (left : Option (List ℕ)) (page : FedPage) (counts : PageCounts) → IsFedWhole left page
+    → ((bytes : List ℕ) → IsFed bytes page → text.CountAnswers page_setting bytes (Ok counts)) → HoldsCounts left counts
+holds_counts left page counts all ends =
+    let has = ends all.bytes all.fed in
+    record { page = has.page; holds = record { bytes = all.bytes; on_input = all.on_input; is = record { short = all.short; is = has.is_page } }; counted = has.counted }
+
+-- the answer to a page without a fault, for a command that prints a text of its numbers
+pub count_answer : (left : Option (List ℕ)) (counts : PageCounts) (text_of : PageCounts → List ℕ) (printed : List ℕ) → HoldsCounts left counts → printed ≡ text_of counts
+    → HasAnswer (IsPageAnswer page_setting (λ page. text_of (counts_of page))) left (code_of Done) printed
+count_answer left counts text_of printed has says = page_answer left has.page (λ page. text_of (counts_of page)) printed has.holds (says ∙ ap text_of has.counted)

@@ -2,7 +2,9 @@
 use Rattle.std.specs.Prelude.{◌≡◌, ℕ, ◌+◌, ◌^◌, ◌<◌, ◌≤◌, ◌-◌, List, length, Option, Result, Ok, Err, ⊤}
 use Rattle.page_model.specs.declared.fault.PageFault.TheVariants as faults
 use Rattle.page_model.specs.declared.format.Treatment.TheVariants.{Scraped}
+use Rattle.page_model.specs.declared.counts.PageCounts.{PageCounts}
 use Rattle.page_model.specs.declared.page.Page.{Page}
+use Rattle.page_model.specs.Counts.{counts_of}
 use Rattle.text_grammar.specs.PageFeeding.{Stands, Refuses}
 use Rattle.bridge_cli.specs.declared.pages.FedPage.{FedPage}
 use Rattle.bridge_cli.specs.declared.pages.FedPage.TheVariants.{Reading, Faulty}
@@ -41,6 +43,12 @@ pub record HoldsPage (left : Option (List ℕ)) (page : Page) : Type 0 where
   pub bytes : List ℕ
   pub on_input : IsInput left bytes
   pub is : IsPageInput page_setting page bytes
+
+-- the bytes on the input are a page of so many families and samples
+pub record HoldsCounts (left : Option (List ℕ)) (counts : PageCounts) : Type 0 where
+  pub page : Page
+  pub holds : HoldsPage left page
+  pub counted : counts ≡ counts_of page
 
 -- how far the input of a page was taken by a command that stops: through, or not past its limit
 abbrev pub StopsReading : Option (List ℕ) → Option (List ℕ) → Stop → Type 0

@@ -1,16 +1,16 @@
 //! The page on an input.
 ghost use Rattle.std.specs.Prelude.{◌≡◌, ◌++◌, ℕ, List, length, IfOk, IfErr};
 ghost use Rattle.page_model.specs.declared.page.Page.{Page as AnyPage};
-ghost use Rattle.text_grammar.specs.PageFeeding.{Answers};
+ghost use Rattle.text_grammar.specs.PageFeeding.{Answers, CountAnswers};
 ghost use Rattle.bridge_cli.specs.declared.stop.Stop.TheVariants.{Memory};
 ghost use Rattle.bridge_cli.specs.PageAnswers.{page_setting, IsPageAnswer};
-ghost use Rattle.bridge_cli.specs.PageInputs.{IsFed, HasRoomFor, IsFedWhole, HoldsPage, Leaves};
+ghost use Rattle.bridge_cli.specs.PageInputs.{IsFed, HasRoomFor, IsFedWhole, HoldsPage, HoldsCounts, Leaves};
 ghost use Rattle.bridge_cli.specs.StopAnswers.{StopsAs};
 
 use crate::limits::{BLOCK_BYTES, MOST_PAGE_BYTES, MOST_SAMPLES};
 use crate::stop::Stop;
 use bridge_ports::Source;
-use page_model::{Page, PageFault, Rule, Treatment};
+use page_model::{Page, PageCounts, PageFault, Rule, Treatment};
 use std::alloc::Global;
 use text_grammar::TextPage;
 
@@ -49,6 +49,16 @@ impl FedPage {
             FedPage::Faulty { line, rule } => Err(PageFault::Refused { line, rule }),
         }
     }
+
+    /// How many families and samples the page has, or its first fault, once all of its bytes were taken.
+    fn count(self) -> Result<PageCounts, PageFault>
+        ensures { (bytes : List ℕ) → IsFed bytes self → CountAnswers page_setting bytes result }
+    {
+        match self {
+            FedPage::Reading(page) => page.count(),
+            FedPage::Faulty { line, rule } => Err(PageFault::Refused { line, rule }),
+        }
+    }
 }
 
 /// Reads an input to its end, or until it is too long, and feeds its page. It reads on behind a fault,
@@ -84,4 +94,15 @@ pub(crate) fn whole_page<I: Source>(alloc: Global, input: &mut I) -> Result<Page
 {
     let page = read_page(alloc, input)?;
     Ok(page.finish()?)
+}
+
+/// How many families and samples the page has that an input holds. No page is made.
+pub(crate) fn page_counts<I: Source>(alloc: Global, input: &mut I) -> Result<PageCounts, Stop>
+    ensures counts { IfOk result (HoldsCounts (I.left input.old)) }
+    ensures stop { (text_of : AnyPage → List ℕ) → IfErr result (StopsAs (IsPageAnswer page_setting text_of) (I.left input.old)) }
+    ensures input { Leaves (I.left input.old) (I.left input.new)
+        (I.read_faults input.old) (I.read_faults input.new) result }
+{
+    let page = read_page(alloc, input)?;
+    Ok(page.count()?)
 }

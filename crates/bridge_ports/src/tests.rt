@@ -84,7 +84,7 @@ fn bytes(alloc: Global, text: &[u8]) -> Result<Bytes, AllocError> {
 }
 
 fn numbers(alloc: Global, numbers: &[u64]) -> Result<List<u64>, AllocError> {
-    Ok(List::from_vec(Vec::from_slice(alloc, numbers)?))
+    List::from_vec(Vec::from_slice(alloc, numbers)?)
 }
 
 #[test]

@@ -10,7 +10,7 @@ use page_model::Quantile;
 use std::alloc::{AllocError, Global};
 
 fn list<T: Drop, const N: usize>(alloc: Global, items: [T; N]) -> Result<List<T>, Memory> {
-    Ok(List::from_vec(Vec::from_array(alloc, items)?))
+    List::from_vec(Vec::from_array(alloc, items)?)
 }
 
 fn text(alloc: Global, text: &str) -> Result<Text, Memory> {
@@ -119,7 +119,7 @@ fn histograms(alloc: Global) -> Result<Metric, Memory> {
     }
     let summed = HistogramValue {
         layout: Layout {
-            bounds: List::from_vec(bounds),
+            bounds: List::from_vec(bounds)?,
             counts: list(alloc, [2, 3, 0])?,
             count: 5,
         },
@@ -169,7 +169,7 @@ fn summaries(alloc: Global) -> Result<Metric, Memory> {
     let value = SummaryValue {
         count: 0,
         sum: number("0"),
-        quantiles: List::from_vec(quantiles),
+        quantiles: List::from_vec(quantiles)?,
     };
     let points = [summary(alloc, Some(value)), summary(alloc, None)];
     Ok(Metric {

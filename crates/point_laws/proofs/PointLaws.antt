@@ -31,7 +31,6 @@ use Rattle.page_model.proofs.KindLaws.{kind_of_page}
 use Rattle.sample_groups.proofs.Cumulative.{AreRising, RiseToUp}
 use Rattle.family_rules.proofs.Values.{IsPlain, IsQuantiles, HasRisingBuckets, HaveValuesOf, page_values}
 use Rattle.histogram_layout.specs.Layouts.{may_follow, are_cumulative}
-use Rattle.histogram_layout.specs.Layouts.{is_up as layout_is_up}
 use Rattle.otlp_tree.specs.declared.tree.Metric.{Metric}
 use Rattle.otlp_tree.specs.declared.tree.Shape.{Shape}
 use Rattle.otlp_tree.specs.declared.tree.Shape.TheVariants as shapes
@@ -52,13 +51,7 @@ finite_below NotANumber b bound h = absurd cc
 
 cumulative_from : (bs : List Bucket) (b : Bucket) → is_bound b.le ≡ true → AreRising (Some b) bs → some_passes (λ (c : Bucket). is_up c.le) (last_or (Some b) bs) ≡ true → are_cumulative (b ∷ bs) ≡ true
 unfolding are_cumulative may_follow
-cumulative_from [] b bound rising last = up b.le last
-  where
-    up : (n : Number) → is_up n ≡ true → layout_is_up n ≡ true
-    up (Finite d) h = absurd cc
-    up Up h = refl
-    up Down h = absurd cc
-    up NotANumber h = absurd cc
+cumulative_from [] b bound rising last = last
 cumulative_from (c ∷ bs) b bound rising last =
     let follows = and_parts (less b.le c.le) (nat_le b.count c.count) (not-false (less b.le c.le && nat_le b.count c.count) rising.1) in
     let finite : is_finite b.le ≡ true = finite_below b.le c.le bound follows.0 in

@@ -10,22 +10,22 @@ ghost use Rattle.bridge_cli.specs.ProgramOutputs.{HasAnswer};
 ghost use Rattle.bridge_cli.specs.StopAnswers.{StopsAs};
 
 use crate::digits::push_number;
-use crate::pages::whole_page;
+use crate::pages::page_counts;
 use crate::stop::Stop;
 use bridge_ports::Source;
-use page_model::Page;
+use page_model::PageCounts;
 use std::alloc::{AllocError, Global};
 
-/// The line of a page without a fault.
-#[tactic(auto, unfolding(crate::specs::CheckTexts::checked_text))]
-fn checked_text(alloc: Global, page: &Page) -> Result<Vec<u8>, AllocError>
-    ensures { IfOk result (λ text. text.items ≡ spec.checked_text page.now) }
+/// The line of a page with these numbers and without a fault.
+#[tactic(auto, unfolding(crate::specs::CheckTexts::counted_text))]
+fn counted_text(alloc: Global, counts: PageCounts) -> Result<Vec<u8>, AllocError>
+    ensures { IfOk result (λ text. text.items ≡ spec.counted_text counts) }
 {
     let mut text = Vec::new(alloc);
     text.extend_from_slice(b"ok ")?;
-    push_number(&mut text, page.families.len() as u64)?;
+    push_number(&mut text, counts.families as u64)?;
     text.extend_from_slice(b" families ")?;
-    push_number(&mut text, u64::from(page.samples))?;
+    push_number(&mut text, u64::from(counts.samples))?;
     text.extend_from_slice(b" samples\n")?;
     Ok(text)
 }
@@ -37,6 +37,6 @@ pub(super) fn check<I: Source>(alloc: Global, input: &mut I) -> Result<Vec<u8>, 
     ensures input { Leaves (I.left input.old) (I.left input.new)
         (I.read_faults input.old) (I.read_faults input.new) result }
 {
-    let page = whole_page(alloc, input)?;
-    Ok(checked_text(alloc, &page)?)
+    let counts = page_counts(alloc, input)?;
+    Ok(counted_text(alloc, counts)?)
 }

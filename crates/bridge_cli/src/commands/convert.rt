@@ -26,7 +26,7 @@ fn converted_text(
 ) -> Result<Vec<u8>, AllocError>
     ensures { IfOk result (λ text. text.items ≡ spec.converted_text target.now nanos page) }
 {
-    let request = event_request(alloc, target, nanos, Outcome::Page(page))?;
+    let request = event_request(alloc, target, nanos, &Outcome::Page(page))?;
     let mut text = Vec::new(alloc);
     otlp_json::write(&request, &mut text)?;
     drop(request);
