@@ -1,4 +1,4 @@
-ghost use Rattle.std.specs.Prelude.{◌≡◌, [], ◌∷◌, drop, map, IfOk, IsUtf8, MatchOption};
+ghost use Rattle.std.specs.Prelude.{◌≡◌, [], ◌∷◌, drop, map, IfOk, OnErr, IsUtf8, MatchOption};
 ghost use Rattle.std.specs.List.{All};
 ghost use Rattle.packed_keys.specs.Packing.{key_at};
 ghost use Rattle.packed_keys.specs.Texts.{IsPackedKey};
@@ -59,7 +59,8 @@ impl Keys {
 
     /// The next key, where there is one. A name is shared with the key before where it is the same.
     pub fn next(&mut self, alloc: Global) -> Result<Option<SampleKey>, Memory>
-        ensures { IfOk result (λ next. MatchOption next ((self.old ≡ []) × (self.new ≡ [])) (λ key. self.old ≡ key ∷ self.new)) }
+        ensures steps { IfOk result (λ next. MatchOption next ((self.old ≡ []) × (self.new ≡ [])) (λ key. self.old ≡ key ∷ self.new)) }
+        ensures err { OnErr result (self.new ≡ self.old) }
     {
         if self.at >= self.table.len() {
             return Ok(None);

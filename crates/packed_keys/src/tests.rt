@@ -1,4 +1,4 @@
-use crate::{SampleKey, SeenKeys, SeenNames, SeenSets};
+use crate::{Keys, SampleKey, SeenKeys, SeenNames, SeenSets};
 use label_sets::{Label, LabelSet, Memory, Name, Text};
 use std::alloc::{AllocError, Global};
 use std::test::Fail;
@@ -20,60 +20,74 @@ fn set(alloc: Global, written: &str) -> Result<LabelSet, Memory> {
     }
 }
 
-fn key(alloc: Global, name: &str, labels: &str) -> Result<SampleKey, Memory> {
+/// Whether a key of this name and these labels is new.
+fn is_new(alloc: Global, seen: &mut SeenKeys, name: &str, labels: &str) -> Result<bool, Memory> {
     let name = Name::from_str(alloc, name)?;
     let labels = set(alloc, labels)?;
-    Ok(SampleKey { name, labels })
+    seen.insert(&SampleKey { name, labels })
 }
 
-/// Whether the key is one of this name and these labels.
-fn is_key(alloc: Global, key: &SampleKey, name: &str, labels: &str) -> Result<bool, Memory> {
-    Ok(key.name.as_str() == name && key.labels == set(alloc, labels)?)
+/// Whether the next key is one of this name and these labels.
+fn is_next(alloc: Global, keys: &mut Keys, name: &str, labels: &str) -> Result<bool, Memory> {
+    let labels = set(alloc, labels)?;
+    match keys.next(alloc)? {
+        Some(key) => Ok(key.name.as_str() == name && key.labels == labels),
+        None => Ok(false),
+    }
 }
 
 #[test]
 fn keys_are_seen_once_and_read_back(rt: HostRuntime) -> Result<(), Fail> {
     let alloc = rt.alloc();
     let mut seen = SeenKeys::new(alloc);
-    assert!(rt; seen.insert(&key(alloc, "requests", "code=200 job=a")?)?);
-    assert!(rt; seen.insert(&key(alloc, "requests", "code=20 job=0a")?)?);
-    assert!(rt; !seen.insert(&key(alloc, "requests", "job=a code=200")?)?);
-    assert!(rt; seen.insert(&key(alloc, "up", "")?)?);
+    assert!(rt; is_new(alloc, &mut seen, "requests", "code=200 job=a")?);
+    assert!(rt; is_new(alloc, &mut seen, "requests", "code=20 job=0a")?);
+    assert!(rt; !is_new(alloc, &mut seen, "requests", "job=a code=200")?);
+    assert!(rt; is_new(alloc, &mut seen, "up", "")?);
     assert_eq!(rt; seen.len(), 3);
     let mut keys = seen.into_keys();
-    let first = keys.next(alloc)?.ok_or("no first key")?;
-    assert!(rt; is_key(alloc, &first, "requests", "code=200 job=a")?);
+    assert!(rt; is_next(alloc, &mut keys, "requests", "code=200 job=a")?);
     keys.pass_over(1);
-    let last = keys.next(alloc)?.ok_or("no last key")?;
-    assert!(rt; is_key(alloc, &last, "up", "")?);
+    assert!(rt; is_next(alloc, &mut keys, "up", "")?);
     assert!(rt; keys.next(alloc)?.is_none());
     Ok(())
+}
+
+/// A text, and behind it another one 255 times.
+fn long(alloc: Global, text: &str, more: &str) -> Result<String, AllocError> {
+    let mut long = String::from_str(alloc, text)?;
+    for _ in 0..255 {
+        long.push_str(more)?;
+    }
+    Ok(long)
 }
 
 #[test]
 fn long_parts_are_read_back(rt: HostRuntime) -> Result<(), Fail> {
     let alloc = rt.alloc();
-    let mut name = String::new(alloc);
-    let mut labels = String::from_str(alloc, "code=2 job=")?;
-    for _ in 0..255 {
-        name.push('n')?;
-        labels.push('é')?;
-    }
+    let name = long(alloc, "", "n")?;
+    let labels = long(alloc, "code=2 job=", "é")?;
     let mut seen = SeenKeys::new(alloc);
-    assert!(rt; seen.insert(&key(alloc, name.as_str(), labels.as_str())?)?);
-    let read = seen.into_keys().next(alloc)?.ok_or("no key")?;
-    assert!(rt; is_key(alloc, &read, name.as_str(), labels.as_str())?);
+    assert!(rt; is_new(alloc, &mut seen, name.as_str(), labels.as_str())?);
+    let mut keys = seen.into_keys();
+    assert!(rt; is_next(alloc, &mut keys, name.as_str(), labels.as_str())?);
     Ok(())
+}
+
+/// The place of a set without its `le`.
+fn place(alloc: Global, seen: &mut SeenSets, labels: &str) -> Result<usize, Memory> {
+    let labels = set(alloc, labels)?;
+    seen.insert_without(&labels, b"le")
 }
 
 #[test]
 fn sets_are_seen_without_a_label(rt: HostRuntime) -> Result<(), Fail> {
     let alloc = rt.alloc();
     let mut seen = SeenSets::new(alloc);
-    assert_eq!(rt; seen.insert_without(&set(alloc, "job=a le=1")?, b"le")?, 0);
-    assert_eq!(rt; seen.insert_without(&set(alloc, "job=a le=2")?, b"le")?, 0);
-    assert_eq!(rt; seen.insert_without(&set(alloc, "job=b le=1")?, b"le")?, 1);
-    assert_eq!(rt; seen.insert_without(&set(alloc, "job=a")?, b"le")?, 0);
+    assert_eq!(rt; place(alloc, &mut seen, "job=a le=1")?, 0);
+    assert_eq!(rt; place(alloc, &mut seen, "job=a le=2")?, 0);
+    assert_eq!(rt; place(alloc, &mut seen, "job=b le=1")?, 1);
+    assert_eq!(rt; place(alloc, &mut seen, "job=a")?, 0);
     assert_eq!(rt; seen.len(), 2);
     if seen.len() > 1 {
         assert!(rt; seen.set(alloc, 1)? == set(alloc, "job=b")?);
