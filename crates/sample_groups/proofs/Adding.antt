@@ -1,117 +1,117 @@
--- One part more in a group.
-use Rattle.std.proofs.Common.{◌≡◌, ◌-◌, Bool, true, false, cond, not, ◌&&◌, ◌||◌, List, [], ◌∷◌, ◌++◌, map, length, slice_get, Option, Some, None, is_some, refl, sym, ap, subst, ◌∙◌, arith}
-use Rattle.std.proofs.lemmas.Bool.{eqb-true, eq-eqb}
-use Rattle.std.specs.List.{last_or, list_any}
-use Rattle.std.specs.Map.{lookup}
-use Rattle.indexmap.specs.IndexMap.{insert_entry}
-use Rattle.exact_decimal.specs.declared.number.Number.{Number}
+-- What is asked of the parts of a group, and the places of its quantiles.
+use Rattle.std.proofs.Common.{◌≡◌, ℕ, ◌+◌, ◌<◌, ◌≤◌, Bool, true, false, cond, ◌||◌, List, [], ◌∷◌, ◌++◌, map, filter_map, drop, length, get_or, Option, Some, None, is_some, is_eq, refl, sym, ap, ◌∙◌}
+use Rattle.std.specs.List.{list_any, last_or, cons_option}
+use Rattle.std.specs.BTreeMap.{is_at}
+use Rattle.std.specs.Cmp.{eq_by_cmp_equiv}
+use Rattle.std.proofs.lemmas.List.{append-nil, drop_more, drop_all}
+use Rattle.std.proofs.lemmas.List.Elements.{filter_map-append}
+use Rattle.std.proofs.lemmas.List.Folds.{list_any-append}
 use Rattle.exact_decimal.specs.declared.number.Number.TheVariants.{Finite}
-use Rattle.exact_decimal.specs.Decimals.{DecimalValue, IsNormal}
+use Rattle.exact_decimal.specs.Decimals.{DecimalValue, decimal_cmp}
 use Rattle.exact_decimal.specs.Order.{same}
-use Rattle.std.specs.Cmp.{booleans_Decides}
-use Rattle.exact_decimal.specs.contracts.decimal.DecimalPartialEq.TheImpl.{ghosts}
-use Rattle.exact_decimal.proofs.NumberOrder.{same_normal}
+use Rattle.exact_decimal.proofs.Laws.{decimal_cmp_total}
+use Rattle.page_model.specs.declared.page.Bucket.{Bucket}
 use Rattle.page_model.specs.declared.page.Quantile.{Quantile}
+use Rattle.sample_groups.specs.declared.part.Part.{Part}
 use Rattle.sample_groups.specs.declared.part.Part.TheVariants as parts
-use Rattle.sample_groups.specs.Groups.{Gathered, with_one}
-use Rattle.sample_groups.specs.Kept.{quantile_at_place, AreNormal}
+use Rattle.sample_groups.specs.declared.places.Place.{Place}
+use Rattle.sample_groups.specs.Groups.{bucket_in, quantile_in}
+use Rattle.sample_groups.specs.Places.{has_place, is_place_in, HasPlacesOf}
+use Rattle.sample_groups.specs.PlaceOrder.{place_cmp}
+use Rattle.sample_groups.proofs.Members.{last_or-snoc}
 
--- ---- buckets
+-- ---- the last bucket
 
-last_after : {A : Type 0} (x : A) (xs : List A) (o : Option A) → slice_get (x ∷ xs) (length xs) ≡ last_or o (x ∷ xs)
-last_after x [] o = refl
-last_after x (y ∷ ys) o = last_after y ys (Some x)
+-- it is the last part, where that is one
+pub last_some : (ps front : List Part) (p : Part) (o : Option Bucket) → ps ≡ front ++ p ∷ [] → o ≡ bucket_in p → is_some o ≡ true → o ≡ last_or None (filter_map bucket_in ps)
+last_some ps front p None split is some = absurd (let no : false ≡ true = some in cc)
+last_some ps front p (Some b) split is some =
+    sym (ap (λ l. last_or None (filter_map bucket_in l)) split ∙ ap (last_or None) (filter_map-append bucket_in front (p ∷ [])) ∙ ap (λ o. last_or None (filter_map bucket_in front ++ cons_option o [])) (sym is)
+    ∙ last_or-snoc None (filter_map bucket_in front) b)
 
--- the last element
-pub last_is : {A : Type 0} (xs : List A) → slice_get xs (length xs - 1) ≡ last_or None xs
-last_is [] = refl
-last_is (x ∷ xs) = ap (slice_get (x ∷ xs)) (omega arith) ∙ last_after x xs None
+-- else it is that of the parts before
+pub last_none : (ps front : List Part) (p : Part) (o : Option Bucket) → ps ≡ front ++ p ∷ [] → o ≡ bucket_in p → is_some o ≡ false → last_or None (filter_map bucket_in ps) ≡ last_or None (filter_map bucket_in front)
+last_none ps front p (Some b) split is none = absurd (let no : true ≡ false = none in cc)
+last_none ps front p None split is none =
+    ap (λ l. last_or None (filter_map bucket_in l)) split ∙ ap (last_or None) (filter_map-append bucket_in front (p ∷ [])) ∙ ap (λ o. last_or None (filter_map bucket_in front ++ cons_option o [])) (sym is)
+    ∙ ap (last_or None) (append-nil (filter_map bucket_in front))
 
--- ---- quantiles
+-- ---- places
 
-agree : (b c : Bool) → (b ≡ true → c ≡ true) → (c ≡ true → b ≡ true) → b ≡ c
-agree true true f g = refl
-agree false false f g = refl
-agree true false f g = sym (f refl)
-agree false true f g = g refl
+-- that two values are one goes both ways
+same_back : (a b : DecimalValue) → is_eq (decimal_cmp a b) ≡ same (Finite b) (Finite a)
+unfolding same
+same_back a b = (eq_by_cmp_equiv decimal_cmp_total).symm a b
 
-both : (a b : Bool) → (a && b) ≡ true → (a ≡ true) × (b ≡ true)
-both true b h = (refl, h)
-both false b h = absurd (let no : false ≡ true = h in cc)
+-- a place that is looked for in the order of places is one of them
+pub among : (at : DecimalValue) (ps : List Place) → list_any (is_at (place_cmp (record { at = at }))) ps ≡ is_place_in (map (λ (p : Place). p.at) ps) at
+among at [] = refl
+among at (p ∷ ps) = let first = same_back at p.at in let rest = among at ps in λ i. first i || rest i
 
-one_decimal : (a b : DecimalValue) → ghosts.eq a b ≡ true → a ≡ b
-one_decimal a b h =
-    let digits = both _ _ h in
-    let up = both _ _ digits.1 in
-    let down = both _ _ up.1 in
-    let d = eqb-true a.digits b.digits digits.0 in
-    let u = eqb-true a.up b.up up.0 in
-    let w = eqb-true a.down b.down down.0 in
-    let n = (booleans_Decides a.negative b.negative).0 down.1 in
-    λ i. record { negative = n i; digits = d i; up = u i; down = w i }
+either : (b c : Bool) → cond b true c ≡ (b || c)
+either true c = refl
+either false c = refl
 
-itself : (a : DecimalValue) → ghosts.eq a a ≡ true
-itself a = λ i. eq-eqb a.digits a.digits refl i && (eq-eqb a.up a.up refl i && (eq-eqb a.down a.down refl i && (booleans_Decides a.negative a.negative).1 refl i))
+pub same_is : (a b : DecimalValue) → is_eq (decimal_cmp a b) ≡ same (Finite a) (Finite b)
+unfolding same
+same_is a b = refl
 
--- equal places and one place are the same of decimals in their one form
-same_is : (a b : DecimalValue) → IsNormal a → IsNormal b → ghosts.eq b a ≡ same (Finite a) (Finite b)
-same_is a b an bn = agree (ghosts.eq b a) (same (Finite a) (Finite b)) (λ e. (same_normal a b an bn).1 (sym (one_decimal b a e))) (λ e. subst (λ c. ghosts.eq b c ≡ true) (sym ((same_normal a b an bn).0 e)) (itself b))
+-- a place more
+pub one_more_among : (at d : DecimalValue) (old new : List Place)
+    → list_any (is_at (place_cmp (record { at = d }))) new ≡ cond (is_at (place_cmp (record { at = at })) (record { at = d })) true (list_any (is_at (place_cmp (record { at = d }))) old)
+    → is_place_in (map (λ (p : Place). p.at) new) d ≡ (same (Finite at) (Finite d) || is_place_in (map (λ (p : Place). p.at) old) d)
+one_more_among at d old new updates =
+    sym (among d new) ∙ updates ∙ either (is_eq (decimal_cmp at d)) (list_any (is_at (place_cmp (record { at = d }))) old)
+    ∙ (λ i. same_is at d i || among d old i)
 
--- a place is taken where the quantiles have it
-pub taken : (at : DecimalValue) (es : List (DecimalValue × Number)) → IsNormal at → AreNormal es
-    → is_some (lookup (ghosts.eq at) es) ≡ list_any (λ (p : Quantile). same (Finite p.at) (Finite at)) (map quantile_at_place es)
-taken at [] normal each = refl
-taken at (e ∷ es) normal each = by (ghosts.eq at e.0) (same (Finite e.0) (Finite at)) (same_is e.0 at each.0 normal) (taken at es normal each.1)
+-- the places of one quantile more
+pub more_has : (qs : List Quantile) (old new : List DecimalValue) (q : Quantile) → HasPlacesOf qs old
+    → ((d : DecimalValue) → is_place_in new d ≡ (same (Finite q.at) (Finite d) || is_place_in old d)) → HasPlacesOf (qs ++ q ∷ []) new
+more_has qs old new q has more = λ d. more d ∙ ap (λ b. same (Finite q.at) (Finite d) || b) (has d) ∙ turned (same (Finite q.at) (Finite d)) (has_place qs d)
+    ∙ sym (list_any-append (λ (p : Quantile). same (Finite p.at) (Finite d)) qs (q ∷ []))
   where
-    by : (b c : Bool) → b ≡ c → is_some (lookup (ghosts.eq at) es) ≡ list_any (λ (p : Quantile). same (Finite p.at) (Finite at)) (map quantile_at_place es)
-        → is_some (cond b (Some e.1) (lookup (ghosts.eq at) es)) ≡ (c || list_any (λ (p : Quantile). same (Finite p.at) (Finite at)) (map quantile_at_place es))
-    by true true e rest = refl
-    by false false e rest = rest
-    by true false e rest = absurd (let no : true ≡ false = e in cc)
-    by false true e rest = absurd (let no : false ≡ true = e in cc)
+    turned : (b c : Bool) → (b || c) ≡ (c || (b || false))
+    turned true true = refl
+    turned true false = refl
+    turned false true = refl
+    turned false false = refl
 
--- a new place goes last
-pub quantile_last : (es : List (DecimalValue × Number)) (at : DecimalValue) (value : Number) → is_some (lookup (ghosts.eq at) es) ≡ false
-    → map quantile_at_place (insert_entry ghosts.eq es at value) ≡ map quantile_at_place es ++ quantile_at_place (at, value) ∷ []
-quantile_last [] at value none = refl
-quantile_last (e ∷ es) at value none = by (ghosts.eq at e.0) none (quantile_last es at value)
+-- the places so far and those of the parts that are left are all of them
+abbrev pub Gathers : List Part → List DecimalValue → List Part → Type 0
+Gathers all places left = (d : DecimalValue) → (is_place_in places d || has_place (filter_map quantile_in left) d) ≡ has_place (filter_map quantile_in all) d
+
+pub gathers_none : (all : List Part) (places : List DecimalValue) → places ≡ [] → Gathers all places all
+gathers_none all places none d = ap (λ l. is_place_in l d || has_place (filter_map quantile_in all) d) none
+
+pub gathers_one : (all : List Part) (old new : List DecimalValue) (i : ℕ) (p : Part) (q : Quantile) → i < length all → p ≡ get_or all i p → p ≡ parts.Quantile q
+    → ((d : DecimalValue) → is_place_in new d ≡ (same (Finite q.at) (Finite d) || is_place_in old d)) → Gathers all old (drop i all) → Gathers all new (drop (i + 1) all)
+gathers_one all old new i p q within at is more so_far d =
+    let left : drop i all ≡ parts.Quantile q ∷ drop (i + 1) all = drop_more all i p within ∙ ap (λ x. x ∷ drop (i + 1) all) (sym at ∙ is) in
+    ap (λ b. b || has_place (filter_map quantile_in (drop (i + 1) all)) d) (more d)
+    ∙ moved (same (Finite q.at) (Finite d)) (is_place_in old d) (has_place (filter_map quantile_in (drop (i + 1) all)) d)
+    ∙ ap (λ l. is_place_in old d || has_place (filter_map quantile_in l) d) (sym left) ∙ so_far d
   where
-    by : (b : Bool) → is_some (cond b (Some e.1) (lookup (ghosts.eq at) es)) ≡ false
-        → (is_some (lookup (ghosts.eq at) es) ≡ false → map quantile_at_place (insert_entry ghosts.eq es at value) ≡ map quantile_at_place es ++ quantile_at_place (at, value) ∷ [])
-        → map quantile_at_place (cond b ((e.0, value) ∷ es) (e ∷ insert_entry ghosts.eq es at value)) ≡ quantile_at_place e ∷ (map quantile_at_place es ++ quantile_at_place (at, value) ∷ [])
-    by true none more = absurd (let no : true ≡ false = none in cc)
-    by false none more = ap (λ l. quantile_at_place e ∷ l) (more none)
+    moved : (a b c : Bool) → ((a || b) || c) ≡ (b || (a || c))
+    moved true true c = refl
+    moved true false c = refl
+    moved false true c = refl
+    moved false false c = refl
 
--- one place more
-pub normal_put : (es : List (DecimalValue × Number)) (at : DecimalValue) (value : Number) → AreNormal es → IsNormal at → AreNormal (insert_entry ghosts.eq es at value)
-normal_put [] at value each normal = (normal, tt)
-normal_put (e ∷ es) at value each normal = by (ghosts.eq at e.0) (normal_put es at value each.1 normal)
+pub gathers_other : (all : List Part) (places : List DecimalValue) (i : ℕ) (p : Part) → i < length all → p ≡ get_or all i p → ((q : Quantile) → p ≡ parts.Quantile q → ⊥)
+    → Gathers all places (drop i all) → Gathers all places (drop (i + 1) all)
+gathers_other all places i p within at other so_far d =
+    let left : drop i all ≡ p ∷ drop (i + 1) all = drop_more all i p within ∙ ap (λ x. x ∷ drop (i + 1) all) (sym at) in
+    ap (λ l. is_place_in places d || has_place l d) (sym (ap (filter_map quantile_in) left ∙ none p other)) ∙ so_far d
   where
-    by : (b : Bool) → AreNormal (insert_entry ghosts.eq es at value) → AreNormal (cond b ((e.0, value) ∷ es) (e ∷ insert_entry ghosts.eq es at value))
-    by true rest = each
-    by false rest = (each.0, rest)
+    none : (r : Part) → ((q : Quantile) → r ≡ parts.Quantile q → ⊥) → filter_map quantile_in (r ∷ drop (i + 1) all) ≡ filter_map quantile_in (drop (i + 1) all)
+    none (parts.Bucket b) other = refl
+    none (parts.Quantile q) other = absurd (other q refl)
+    none (parts.Sum n) other = refl
+    none (parts.Count n) other = refl
 
--- ---- the answers
-
--- what a map of quantiles answers to one more, and what it holds then
-pub record IsPut (before after : List (DecimalValue × Number)) (q : Quantile) (answer : Bool) : Type 0 where
-  pub old : Option Number
-  pub old_is : old ≡ lookup (ghosts.eq q.at) before
-  pub answer_is : is_some old ≡ not answer
-  pub after_is : after ≡ insert_entry ghosts.eq before q.at q.value
-
-pub put_answer : (before after : List (DecimalValue × Number)) (q : Quantile) (answer : Bool) → IsPut before after q answer → AreNormal before → IsNormal q.at
-    → answer ≡ not (list_any (λ (p : Quantile). same (Finite p.at) (Finite q.at)) (map quantile_at_place before))
-put_answer before after q answer put each normal = twice answer ∙ ap not (sym put.answer_is ∙ ap is_some put.old_is ∙ taken q.at before normal each)
+pub gathers_all : (all : List Part) (places : List DecimalValue) (i : ℕ) → length all ≤ i → Gathers all places (drop i all) → HasPlacesOf (filter_map quantile_in all) places
+gathers_all all places i end so_far d = no_more (is_place_in places d) ∙ ap (λ l. is_place_in places d || has_place (filter_map quantile_in l) d) (sym (drop_all i all end)) ∙ so_far d
   where
-    twice : (b : Bool) → b ≡ not (not b)
-    twice true = refl
-    twice false = refl
-
-pub put_more : (g : Gathered) (before after : List (DecimalValue × Number)) (q : Quantile) (answer : Bool) → IsPut before after q answer → answer ≡ true → map quantile_at_place before ≡ g.quantiles
-    → record g { quantiles = map quantile_at_place after } ≡ with_one g (parts.Quantile q)
-unfolding with_one
-put_more g before after q answer put new is =
-    let none : is_some (lookup (ghosts.eq q.at) before) ≡ false = sym (ap is_some put.old_is) ∙ put.answer_is ∙ ap not new in
-    let more : map quantile_at_place after ≡ g.quantiles ++ q ∷ [] = ap (map quantile_at_place) put.after_is ∙ quantile_last before q.at q.value none ∙ ap (λ l. l ++ q ∷ []) is in
-    λ i. record g { quantiles = more i }
+    no_more : (b : Bool) → b ≡ (b || false)
+    no_more true = refl
+    no_more false = refl

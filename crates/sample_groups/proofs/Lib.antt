@@ -7,4 +7,7 @@ pub mod Made
 pub mod Cumulative
 pub mod Finds
 pub mod Adding
+pub mod Grown
 pub mod Placing
+pub mod BesideLaws
+pub mod Laws

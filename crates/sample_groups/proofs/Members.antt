@@ -7,7 +7,6 @@ use Rattle.std.proofs.lemmas.List.Folds.{list_all-append, list_any-append}
 use Rattle.std.specs.List.{list_any, list_all, last_or, cons_option}
 use Rattle.std.specs.Option.{option_or}
 use Rattle.std.specs.Map.{lookup}
-use Rattle.indexmap.specs.IndexMap.{insert_entry}
 use Rattle.label_sets.specs.Lists.{first_of_each, first_some, some_passes}
 use Rattle.page_model.proofs.Groups.{Member}
 
@@ -53,7 +52,7 @@ list_any-reverse p [] = refl
 list_any-reverse p (x ∷ xs) = ap (list_any p) (reverse-cons x xs) ∙ list_any-append p (reverse xs) (x ∷ [])
     ∙ ap (λ b. list_any p (reverse xs) || b) (or_false (p x)) ∙ or_swap (list_any p (reverse xs)) (p x) ∙ ap (λ b. p x || b) (list_any-reverse p xs)
 
-last_or-snoc : {A : Type 0} (o : Option A) (xs : List A) (x : A) → last_or o (xs ++ x ∷ []) ≡ Some x
+pub last_or-snoc : {A : Type 0} (o : Option A) (xs : List A) (x : A) → last_or o (xs ++ x ∷ []) ≡ Some x
 last_or-snoc o [] x = refl
 last_or-snoc o (y ∷ ys) x = last_or-snoc (Some y) ys x
 
@@ -322,26 +321,10 @@ module _ {K : Type 0} (eq : K → K → Bool) (decides : (a b : K) → (eq a b �
         by true e more = ap (λ l. Some (g l)) (sym ((decides k x).0 e))
         by false e more = more
 
-    keyed_agree : (g h : K → V) (k : K) (ks : List K) → ((l : K) → eq k l ≡ false → h l ≡ g l) → has_key k ks ≡ false → keyed g ks ≡ keyed h ks
+    pub keyed_agree : (g h : K → V) (k : K) (ks : List K) → ((l : K) → eq k l ≡ false → h l ≡ g l) → has_key k ks ≡ false → keyed g ks ≡ keyed h ks
     keyed_agree g h k [] same none = refl
     keyed_agree g h k (x ∷ xs) same none = by (eq k x) refl none (keyed_agree g h k xs same)
       where
         by : (b : Bool) → eq k x ≡ b → (b || has_key k xs) ≡ false → (has_key k xs ≡ false → keyed g xs ≡ keyed h xs) → keyed g (x ∷ xs) ≡ keyed h (x ∷ xs)
         by true e f more = absurd (let c : true ≡ false = f in cc)
         by false e f more = let rest = more f in let first = sym (same x e) in λ i. (x, first i) ∷ rest i
-
-    -- one value written, where the others stay
-    pub insert_entry-keyed : (g h : K → V) (k : K) (ks : List K) → ((l : K) → eq k l ≡ false → h l ≡ g l) → AreApart ks → insert_entry eq (keyed g ks) k (h k) ≡ keyed h (with_key ks k)
-    insert_entry-keyed g h k [] same d = refl
-    insert_entry-keyed g h k (x ∷ xs) same d = by (eq k x) refl (insert_entry-keyed g h k xs same d.1)
-      where
-        by : (b : Bool) → eq k x ≡ b → insert_entry eq (keyed g xs) k (h k) ≡ keyed h (with_key xs k) → cond b ((x, h k) ∷ keyed g xs) ((x, g x) ∷ insert_entry eq (keyed g xs) k (h k)) ≡ keyed h (cond (b || has_key k xs) (x ∷ xs) (x ∷ (xs ++ k ∷ [])))
-        by true e more =
-            let one : k ≡ x = (decides k x).0 e in
-            let rest : keyed g xs ≡ keyed h xs = keyed_agree g h k xs same (ap (λ l. has_key l xs) one ∙ d.0) in
-            λ i. (x, h (one i)) ∷ rest i
-        by false e more = let first = sym (same x e) in apart (has_key k xs) first more
-          where
-            apart : (c : Bool) → g x ≡ h x → insert_entry eq (keyed g xs) k (h k) ≡ keyed h (cond c xs (xs ++ k ∷ [])) → (x, g x) ∷ insert_entry eq (keyed g xs) k (h k) ≡ keyed h (cond c (x ∷ xs) (x ∷ (xs ++ k ∷ [])))
-            apart true first more = λ i. (x, first i) ∷ more i
-            apart false first more = λ i. (x, first i) ∷ more i

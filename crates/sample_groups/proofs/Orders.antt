@@ -10,7 +10,7 @@ use Rattle.label_sets.specs.Lists.{some_passes}
 use Rattle.exact_decimal.specs.Decimals.{DecimalValue}
 use Rattle.exact_decimal.specs.declared.number.Number.TheVariants.{Finite}
 use Rattle.exact_decimal.specs.Order.{less, same}
-use Rattle.exact_decimal.proofs.NumberOrder.{whole_less}
+use Rattle.exact_decimal.proofs.Laws.{whole_less}
 use Rattle.page_model.specs.declared.format.Format.TheVariants.{Text}
 use Rattle.page_model.specs.declared.item.Sample.{Sample}
 use Rattle.page_model.specs.declared.page.Bucket.{Bucket}

@@ -1,108 +1,174 @@
 -- The place of a group among the groups, and the group with one part more.
-use Rattle.std.proofs.Common.{◌≡◌, ℕ, zero, suc, ◌<◌, Bool, true, false, cond, ◌&&◌, List, [], ◌∷◌, ◌++◌, map, length, slice_get, position, Option, Some, None, is_some, refl, sym, ap, ◌∙◌, arith}
-use Rattle.std.specs.List.{position_or_len, list_all, IsDistinct}
-use Rattle.std.specs.Map.{lookup, keys_of}
-use Rattle.indexmap.specs.IndexMap.{insert_entry, set_value_at}
-use Rattle.std.specs.Cmp.{IsEquivalence}
-use Rattle.indexmap.proofs.RemoveLemmas.{own_first}
-use Rattle.indexmap.proofs.MapLemmas.{Found-position, index-first, Missing-position, insert_entry-first, insert_entry-absent}
+use Rattle.std.proofs.Common.{◌≡◌, ℕ, zero, suc, ◌+◌, ◌<◌, Bool, true, false, cond, ◌&&◌, ◌||◌, ◌==◌, List, [], ◌∷◌, ◌++◌, map, length, drop, append_assoc, slice_get, slice_set, get_or, Some, None, refl, sym, ap, subst, ◌∙◌, arith}
+use Rattle.std.specs.List.{list_any, list_all, zip}
+use Rattle.std.proofs.lemmas.Bool.{eqb-true, eqb-false}
 use Rattle.label_sets.specs.declared.label_set.LabelSet.{LabelSet}
 use Rattle.label_sets.specs.declared.kind.Kind.{Kind}
 use Rattle.label_sets.specs.declared.kind.Kind.TheVariants.{Counter, Gauge, Histogram, GaugeHistogram, StateSet, Info, Summary, Unknown}
-use Rattle.label_sets.specs.Lists.{some_passes}
-use Rattle.label_sets.proofs.Same.{sets_decide}
+use Rattle.label_sets.proofs.Laws.{sets_decide}
 use Rattle.label_sets.specs.Labels.{label_sets_eq, without_label}
+use Rattle.page_model.specs.declared.page.Reading.{Reading}
 use Rattle.sample_groups.specs.declared.part.Part.{Part}
-use Rattle.sample_groups.specs.Groups.{Gathered, empty_group, known_group, or_empty, with_one, with_part, is_whole_group, shared_labels}
+use Rattle.sample_groups.specs.Groups.{Gathered, empty_group, known_group, or_empty, with_one, put_group, with_part, is_whole_group, reading_from, shared_labels}
 use Rattle.sample_groups.specs.Finding.{place_name}
-use Rattle.sample_groups.specs.Kept.{HasPlace, has_labels_at}
+use Rattle.sample_groups.specs.Beside.{AreBeside}
+use Rattle.sample_groups.specs.Placing.{HasPlace, with_group_at}
+use Rattle.sample_groups.proofs.BesideLaws.{one_more, zip-snoc, beside_more, found_beside, missing_beside, suc_same, first_apart_from, distinct_rest}
 
 some_same : {a b : Gathered} → Some a ≡ Some b → a ≡ b
 some_same e = cc
 
--- the value at a place that is within
-value_within : (t : LabelSet → Bool) (es : List (LabelSet × Gathered)) (i : ℕ) → i < length es → lookup t es ≡ slice_get (map (λ (e : LabelSet × Gathered). e.1) es) i
-    → slice_get (map (λ (e : LabelSet × Gathered). e.1) es) i ≡ Some (or_empty (lookup t es))
-value_within t es i within is = sym is ∙ some_or (lookup t es) (ap is_some is ∙ some_within es i within)
+-- ---- groups beside their labels
+
+values_of : (ss : List LabelSet) (gs : List Gathered) → length ss ≡ length gs → map (λ (e : LabelSet × Gathered). e.1) (zip ss gs) ≡ gs
+values_of [] [] e = refl
+values_of [] (g ∷ gs) e = absurd (omega arith)
+values_of (s ∷ ss) [] e = absurd (omega arith)
+values_of (s ∷ ss) (g ∷ gs) e = ap (λ l. g ∷ l) (values_of ss gs (suc_same (length ss) (length gs) e))
+
+pub many_pairs : (ss : List LabelSet) (gs : List Gathered) → length ss ≡ length gs → length (zip ss gs) ≡ length gs
+many_pairs [] [] e = refl
+many_pairs [] (g ∷ gs) e = absurd (omega arith)
+many_pairs (s ∷ ss) [] e = absurd (omega arith)
+many_pairs (s ∷ ss) (g ∷ gs) e = ap suc (many_pairs ss gs (suc_same (length ss) (length gs) e))
+
+pub set_beside : (ss : List LabelSet) (gs : List Gathered) (i : ℕ) (g : Gathered) → zip ss (slice_set gs i g) ≡ with_group_at (zip ss gs) i g
+set_beside [] gs i g = refl
+set_beside (s ∷ ss) [] i g = refl
+set_beside (s ∷ ss) (h ∷ gs) zero g = refl
+set_beside (s ∷ ss) (h ∷ gs) (suc i) g = ap (λ es. (s, h) ∷ es) (set_beside ss gs i g)
+
+put_found : (ss : List LabelSet) (gs : List Gathered) (i : ℕ) (labels : LabelSet) → AreBeside label_sets_eq ss gs → slice_get ss i ≡ Some labels → (g : Gathered) → with_group_at (zip ss gs) i g ≡ put_group (zip ss gs) labels g
+put_found [] gs i labels b e g = absurd (let no : None ≡ Some labels = e in cc)
+put_found (s ∷ ss) [] i labels b e g = absurd (let no : suc (length ss) ≡ 0 = b.many in omega arith)
+put_found (s ∷ ss) (h ∷ gs) zero labels b e g =
+    let one : s ≡ labels = cc in ap (λ c. cond c ((s, g) ∷ zip ss gs) ((s, h) ∷ put_group (zip ss gs) labels g)) (sym ((sets_decide labels s).1 (sym one)))
+put_found (s ∷ ss) (h ∷ gs) (suc i) labels b e g =
+    ap (λ es. (s, h) ∷ es) (put_found ss gs i labels (record { many = suc_same (length ss) (length gs) b.many; distinct = distinct_rest label_sets_eq sets_decide s ss b.distinct }) e g)
+    ∙ ap (λ c. cond c ((s, g) ∷ zip ss gs) ((s, h) ∷ put_group (zip ss gs) labels g)) (sym (first_apart_from label_sets_eq sets_decide ss i s labels b.distinct e))
+
+put_missing : (ss : List LabelSet) (gs : List Gathered) (labels : LabelSet) → length ss ≡ length gs → list_any (label_sets_eq labels) ss ≡ false → (h g : Gathered)
+    → with_group_at (zip ss gs ++ (labels, h) ∷ []) (length gs) g ≡ put_group (zip ss gs) labels g
+put_missing [] [] labels e new h g = refl
+put_missing [] (k ∷ gs) labels e new h g = absurd (omega arith)
+put_missing (s ∷ ss) [] labels e new h g = absurd (omega arith)
+put_missing (s ∷ ss) (k ∷ gs) labels e new h g = by (label_sets_eq labels s) new (λ n. put_missing ss gs labels (suc_same (length ss) (length gs) e) n h g)
   where
-    some_within : (es : List (LabelSet × Gathered)) (i : ℕ) → i < length es → is_some (slice_get (map (λ (e : LabelSet × Gathered). e.1) es) i) ≡ true
-    some_within [] i h = absurd (omega arith)
-    some_within (e ∷ es) zero h = refl
-    some_within (e ∷ es) (suc i) h = some_within es i (omega arith)
+    by : (b : Bool) → (b || list_any (label_sets_eq labels) ss) ≡ false → (list_any (label_sets_eq labels) ss ≡ false → with_group_at (zip ss gs ++ (labels, h) ∷ []) (length gs) g ≡ put_group (zip ss gs) labels g)
+        → (s, k) ∷ with_group_at (zip ss gs ++ (labels, h) ∷ []) (length gs) g ≡ cond b ((s, g) ∷ zip ss gs) ((s, k) ∷ put_group (zip ss gs) labels g)
+    by true n more = absurd (let no : true ≡ false = n in cc)
+    by false n more = ap (λ es. (s, k) ∷ es) (more n)
 
-    some_or : (r : Option Gathered) → is_some r ≡ true → r ≡ Some (or_empty r)
-    some_or None h = absurd (let no : false ≡ true = h in cc)
-    some_or (Some g) h = refl
+-- ---- the place of a group
 
--- the last entry
-length_more : {A : Type 0} (xs : List A) (x : A) → length (xs ++ x ∷ []) ≡ suc (length xs)
-length_more [] x = refl
-length_more (y ∷ ys) x = ap suc (length_more ys x)
-
-last_value : (es : List (LabelSet × Gathered)) (e : LabelSet × Gathered) → slice_get (map (λ (e : LabelSet × Gathered). e.1) (es ++ e ∷ [])) (length es) ≡ Some e.1
-last_value [] e = refl
-last_value (x ∷ xs) e = last_value xs e
-
-set_last : (es : List (LabelSet × Gathered)) (labels : LabelSet) (g h : Gathered) → set_value_at (es ++ (labels, g) ∷ []) (length es) h ≡ es ++ (labels, h) ∷ []
-set_last [] labels g h = refl
-set_last (x ∷ xs) labels g h = ap (λ l. x ∷ l) (set_last xs labels g h)
-
--- a group that is there
-pub found_place : (es : List (LabelSet × Gathered)) (labels : LabelSet) (i : ℕ) → position (label_sets_eq labels) (keys_of es) ≡ Some i → HasPlace es es labels i
-found_place es labels i at =
-    let f = Found-position (label_sets_eq labels) es i at in record {
-      within = f.within;
-      group = value_within (label_sets_eq labels) es i f.within f.value;
-      put = λ g. sym (insert_entry-first label_sets_eq labels g es i f.first);
+pub at_found : (ss : List LabelSet) (gs : List Gathered) (i : ℕ) (labels : LabelSet) → AreBeside label_sets_eq ss gs → slice_get ss i ≡ Some labels → HasPlace (zip ss gs) (zip ss gs) labels i
+at_found ss gs i labels b at =
+    let value : known_group (zip ss gs) labels ≡ slice_get gs i = found_beside label_sets_eq sets_decide ss gs i labels b at in
+    let within : i < length gs = subst (λ n. i < n) b.many (place_within ss i labels at) in record {
+      within = subst (λ n. i < n) (sym (many_pairs ss gs b.many)) within;
+      group = ap (λ l. slice_get l i) (values_of ss gs b.many) ∙ some_at gs i within ∙ ap (λ o. Some (or_empty o)) (sym value);
+      put = put_found ss gs i labels b at;
     }
-
-agree : (b c : Bool) → (b ≡ true → c ≡ true) → (c ≡ true → b ≡ true) → b ≡ c
-agree true true f g = refl
-agree false false f g = refl
-agree true false f g = sym (f refl)
-agree false true f g = g refl
-
--- the test of label sets is one of an equality
-labels_alike : IsEquivalence label_sets_eq
-labels_alike = record {
-  refl = λ x. (sets_decide x x).1 refl;
-  symm = λ x y. agree _ _ (λ e. (sets_decide y x).1 (sym ((sets_decide x y).0 e))) (λ e. (sets_decide x y).1 (sym ((sets_decide y x).0 e)));
-  congr = λ x y z e. ap (λ w. label_sets_eq w z) ((sets_decide x y).0 e);
-}
-
--- the group at a place that is asked for
-pub asked_place : (es : List (LabelSet × Gathered)) (labels : LabelSet) (i : ℕ) → IsDistinct label_sets_eq (keys_of es) → has_labels_at es i labels ≡ true → HasPlace es es labels i
-asked_place es labels i distinct at = by (slice_get es i) refl at
   where
-    by : (r : Option (LabelSet × Gathered)) → slice_get es i ≡ r → some_passes (λ (g : LabelSet × Gathered). label_sets_eq labels g.0) r ≡ true → HasPlace es es labels i
-    by None is h = absurd (let no : false ≡ true = h in cc)
-    by (Some e) is h =
-        let same : labels ≡ e.0 = (sets_decide labels e.0).0 h in
-        let first = own_first label_sets_eq labels_alike es i e.0 e.1 distinct is in
-        found_place es labels i (ap (λ l. position (label_sets_eq l) (keys_of es)) same ∙ index-first (label_sets_eq e.0) es i first)
+    place_within : (xs : List LabelSet) (i : ℕ) (x : LabelSet) → slice_get xs i ≡ Some x → i < length xs
+    place_within [] i x e = absurd (let no : None ≡ Some x = e in cc)
+    place_within (y ∷ ys) zero x e = omega arith
+    place_within (y ∷ ys) (suc i) x e = let h : i < length ys = place_within ys i x e in omega arith
 
--- a new group
-pub new_place : (es new : List (LabelSet × Gathered)) (labels : LabelSet) (g : Gathered) (i : ℕ) → position (label_sets_eq labels) (keys_of es) ≡ None → g ≡ empty_group
-    → new ≡ insert_entry label_sets_eq es labels g → i ≡ position_or_len (label_sets_eq labels) (keys_of es) → HasPlace es new labels i
-new_place es new labels g i none empty added at =
-    let m = Missing-position (label_sets_eq labels) es none in
-    let entries : new ≡ es ++ (labels, g) ∷ [] = added ∙ insert_entry-absent label_sets_eq labels g es m.absent in
-    let place : i ≡ length es = at ∙ m.or_len in
-    let size : length new ≡ suc (length es) = ap length entries ∙ length_more es (labels, g) in record {
-      within = omega arith;
-      group = (λ j. slice_get (map (λ (e : LabelSet × Gathered). e.1) (entries j)) (place j)) ∙ last_value es (labels, g) ∙ ap Some (empty ∙ ap or_empty (sym m.value));
-      put = λ h. (λ j. set_value_at (entries j) (place j) h) ∙ set_last es labels g h ∙ sym (insert_entry-absent label_sets_eq labels h es m.absent);
+    some_at : (gs : List Gathered) (i : ℕ) → i < length gs → slice_get gs i ≡ Some (or_empty (slice_get gs i))
+    some_at [] i h = absurd (omega arith)
+    some_at (g ∷ gs) zero h = refl
+    some_at (g ∷ gs) (suc i) h = some_at gs i (omega arith)
+
+pub at_end : (ss : List LabelSet) (gs : List Gathered) (labels : LabelSet) → length ss ≡ length gs → list_any (label_sets_eq labels) ss ≡ false
+    → HasPlace (zip ss gs) (zip (ss ++ labels ∷ []) (gs ++ empty_group ∷ [])) labels (length gs)
+at_end ss gs labels many new =
+    let pairs : zip (ss ++ labels ∷ []) (gs ++ empty_group ∷ []) ≡ zip ss gs ++ (labels, empty_group) ∷ [] = zip-snoc ss gs labels empty_group many in
+    let size : length (zip ss gs) ≡ length gs = many_pairs ss gs many in record {
+      within = subst (λ l. length gs < length l) (sym pairs) (let one : length (zip ss gs ++ (labels, empty_group) ∷ []) ≡ suc (length (zip ss gs)) = one_more (zip ss gs) (labels, empty_group) in omega arith);
+      group = ap (λ l. slice_get (map (λ (e : LabelSet × Gathered). e.1) l) (length gs)) pairs ∙ ap (slice_get (map (λ (e : LabelSet × Gathered). e.1) (zip ss gs ++ (labels, empty_group) ∷ []))) (sym size)
+          ∙ last_value (zip ss gs) (labels, empty_group) ∙ ap (λ o. Some (or_empty o)) (sym (missing_beside label_sets_eq sets_decide ss gs labels new));
+      put = λ g. ap (λ l. with_group_at l (length gs) g) pairs ∙ put_missing ss gs labels many new empty_group g;
     }
+  where
+    last_value : (es : List (LabelSet × Gathered)) (e : LabelSet × Gathered) → slice_get (map (λ (e : LabelSet × Gathered). e.1) (es ++ e ∷ [])) (length es) ≡ Some e.1
+    last_value [] e = refl
+    last_value (x ∷ xs) e = last_value xs e
+
+-- what the table of labels answers of a set that it is given
+pub record IsEntered (before after : List LabelSet) (labels : LabelSet) (place : ℕ) : Type 0 where
+  pub at : slice_get after place ≡ Some labels
+  pub sets : after ≡ cond (list_any (label_sets_eq labels) before) before (before ++ labels ∷ [])
+
+-- a new set stands last alone
+last_only : (labels : LabelSet) (ss : List LabelSet) (place : ℕ) → list_any (label_sets_eq labels) ss ≡ false → slice_get (ss ++ labels ∷ []) place ≡ Some labels → place ≡ length ss
+last_only labels [] zero new at = refl
+last_only labels [] (suc i) new at = absurd (let no : None ≡ Some labels = at in cc)
+last_only labels (s ∷ ss) zero new at =
+    let one : s ≡ labels = cc in absurd (let yes : true ≡ false = sym (ap (λ b. b || list_any (label_sets_eq labels) ss) ((sets_decide labels s).1 (sym one))) ∙ new in cc)
+last_only labels (s ∷ ss) (suc i) new at = rest (label_sets_eq labels s) new (λ h. last_only labels ss i h at)
+  where
+    rest : (b : Bool) → (b || list_any (label_sets_eq labels) ss) ≡ false → (list_any (label_sets_eq labels) ss ≡ false → i ≡ length ss) → suc i ≡ suc (length ss)
+    rest true h more = absurd (let no : true ≡ false = h in cc)
+    rest false h more = ap suc (more h)
+
+past_end : {A : Type 0} (xs : List A) → slice_get xs (length xs) ≡ None
+past_end [] = refl
+past_end (x ∷ xs) = past_end xs
+
+-- a place that is not behind the groups is that of a set that was there
+pub entered_before : (ss after : List LabelSet) (gs : List Gathered) (labels : LabelSet) (place : ℕ) → length ss ≡ length gs → IsEntered ss after labels place → (place ≡ length gs → ⊥) → after ≡ ss
+entered_before ss after gs labels place many e other = by (list_any (label_sets_eq labels) ss) refl e.sets
+  where
+    by : (b : Bool) → list_any (label_sets_eq labels) ss ≡ b → after ≡ cond b ss (ss ++ labels ∷ []) → after ≡ ss
+    by true known is = is
+    by false new is = absurd (other (last_only labels ss place new (sym (ap (λ l. slice_get l place) is) ∙ e.at) ∙ many))
+
+-- the place behind the groups is that of a set that is new
+pub entered_behind : (ss after : List LabelSet) (gs : List Gathered) (labels : LabelSet) (place : ℕ) → length ss ≡ length gs → IsEntered ss after labels place → place ≡ length gs
+    → (list_any (label_sets_eq labels) ss ≡ false) × (after ≡ ss ++ labels ∷ [])
+entered_behind ss after gs labels place many e end = by (list_any (label_sets_eq labels) ss) refl e.sets
+  where
+    by : (b : Bool) → list_any (label_sets_eq labels) ss ≡ b → after ≡ cond b ss (ss ++ labels ∷ []) → (b ≡ false) × (after ≡ ss ++ labels ∷ [])
+    by false new is = (refl, is)
+    by true known is = absurd (let no : None ≡ Some labels = sym (past_end ss) ∙ ap (slice_get ss) (many ∙ sym end) ∙ sym (ap (λ l. slice_get l place) is) ∙ e.at in cc)
+
+-- a set is entered, and its group where it is new
+pub record IsPutIn (ss after : List LabelSet) (gs grown : List Gathered) (labels : LabelSet) (place : ℕ) : Type 0 where
+  pub entered : IsEntered ss after labels place
+  pub new : place ≡ length gs → grown ≡ gs ++ empty_group ∷ []
+  pub other : (place ≡ length gs → ⊥) → grown ≡ gs
+
+pub put_in : (ss after : List LabelSet) (gs grown : List Gathered) (labels : LabelSet) (place : ℕ) → AreBeside label_sets_eq ss gs → IsPutIn ss after gs grown labels place
+    → HasPlace (zip ss gs) (zip after grown) labels place × AreBeside label_sets_eq after grown
+put_in ss after gs grown labels place b p = by (place == length gs) refl
+  where
+    by : (c : Bool) → (place == length gs) ≡ c → HasPlace (zip ss gs) (zip after grown) labels place × AreBeside label_sets_eq after grown
+    by true e =
+        let end : place ≡ length gs = eqb-true place (length gs) e in
+        let behind = entered_behind ss after gs labels place b.many p.entered end in
+        let groups = p.new end in (
+          subst (λ i. HasPlace (zip ss gs) (zip after grown) labels i) (sym end)
+              (subst (λ l. HasPlace (zip ss gs) (zip l grown) labels (length gs)) (sym behind.1) (subst (λ l. HasPlace (zip ss gs) (zip (ss ++ labels ∷ []) l) labels (length gs)) (sym groups) (at_end ss gs labels b.many behind.0))),
+          subst (λ l. AreBeside label_sets_eq l grown) (sym behind.1) (subst (λ l. AreBeside label_sets_eq (ss ++ labels ∷ []) l) (sym groups) (beside_more label_sets_eq sets_decide ss gs labels empty_group b behind.0)),
+        )
+    by false e =
+        let apart : place ≡ length gs → ⊥ = λ end. eqb-false place (length gs) e end in
+        let same = entered_before ss after gs labels place b.many p.entered apart in
+        let groups = p.other apart in (
+          subst (λ l. HasPlace (zip ss gs) (zip l grown) labels place) (sym same) (subst (λ l. HasPlace (zip ss gs) (zip ss l) labels place) (sym groups) (at_found ss gs place labels b (ap (λ l. slice_get l place) (sym same) ∙ p.entered.at))),
+          subst (λ l. AreBeside label_sets_eq l grown) (sym same) (subst (λ l. AreBeside label_sets_eq ss l) (sym groups) b),
+        )
 
 -- ---- one part more
 
 -- the group at its place with one part more
 pub added_at : (old new : List (LabelSet × Gathered)) (labels : LabelSet) (place : ℕ) (before after : Gathered) (part : Part) → HasPlace old new labels place
-    → slice_get (map (λ (e : LabelSet × Gathered). e.1) new) place ≡ Some before → after ≡ with_one before part → set_value_at new place after ≡ with_part old labels part
+    → slice_get (map (λ (e : LabelSet × Gathered). e.1) new) place ≡ Some before → after ≡ with_one before part → with_group_at new place after ≡ with_part old labels part
 unfolding with_part
 added_at old new labels place before after part has at is =
     let same : before ≡ or_empty (known_group old labels) = some_same (sym at ∙ has.group) in
-    ap (set_value_at new place) (is ∙ ap (λ g. with_one g part) same) ∙ has.put (with_one (or_empty (known_group old labels)) part)
+    ap (with_group_at new place) (is ∙ ap (λ g. with_one g part) same) ∙ has.put (with_one (or_empty (known_group old labels)) part)
 
 -- the first group, and the others
 known_first : (labels first : LabelSet) (g : Gathered) (es : List (LabelSet × Gathered)) → label_sets_eq labels first ≡ true → g ≡ or_empty (known_group ((first, g) ∷ es) labels)
@@ -115,18 +181,18 @@ pub with_first : (labels first : LabelSet) (g : Gathered) (es : List (LabelSet �
 unfolding with_part
 with_first labels first g es part own =
     ap (λ h. (first, with_one h part) ∷ es) (known_first labels first g es own)
-    ∙ ap (λ b. cond b ((first, with_one (or_empty (known_group ((first, g) ∷ es) labels)) part) ∷ es) ((first, g) ∷ insert_entry label_sets_eq es labels (with_one (or_empty (known_group ((first, g) ∷ es) labels)) part))) (sym own)
+    ∙ ap (λ b. cond b ((first, with_one (or_empty (known_group ((first, g) ∷ es) labels)) part) ∷ es) ((first, g) ∷ put_group es labels (with_one (or_empty (known_group ((first, g) ∷ es) labels)) part))) (sym own)
 
 pub with_other : (labels first : LabelSet) (g : Gathered) (es : List (LabelSet × Gathered)) (part : Part) → label_sets_eq labels first ≡ false → (first, g) ∷ with_part es labels part ≡ with_part ((first, g) ∷ es) labels part
 unfolding with_part
 with_other labels first g es part other =
-    ap (λ k. (first, g) ∷ insert_entry label_sets_eq es labels (with_one (or_empty k) part)) (known_other labels first g es other)
-    ∙ ap (λ b. cond b ((first, with_one (or_empty (known_group ((first, g) ∷ es) labels)) part) ∷ es) ((first, g) ∷ insert_entry label_sets_eq es labels (with_one (or_empty (known_group ((first, g) ∷ es) labels)) part))) (sym other)
+    ap (λ k. (first, g) ∷ put_group es labels (with_one (or_empty k) part)) (known_other labels first g es other)
+    ∙ ap (λ b. cond b ((first, with_one (or_empty (known_group ((first, g) ∷ es) labels)) part) ∷ es) ((first, g) ∷ put_group es labels (with_one (or_empty (known_group ((first, g) ∷ es) labels)) part))) (sym other)
 
 -- the first part of a family
 pub with_only : (labels : LabelSet) (part : Part) → with_part ((labels, empty_group) ∷ []) labels part ≡ with_part [] labels part
 unfolding with_part
-with_only labels part = sym (with_first labels labels empty_group [] part (labels_alike.refl labels))
+with_only labels part = sym (with_first labels labels empty_group [] part ((sets_decide labels labels).1 refl))
 
 -- the labels that are shared, by the name of the label that tells buckets or quantiles apart
 shared_is : (kind : Kind) (labels : LabelSet) → without_label (place_name kind) labels ≡ shared_labels kind labels
@@ -139,21 +205,56 @@ shared_is Info labels = refl
 shared_is Summary labels = refl
 shared_is Unknown labels = refl
 
--- ---- whole groups
-
-values_decide : (es : List (LabelSet × Gathered)) → list_all is_whole_group (map (λ (e : LabelSet × Gathered). e.1) es) ≡ list_all (λ (e : LabelSet × Gathered). is_whole_group e.1) es
-values_decide [] = refl
-values_decide (e ∷ es) = ap (λ b. is_whole_group e.1 && b) (values_decide es)
-
--- one that isn't whole
-pub not_whole : (es : List (LabelSet × Gathered)) (rest next first : List Gathered) (g : Gathered) → rest ≡ g ∷ next → false ≡ is_whole_group g → first ≡ map (λ (e : LabelSet × Gathered). e.1) es
-    → list_all is_whole_group first ≡ list_all is_whole_group rest → false ≡ list_all (λ (e : LabelSet × Gathered). is_whole_group e.1) es
-not_whole es rest next first g more lacks all decides =
-    ap (λ b. b && list_all is_whole_group next) lacks ∙ ap (list_all is_whole_group) (sym more) ∙ sym decides ∙ ap (list_all is_whole_group) all ∙ values_decide es
-
-pub all_whole : (es : List (LabelSet × Gathered)) (rest first : List Gathered) → rest ≡ [] → first ≡ map (λ (e : LabelSet × Gathered). e.1) es
-    → list_all is_whole_group first ≡ list_all is_whole_group rest → true ≡ list_all (λ (e : LabelSet × Gathered). is_whole_group e.1) es
-all_whole es rest first none all decides = ap (list_all is_whole_group) (sym none) ∙ sym decides ∙ ap (list_all is_whole_group) all ∙ values_decide es
-
 pub shared_by : (kind : Kind) (labels : LabelSet) (name : List ℕ) → name ≡ place_name kind → without_label name labels ≡ shared_labels kind labels
 shared_by kind labels name is = ap (λ n. without_label n labels) is ∙ shared_is kind labels
+
+-- ---- whole groups
+
+pub whole_beside : (ss : List LabelSet) (gs : List Gathered) → length ss ≡ length gs → list_all is_whole_group gs ≡ list_all (λ (e : LabelSet × Gathered). is_whole_group e.1) (zip ss gs)
+whole_beside [] [] e = refl
+whole_beside [] (g ∷ gs) e = absurd (omega arith)
+whole_beside (s ∷ ss) [] e = absurd (omega arith)
+whole_beside (s ∷ ss) (g ∷ gs) e = ap (λ b. is_whole_group g && b) (whole_beside ss gs (suc_same (length ss) (length gs) e))
+
+-- ---- readings
+
+taken_off : {A : Type 0} (xs : List A) (i : ℕ) (x : A) → slice_get xs i ≡ Some x → drop i xs ≡ x ∷ drop (i + 1) xs
+taken_off [] i x e = absurd (let no : None ≡ Some x = e in cc)
+taken_off (y ∷ ys) zero x e = let one : y ≡ x = cc in ap (λ z. z ∷ ys) one
+taken_off (y ∷ ys) (suc i) x e = taken_off ys i x e ∙ ap (λ l. x ∷ l) (ap (λ n. drop n (y ∷ ys)) (let next : suc (i + 1) ≡ suc i + 1 = omega arith in next))
+
+-- one reading more
+pub one_reading : (kind : Kind) (family unit : List ℕ) (sets : List LabelSet) (place : ℕ) (labels : LabelSet) (group : Gathered) (one : Reading) (left next : List Gathered) (old new whole : List Reading)
+    → slice_get sets place ≡ Some labels → left ≡ group ∷ next → one ≡ reading_from kind family unit (labels, group) → new ≡ old ++ one ∷ []
+    → old ++ map (reading_from kind family unit) (zip (drop place sets) left) ≡ whole → new ++ map (reading_from kind family unit) (zip (drop (place + 1) sets) next) ≡ whole
+one_reading kind family unit sets place labels group one left next old new whole at first is more so_far =
+    ap (λ l. l ++ map (reading_from kind family unit) (zip (drop (place + 1) sets) next)) (more ∙ ap (λ r. old ++ r ∷ []) is)
+    ∙ append_assoc old (reading_from kind family unit (labels, group) ∷ []) (map (reading_from kind family unit) (zip (drop (place + 1) sets) next))
+    ∙ sym (λ i. old ++ map (reading_from kind family unit) (zip (taken_off sets place labels at i) (first i))) ∙ so_far
+
+pub fewer_left : {A B : Type 0} (place : ℕ) (left next : List A) (x : A) (sets : List B) → left ≡ x ∷ next → place + length left ≡ length sets → place + 1 + length next ≡ length sets
+fewer_left place left next x sets first many = let more : length left ≡ suc (length next) = ap length first in omega arith
+
+-- ---- a group at its place
+
+-- its place is within the groups
+pub within_groups : (old new : List (LabelSet × Gathered)) (ss : List LabelSet) (gs : List Gathered) (labels : LabelSet) (place : ℕ) → HasPlace old new labels place → zip ss gs ≡ new → length ss ≡ length gs → place < length gs
+within_groups old new ss gs labels place has is many = subst (λ n. place < n) (sym (ap length is) ∙ many_pairs ss gs many) has.within
+
+read_at : (gs : List Gathered) (i : ℕ) (g : Gathered) → i < length gs → g ≡ get_or gs i g → slice_get gs i ≡ Some g
+read_at [] i g h e = absurd (omega arith)
+read_at (k ∷ gs) zero g h e = ap Some (sym e)
+read_at (k ∷ gs) (suc i) g h e = read_at gs i g (omega arith) e
+
+-- it is the one with the labels, or an empty one
+pub group_here : (old new : List (LabelSet × Gathered)) (ss : List LabelSet) (gs : List Gathered) (labels : LabelSet) (place : ℕ) (g : Gathered) → HasPlace old new labels place → zip ss gs ≡ new → length ss ≡ length gs
+    → g ≡ get_or gs place g → g ≡ or_empty (known_group old labels)
+group_here old new ss gs labels place g has is many at =
+    some_same (sym (read_at gs place g (within_groups old new ss gs labels place has is many) at) ∙ ap (λ l. slice_get l place) (sym (values_of ss gs many)) ∙ ap (λ l. slice_get (map (λ (e : LabelSet × Gathered). e.1) l) place) is ∙ has.group)
+
+-- and with one part more they are the groups with that part
+pub grown_here : (old new : List (LabelSet × Gathered)) (ss : List LabelSet) (gs : List Gathered) (labels : LabelSet) (place : ℕ) (before after : Gathered) (part : Part) → HasPlace old new labels place → zip ss gs ≡ new → length ss ≡ length gs
+    → before ≡ get_or gs place before → after ≡ with_one before part → zip ss (slice_set gs place after) ≡ with_part old labels part
+grown_here old new ss gs labels place before after part has is many at more =
+    set_beside ss gs place after ∙ ap (λ l. with_group_at l place after) is
+    ∙ added_at old new labels place before after part has (ap (λ l. slice_get (map (λ (e : LabelSet × Gathered). e.1) l) place) (sym is) ∙ ap (λ l. slice_get l place) (values_of ss gs many) ∙ read_at gs place before (within_groups old new ss gs labels place has is many) at) more

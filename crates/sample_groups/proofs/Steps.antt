@@ -1,11 +1,10 @@
 -- One part more in the groups, and what is kept of a group.
-use Rattle.std.proofs.Common.{◌≡◌, ℕ, Bool, true, false, not, ◌&&◌, ◌||◌, ◌==◌, List, [], ◌∷◌, ◌++◌, map, filter, filter_map, Option, Some, None, refl, sym, ap, ◌∙◌}
+use Rattle.std.proofs.Common.{◌≡◌, ℕ, Bool, true, false, cond, not, ◌&&◌, ◌||◌, ◌==◌, List, [], ◌∷◌, ◌++◌, map, filter, filter_map, Option, Some, None, refl, sym, ap, ◌∙◌}
 use Rattle.std.proofs.lemmas.List.{append-nil, map-append}
 use Rattle.std.proofs.lemmas.List.Elements.{filter-append, filter_map-append}
 use Rattle.std.proofs.lemmas.List.Folds.{list_all-append}
 use Rattle.std.specs.List.{list_all, cons_option}
 use Rattle.std.specs.Option.{option_or}
-use Rattle.indexmap.specs.IndexMap.{insert_entry}
 use Rattle.label_sets.specs.declared.kind.Kind.{Kind}
 use Rattle.label_sets.specs.declared.kind.Kind.TheVariants.{Counter, Gauge, Histogram, GaugeHistogram, StateSet, Info, Summary, Unknown}
 use Rattle.label_sets.specs.declared.label_set.LabelSet.{LabelSet}
@@ -19,8 +18,8 @@ use Rattle.page_model.proofs.Groups.{label_sets_decide}
 use Rattle.sample_groups.specs.declared.part.Part.{Part}
 use Rattle.sample_groups.specs.declared.part.Part.TheVariants as parts
 use Rattle.sample_groups.specs.Parts.{is_grouped}
-use Rattle.sample_groups.specs.Groups.{Gathered, bucket_in, quantile_in, sum_in, count_in, are_one, group_from, shared_labels, parts_in, groups_from, with_one, known_group, or_empty, with_part}
-use Rattle.sample_groups.proofs.Members.{when, head_of, has_key, has_key-first, eq_swap, keyed, lookup-keyed, with_key, first_of_each-snoc, first_apart, insert_entry-keyed, first_some-head, and_true}
+use Rattle.sample_groups.specs.Groups.{Gathered, bucket_in, quantile_in, sum_in, count_in, are_one, group_from, shared_labels, parts_in, groups_from, with_one, known_group, or_empty, put_group, with_part}
+use Rattle.sample_groups.proofs.Members.{when, head_of, has_key, has_key-first, eq_swap, keyed, lookup-keyed, with_key, first_of_each-snoc, AreApart, first_apart, keyed_agree, first_some-head, and_true}
 
 -- ---- the labels of a group
 
@@ -60,10 +59,10 @@ are_one-snoc (m ∷ ms) n = list_all-append (λ k. m == k) ms (n ∷ []) ∙ ap 
 
 module _ (ps : List Part) (p : Part) where
   -- what some of the parts have, where the one more has it
-  some_more : {B : Type 0} (f : Part → Option B) (y : B) → f p ≡ Some y → filter_map f (ps ++ p ∷ []) ≡ filter_map f ps ++ y ∷ []
+  pub some_more : {B : Type 0} (f : Part → Option B) (y : B) → f p ≡ Some y → filter_map f (ps ++ p ∷ []) ≡ filter_map f ps ++ y ∷ []
   some_more f y e = filter_map-append f ps (p ∷ []) ∙ ap (λ o. filter_map f ps ++ cons_option o []) e
 
-  none_more : {B : Type 0} (f : Part → Option B) → f p ≡ None → filter_map f (ps ++ p ∷ []) ≡ filter_map f ps
+  pub none_more : {B : Type 0} (f : Part → Option B) → f p ≡ None → filter_map f (ps ++ p ∷ []) ≡ filter_map f ps
   none_more f e = filter_map-append f ps (p ∷ []) ∙ ap (λ o. filter_map f ps ++ cons_option o []) e ∙ append-nil (filter_map f ps)
 
   first_more : {B : Type 0} (f : Part → Option B) (o : Option B) → f p ≡ o → first_some f (ps ++ p ∷ []) ≡ option_or (first_some f ps) o
@@ -160,6 +159,25 @@ group_is_kept es labels = ap (λ gs. or_empty (known_group gs labels)) (groups_a
     by true f = refl
     by false f = ap group_from (sym (parts_in-none es labels f))
 
+-- one group written, where the others stay
+put_keyed : (g h : LabelSet → Gathered) (k : LabelSet) (ks : List LabelSet) → ((l : LabelSet) → label_sets_eq k l ≡ false → h l ≡ g l) → AreApart label_sets_eq label_sets_decide ks
+    → put_group (keyed label_sets_eq label_sets_decide g ks) k (h k) ≡ keyed label_sets_eq label_sets_decide h (with_key label_sets_eq label_sets_decide ks k)
+put_keyed g h k [] same d = refl
+put_keyed g h k (x ∷ xs) same d = by (label_sets_eq k x) refl (put_keyed g h k xs same d.1)
+  where
+    by : (b : Bool) → label_sets_eq k x ≡ b → put_group (map (λ l. (l, g l)) xs) k (h k) ≡ map (λ l. (l, h l)) (with_key label_sets_eq label_sets_decide xs k)
+        → cond b ((x, h k) ∷ map (λ l. (l, g l)) xs) ((x, g x) ∷ put_group (map (λ l. (l, g l)) xs) k (h k)) ≡ map (λ l. (l, h l)) (cond (b || has_key label_sets_eq label_sets_decide k xs) (x ∷ xs) (x ∷ (xs ++ k ∷ [])))
+    by true e more =
+        let one : k ≡ x = (label_sets_decide k x).0 e in
+        let rest : map (λ l. (l, g l)) xs ≡ map (λ l. (l, h l)) xs = keyed_agree label_sets_eq label_sets_decide g h k xs same (ap (λ l. has_key label_sets_eq label_sets_decide l xs) one ∙ d.0) in
+        λ i. (x, h (one i)) ∷ rest i
+    by false e more = let first = sym (same x e) in apart (has_key label_sets_eq label_sets_decide k xs) first more
+      where
+        apart : (c : Bool) → g x ≡ h x → put_group (map (λ l. (l, g l)) xs) k (h k) ≡ map (λ l. (l, h l)) (cond c xs (xs ++ k ∷ []))
+            → (x, g x) ∷ put_group (map (λ l. (l, g l)) xs) k (h k) ≡ map (λ l. (l, h l)) (cond c (x ∷ xs) (x ∷ (xs ++ k ∷ [])))
+        apart true first more = λ i. (x, first i) ∷ more i
+        apart false first more = λ i. (x, first i) ∷ more i
+
 -- one part more
 pub one_part_more : (es : List (LabelSet × Part)) (e : LabelSet × Part) → groups_from (es ++ e ∷ []) ≡ with_part (groups_from es) e.0 e.1
 unfolding with_part
@@ -170,7 +188,7 @@ one_part_more es e =
     let value : group_at (es ++ e ∷ []) e.0 ≡ with_one (or_empty (known_group (groups_from es) e.0)) e.1 =
     ap group_from (parts_in-own es e) ∙ group_from-snoc (parts_in e.0 es) e.1 ∙ ap (λ g. with_one g e.1) (sym (group_is_kept es e.0)) in
     groups_are_keyed (es ++ e ∷ []) ∙ ap (keyed label_sets_eq label_sets_decide (group_at (es ++ e ∷ []))) firsts
-    ∙ sym (insert_entry-keyed label_sets_eq label_sets_decide (group_at es) (group_at (es ++ e ∷ [])) e.0 (first_of_each label_sets_eq (labels_of es))
+    ∙ sym (put_keyed (group_at es) (group_at (es ++ e ∷ [])) e.0 (first_of_each label_sets_eq (labels_of es))
     (λ l f. ap group_from (parts_in-other es e l f)) (first_apart label_sets_eq label_sets_decide (labels_of es)))
-    ∙ ap (λ v. insert_entry label_sets_eq (keyed label_sets_eq label_sets_decide (group_at es) (first_of_each label_sets_eq (labels_of es))) e.0 v) value
-    ∙ ap (λ gs. insert_entry label_sets_eq gs e.0 (with_one (or_empty (known_group (groups_from es) e.0)) e.1)) (sym (groups_are_keyed es))
+    ∙ ap (λ v. put_group (keyed label_sets_eq label_sets_decide (group_at es) (first_of_each label_sets_eq (labels_of es))) e.0 v) value
+    ∙ ap (λ gs. put_group gs e.0 (with_one (or_empty (known_group (groups_from es) e.0)) e.1)) (sym (groups_are_keyed es))

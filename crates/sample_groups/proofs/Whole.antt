@@ -12,7 +12,7 @@ use Rattle.label_sets.specs.Lists.{first_of_each, some_passes}
 use Rattle.exact_decimal.specs.declared.number.Number.{Number}
 use Rattle.exact_decimal.specs.declared.number.Number.TheVariants.{Finite, Up, Down, NotANumber}
 use Rattle.exact_decimal.specs.Order.{less, same}
-use Rattle.exact_decimal.proofs.NumberOrder.{whole_same}
+use Rattle.exact_decimal.proofs.Laws.{whole_same}
 use Rattle.page_model.specs.declared.format.Format.TheVariants.{Text}
 use Rattle.page_model.specs.declared.item.Sample.{Sample}
 use Rattle.page_model.specs.Written.{Setting}
@@ -71,7 +71,7 @@ less_not_up Up b e = absurd cc
 -- ---- counts
 
 -- the first count and all others are this one
-counts_are : (ns : List ℕ) (m : ℕ) → (are_one ns && not (some_passes (λ n. not (n == m)) (head_of ns))) ≡ list_all (λ n. n == m) ns
+pub counts_are : (ns : List ℕ) (m : ℕ) → (are_one ns && not (some_passes (λ n. not (n == m)) (head_of ns))) ≡ list_all (λ n. n == m) ns
 counts_are [] m = refl
 counts_are (n ∷ ns) m = by (n == m) refl
   where

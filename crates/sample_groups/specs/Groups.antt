@@ -1,24 +1,23 @@
 -- The groups of a histogram's or a summary's family: the samples that share their labels, but for those that tell buckets and quantiles apart.
 -- OpenMetrics 1.0, "Metric" and "MetricPoint" of "Histogram", "GaugeHistogram" and "Summary".
-use Rattle.std.specs.Prelude.{ℕ, Bool, true, false, not, ◌&&◌, ◌==◌, List, [], ◌∷◌, ◌++◌, map, filter, filter_map, codes, Option, Some, None, nat_le}
-use Rattle.std.specs.List.{list_any, list_all, last_or}
+use Rattle.std.specs.Prelude.{ℕ, Bool, true, false, not, ◌&&◌, ◌==◌, List, [], ◌∷◌, ◌++◌, map, filter, filter_map, codes, Option, Some, None, nat_le, if◌then◌else◌}
+use Rattle.std.specs.List.{list_all, last_or}
 use Rattle.std.specs.Map.{lookup}
 use Rattle.std.specs.Option.{option_or}
-use Rattle.indexmap.specs.IndexMap.{insert_entry}
 use Rattle.label_sets.specs.declared.kind.Kind.{Kind}
 use Rattle.label_sets.specs.declared.kind.Kind.TheVariants.{Summary}
 use Rattle.label_sets.specs.declared.label_set.LabelSet.{LabelSet}
 use Rattle.label_sets.specs.Labels.{label_sets_eq, without_label}
 use Rattle.label_sets.specs.Lists.{first_of_each, first_some, some_passes}
 use Rattle.exact_decimal.specs.declared.number.Number.{Number}
-use Rattle.exact_decimal.specs.declared.number.Number.TheVariants.{Finite}
-use Rattle.exact_decimal.specs.Order.{less, same}
+use Rattle.exact_decimal.specs.Order.{less}
 use Rattle.page_model.specs.declared.page.Bucket.{Bucket}
 use Rattle.page_model.specs.declared.page.Quantile.{Quantile}
 use Rattle.page_model.specs.declared.page.Reading.{Reading}
 use Rattle.page_model.specs.declared.page.Value.{Value}
 use Rattle.page_model.specs.declared.page.Value.TheVariants as values
 use Rattle.page_model.specs.Rules.{is_up}
+use Rattle.sample_groups.specs.Places.{has_place}
 use Rattle.sample_groups.specs.declared.part.Part.{Part}
 use Rattle.sample_groups.specs.declared.part.Part.TheVariants as parts
 
@@ -107,9 +106,14 @@ abbrev pub or_empty : Option Gathered → Gathered
 or_empty None = empty_group
 or_empty (Some g) = g
 
+-- the groups with this one in place of the one with its labels, or behind the others
+abbrev pub put_group : List (LabelSet × Gathered) → LabelSet → Gathered → List (LabelSet × Gathered)
+put_group [] labels g = (labels, g) ∷ []
+put_group (e ∷ es) labels g = if label_sets_eq labels e.0 then (e.0, g) ∷ es else e ∷ put_group es labels g
+
 -- the groups with one part more: in its group, or in a new one behind the others
 unfoldable pub with_part : List (LabelSet × Gathered) → LabelSet → Part → List (LabelSet × Gathered)
-with_part groups labels part = insert_entry label_sets_eq groups labels (with_one (or_empty (known_group groups labels)) part)
+with_part groups labels part = put_group groups labels (with_one (or_empty (known_group groups labels)) part)
 
 -- ---- order and completeness
 
@@ -121,7 +125,7 @@ breaks_last (Some last) b = not (less last.le b.le && nat_le last.count b.count)
 -- Order: a bucket that isn't above the last one of its group, or a quantile whose place the group has already
 abbrev pub breaks_order : Gathered → Part → Bool
 breaks_order g (parts.Bucket b) = breaks_last (last_or None g.buckets) b
-breaks_order g (parts.Quantile q) = list_any (λ (p : Quantile). same (Finite p.at) (Finite q.at)) g.quantiles
+breaks_order g (parts.Quantile q) = has_place g.quantiles q.at
 breaks_order g _ = false
 
 -- the last bucket has no upper bound, and the counts are its count

@@ -1,6 +1,12 @@
 pub mod Parts
+pub mod Places
 pub mod Groups
 pub mod Sound
 pub mod Finding
+pub mod PlaceOrder
 pub mod Kept
+pub mod Beside
+pub mod Placing
+pub mod Nearest
 pub mod Tables
+pub mod Families

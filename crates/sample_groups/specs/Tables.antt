@@ -4,9 +4,9 @@ use Rattle.std.specs.declared.alloc.Global.{Global}
 use Rattle.std.specs.declared.boxed.Box.{Box}
 use Rattle.label_sets.specs.declared.label_set.LabelSet.{LabelSet}
 use Rattle.sample_groups.specs.Groups.{Gathered}
-use Rattle.sample_groups.specs.declared.table.Table.{Table}
+use Rattle.sample_groups.specs.declared.others.Others.{Others}
 
--- the groups of a table, or none
-abbrev pub groups_in : Option (Box Table Global) → List (LabelSet × Gathered)
-groups_in None = []
-groups_in (Some b) = b.value
+-- the groups behind the first, or none
+abbrev pub others_in : Option (Box Others Global) → List (LabelSet × Gathered)
+others_in None = []
+others_in (Some b) = b.value

@@ -1,46 +1,43 @@
 //! What the samples of one group come to.
-ghost use Rattle.std.specs.Prelude.{◌≡◌, true, not, map, None, IfOk};
-ghost use Rattle.std.specs.List.{last_or};
+ghost use Rattle.std.specs.Prelude.{◌≡◌, true, not, ◌++◌, [], ◌∷◌, IfOk, OnOk, OnErr};
+ghost use Rattle.page_model.specs.Rules.{is_up};
 ghost use Rattle.sample_groups.specs.declared.part.Part.TheVariants as parts;
-ghost use Rattle.sample_groups.specs.Kept.{quantile_at_place};
 ghost use Rattle.sample_groups.specs.Groups.{empty_group, with_one, breaks_order, breaks_last, is_whole_group, group_value};
+ghost use Rattle.sample_groups.specs.Places.{has_place};
 
 use crate::part::Part;
+use crate::parts;
+use crate::places::{Places, more_places};
 use exact_decimal::{Decimal, Number, less};
-use indexmap::IndexMap;
 use label_sets::{Kind, List, Memory};
 use page_model::{Bucket, Quantile, Value};
 use std::alloc::Global;
 use std::marker::Model;
+use std::mem;
 
 /// What the samples of one group come to: those that share their labels, but for the one that tells
 /// buckets or quantiles apart (OpenMetrics 1.0, "Metric").
 #[derive(Drop)]
 pub(crate) struct Group {
-    buckets: List<Bucket>,
-    /// The values of quantiles, by their places.
-    quantiles: IndexMap<Decimal, Number>,
-    sum: Option<Number>,
-    count: Option<u64>,
-    counts_agree: bool,
+    /// Its samples, in the order of their lines.
+    parts: Vec<Part>,
+    /// The places of its quantiles, where they are too many to be looked through.
+    places: Option<Box<Places>>,
 }
 
+// A summary may have as many groups as lines.
+const _: () = prove!(mem::size_of::<Group>() <= 40);
+
 impl Model for Group {
-    ghost use Rattle.std.specs.Prelude.{map};
-    ghost use Rattle.sample_groups.specs.Groups.{Gathered};
-    ghost use Rattle.sample_groups.specs.Kept.{quantile_at_place, AreNormal};
+    ghost use Rattle.std.specs.Prelude.{filter_map};
+    ghost use Rattle.sample_groups.specs.Groups.{Gathered, quantile_in, group_from};
+    ghost use Rattle.sample_groups.specs.Kept.{KnowsPlaces};
 
     ghost Value = { Gathered };
 
-    ghost view = { λ g. record {
-      buckets = g.buckets;
-      quantiles = map quantile_at_place g.quantiles.entries;
-      sum = g.sum;
-      count = g.count;
-      counts_agree = g.counts_agree;
-    } };
+    ghost view = { λ g. group_from g.parts.items };
 
-    ghost invariant = { λ g. AreNormal g.quantiles.entries };
+    ghost invariant = { λ g. KnowsPlaces g.places (filter_map quantile_in g.parts.items) };
 }
 
 /// Whether the bucket isn't above the last one, or has fewer observations (OpenMetrics 1.0, "Histogram").
@@ -53,100 +50,87 @@ fn breaks_last(last: Option<Bucket>, bucket: &Bucket) -> bool
     }
 }
 
-/// The quantiles in the order of their lines.
-fn listed(alloc: Global, quantiles: IndexMap<Decimal, Number>) -> Result<List<Quantile>, Memory>
-    ensures { IfOk result (λ list. list ≡ map quantile_at_place quantiles.entries) }
+/// Whether the bucket has no upper bound.
+fn is_unbounded(bucket: &Bucket) -> bool
+    ensures { result ≡ is_up bucket.now.le }
 {
-    let mut list = List::with_capacity(alloc, quantiles.len())?;
-    for (at, value) in quantiles {
-        list.push(Quantile { at, value })?;
+    matches!(&bucket.le, Number::Up)
+}
+
+/// Adds a value. The first one takes room for one alone.
+fn put<T: Drop>(values: &mut Vec<T>, value: T) -> Result<(), Memory>
+    ensures ok { OnOk result (values.new.items ≡ values.old.items ++ value ∷ []) }
+    ensures err { OnErr result (values.new.items ≡ values.old.items) }
+{
+    if values.is_empty() {
+        values.reserve_exact(1)?;
     }
-    Ok(list)
+    values.push(value)?;
+    Ok(())
 }
 
 impl Group {
     /// A group without parts. It takes no memory.
-    #[tactic(auto, unfolding(crate::specs::Groups::group_from))]
     pub(crate) fn new(alloc: Global) -> Group
         ensures { result ≡ empty_group }
     {
         Group {
-            buckets: List::new(alloc),
-            quantiles: IndexMap::new(alloc),
-            sum: None,
-            count: None,
-            counts_agree: true,
+            parts: Vec::new(alloc),
+            places: None,
         }
     }
 
-    /// The last bucket.
-    fn last_bucket(&self) -> Option<Bucket>
-        ensures { result ≡ last_or None self.now.buckets }
+    /// Whether there is a quantile at this place.
+    fn has_place(&self, at: &Decimal) -> bool
+        ensures { result ≡ has_place self.now.quantiles at.now }
     {
-        self.buckets.as_slice().last().copied()
+        match &self.places {
+            Some(places) => places.has(at),
+            None => parts::has_place(self.parts.as_slice(), at),
+        }
     }
 
     /// Adds a bucket, unless it breaks the order.
-    #[tactic(auto, unfolding(crate::specs::Groups::with_one))]
     fn add_bucket(&mut self, bucket: Bucket) -> Result<bool, Memory>
         ensures answer { IfOk result (λ added. added ≡ not (breaks_order self.old (parts.Bucket bucket))) }
         ensures added { IfOk result (λ added. added ≡ true → self.new ≡ with_one self.old (parts.Bucket bucket)) }
     {
-        if breaks_last(self.last_bucket(), &bucket) {
+        if breaks_last(parts::last_bucket(self.parts.as_slice()), &bucket) {
             return Ok(false);
         }
-        self.buckets.push(bucket)?;
+        put(&mut self.parts, Part::Bucket(bucket))?;
         Ok(true)
     }
 
     /// Adds a quantile, unless its place is taken.
-    #[tactic(auto, unfolding(crate::specs::Groups::with_one))]
-    fn add_quantile(&mut self, quantile: Quantile) -> Result<bool, Memory>
+    fn add_quantile(&mut self, alloc: Global, quantile: Quantile) -> Result<bool, Memory>
         ensures answer { IfOk result (λ added. added ≡ not (breaks_order self.old (parts.Quantile quantile))) }
         ensures added { IfOk result (λ added. added ≡ true → self.new ≡ with_one self.old (parts.Quantile quantile)) }
     {
-        // Called for its clause that the place is in its one form, which the proof cites.
-        let _negative = quantile.at.negative();
-        let before = self.quantiles.insert(quantile.at, quantile.value)?;
-        Ok(before.is_none())
-    }
-
-    /// Keeps the first sum.
-    #[tactic(auto, unfolding(crate::specs::Groups::with_one))]
-    fn add_sum(&mut self, sum: Number)
-        ensures { self.new ≡ with_one self.old (parts.Sum sum) }
-    {
-        if self.sum.is_none() {
-            self.sum = Some(sum);
+        if self.has_place(&quantile.at) {
+            return Ok(false);
         }
-    }
-
-    /// Keeps the first count, and whether all are that one.
-    #[tactic(auto, unfolding(crate::specs::Groups::with_one))]
-    fn add_count(&mut self, count: u64)
-        ensures { self.new ≡ with_one self.old (parts.Count count) }
-    {
-        match self.count {
-            Some(first) if first == count => {}
-            Some(_) => self.counts_agree = false,
-            None => self.count = Some(count),
-        }
+        let places = self.places.take();
+        let places = more_places(alloc, places, self.parts.as_slice(), &quantile.at)?;
+        put(&mut self.parts, Part::Quantile(quantile))?;
+        self.places = places;
+        Ok(true)
     }
 
     /// Adds a part, unless it breaks the order.
-    pub(crate) fn add(&mut self, part: Part) -> Result<bool, Memory>
+    pub(crate) fn add(&mut self, alloc: Global, part: Part) -> Result<bool, Memory>
         ensures answer { IfOk result (λ added. added ≡ not (breaks_order self.old part)) }
         ensures added { IfOk result (λ added. added ≡ true → self.new ≡ with_one self.old part) }
     {
         match part {
             Part::Bucket(bucket) => self.add_bucket(bucket),
-            Part::Quantile(quantile) => self.add_quantile(quantile),
+            Part::Quantile(quantile) => self.add_quantile(alloc, quantile),
             Part::Sum(sum) => {
-                self.add_sum(sum);
+                put(&mut self.parts, Part::Sum(sum))?;
                 Ok(true)
             }
             Part::Count(count) => {
-                self.add_count(count);
+                put(&mut self.parts, Part::Count(count))?;
                 Ok(true)
             }
         }
@@ -157,12 +141,9 @@ impl Group {
     pub(crate) fn is_whole(&self) -> bool
         ensures { result ≡ is_whole_group self.now }
     {
-        match self.last_bucket() {
-            Some(last) => {
-                last.le == Number::Up
-                    && self.counts_agree
-                    && self.count.unwrap_or(last.count) == last.count
-            }
+        let parts = self.parts.as_slice();
+        match parts::last_bucket(parts) {
+            Some(last) => is_unbounded(&last) && parts::counts_are(parts, last.count),
             None => false,
         }
     }
@@ -171,15 +152,17 @@ impl Group {
     pub(crate) fn into_value(self, alloc: Global, kind: Kind) -> Result<Value, Memory>
         ensures { IfOk result (λ value. value ≡ group_value kind self) }
     {
+        let parts = self.parts.as_slice();
+        let sum = parts::first_sum(parts);
         match kind {
             Kind::Summary => Ok(Value::Quantiles {
-                list: listed(alloc, self.quantiles)?,
-                count: self.count,
-                sum: self.sum,
+                list: List::from_vec(parts::quantiles(alloc, parts)?)?,
+                count: parts::first_count(parts),
+                sum,
             }),
             _ => Ok(Value::Buckets {
-                buckets: self.buckets,
-                sum: self.sum,
+                buckets: List::from_vec(parts::buckets(alloc, parts)?)?,
+                sum,
             }),
         }
     }

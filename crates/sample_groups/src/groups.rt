@@ -29,7 +29,7 @@ impl Model for Groups {
 
     ghost Value = { spec.List (Shared × Kept) };
 
-    ghost use Rattle.sample_groups.specs.Tables.{groups_in};
+    ghost use Rattle.sample_groups.specs.Families.{groups_in};
 
     ghost view = { λ g. groups_in g.table };
 }

@@ -3,7 +3,11 @@
 
 mod group;
 mod groups;
+mod others;
 mod part;
+mod parts;
+mod places;
+mod reading;
 mod suffix;
 mod table;
 #[cfg(test)]

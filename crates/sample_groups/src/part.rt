@@ -26,6 +26,50 @@ pub enum Part {
     Count(u64),
 }
 
+impl Part {
+    ghost use Rattle.sample_groups.specs.Groups.{bucket_in, quantile_in, sum_in, count_in};
+
+    /// The bucket that it is.
+    pub(crate) fn bucket(&self) -> Option<Bucket>
+        ensures { result ≡ bucket_in self.now }
+    {
+        match self {
+            Part::Bucket(bucket) => Some(*bucket),
+            _ => None,
+        }
+    }
+
+    /// The quantile that it is.
+    pub(crate) fn quantile(&self) -> Option<Quantile>
+        ensures { result ≡ quantile_in self.now }
+    {
+        match self {
+            Part::Quantile(quantile) => Some(*quantile),
+            _ => None,
+        }
+    }
+
+    /// The sum that it is.
+    pub(crate) fn sum(&self) -> Option<Number>
+        ensures { result ≡ sum_in self.now }
+    {
+        match self {
+            Part::Sum(sum) => Some(*sum),
+            _ => None,
+        }
+    }
+
+    /// The count that it is.
+    pub(crate) fn count(&self) -> Option<u64>
+        ensures { result ≡ count_in self.now }
+    {
+        match self {
+            Part::Count(count) => Some(*count),
+            _ => None,
+        }
+    }
+}
+
 /// Whether several samples of a family of this kind make one reading.
 pub fn is_grouped(kind: Kind) -> bool
     ensures { result ≡ is_grouped kind }

@@ -1,6 +1,6 @@
 use crate::{Groups, is_grouped, part_of};
 use exact_decimal::{Number, read};
-use label_sets::{Kind, Label, LabelSet, List, Memory, Name, Text};
+use label_sets::{Kind, Label, LabelSet, Memory, Name, Text};
 use page_model::{Rule, Sample, Value};
 use std::alloc::{AllocError, Global};
 
@@ -25,7 +25,7 @@ fn sample(alloc: Global, kind: Kind, row: Row<'_>) -> Result<Sample, Memory> {
     } else {
         "le"
     };
-    let mut pairs = List::new(alloc);
+    let mut pairs = Vec::new(alloc);
     pairs.push(label(alloc, "code", row.1)?)?;
     pairs.push(label(alloc, place, row.2)?)?;
     let Ok(labels) = LabelSet::build(alloc, pairs, 64) else {

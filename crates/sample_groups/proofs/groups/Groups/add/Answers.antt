@@ -1,6 +1,6 @@
 use Rattle.std.proofs.Common.{◌≡◌, ◌∙◌, ap, sym, not}
 use Rattle.sample_groups.specs.Groups.{with_part, known_group, or_empty, breaks_order}
-use Rattle.sample_groups.specs.Tables.{groups_in}
+use Rattle.sample_groups.specs.Families.{groups_in}
 use Rattle.sample_groups.proofs.Placing.{shared_by, with_only}
 use Rattle.sample_groups.proofs.groups.Groups.add.Goals as goal
 use Rattle.sample_groups.proofs.groups.Groups.add.Goals.{In_ok-added-in-Some}

@@ -1,0 +1,19 @@
+use Rattle.std.proofs.Common.{◌∙◌, ap, sym, refl}
+use Rattle.sample_groups.specs.Groups.{with_one}
+use Rattle.sample_groups.specs.declared.part.Part.TheVariants as parts
+use Rattle.sample_groups.proofs.Grown.{with_more, knows_still}
+use Rattle.sample_groups.proofs.group.Group.add.Goals as goal
+
+pub invariant_of-self-in-Sum : goal.invariant_of-self-in-Sum
+invariant_of-self-in-Sum c = knows_still c.self.inside.places c.self.inside.parts.items c.put.new.values.items (parts.Sum c.in-Sum.sum) refl c.in_ok-put-in-Sum.ensures.ok c.self.invariant
+
+pub invariant_of-self-in-Count : goal.invariant_of-self-in-Count
+invariant_of-self-in-Count c = knows_still c.self-in-Count.inside.places c.self-in-Count.inside.parts.items c.put-in-Count.new.values.items (parts.Count c.in-Count.count) refl c.in_ok-put-in-Count.ensures.ok c.self-in-Count.invariant
+
+pub returns-in_ok-put-in-Sum-clause-added : goal.returns-in_ok-put-in-Sum-clause-added
+returns-in_ok-put-in-Sum-clause-added c = λ added.
+    with_more c.self.inside.parts.items c.put.new.values.items (parts.Sum c.in-Sum.sum) c.args.self.now c.in_ok-put-in-Sum.ensures.ok c.self.view_is ∙ ap (with_one c.args.self.now) (sym c.in-Sum.is)
+
+pub returns-in_ok-put-in-Count-clause-added : goal.returns-in_ok-put-in-Count-clause-added
+returns-in_ok-put-in-Count-clause-added c = λ added.
+    with_more c.self-in-Count.inside.parts.items c.put-in-Count.new.values.items (parts.Count c.in-Count.count) c.args.self.now c.in_ok-put-in-Count.ensures.ok c.self-in-Count.view_is ∙ ap (with_one c.args.self.now) (sym c.in-Count.is)

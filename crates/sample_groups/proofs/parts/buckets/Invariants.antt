@@ -1,0 +1,7 @@
+use Rattle.std.proofs.Common.{◌≡◌, ◌++◌, drop, filter_map}
+use Rattle.sample_groups.specs.Groups.{bucket_in}
+use Rattle.sample_groups.proofs.parts.buckets.Given as goal
+
+-- those so far and those that are left are all of them
+abbrev pub invariant-loop-part : goal.invariant-loop-part
+invariant-loop-part l = l.buckets.items ++ filter_map bucket_in (drop l.part-index l.parts) ≡ filter_map bucket_in l.parts

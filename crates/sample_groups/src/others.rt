@@ -1,0 +1,211 @@
+//! The groups of a family behind its first one, found by their labels.
+ghost use Rattle.std.specs.Prelude.{◌≡◌, ◌<◌, [], ◌∷◌, ◌++◌, length, slice_get, vec_len, true, not, map, Some, IfOk, OnOk, OnErr, IfSome};
+ghost use Rattle.std.specs.List.{list_all, zip};
+ghost use Rattle.std.specs.Vec.{vec_capacity};
+ghost use Rattle.label_sets.specs.declared.label_set.LabelSet.{LabelSet as Labels};
+ghost use Rattle.label_sets.specs.Labels.{label_sets_eq, without_label};
+ghost use Rattle.sample_groups.specs.Beside.{AreBeside};
+ghost use Rattle.sample_groups.specs.Groups.{Gathered, empty_group, with_part, known_group, or_empty, breaks_order, is_whole_group, reading_from};
+ghost use Rattle.sample_groups.specs.Placing.{HasPlace};
+
+use crate::group::Group;
+use crate::part::Part;
+use crate::reading::reading;
+use label_sets::{Kind, LabelSet, Memory, Name, Text};
+use packed_keys::SeenSets;
+use page_model::Reading;
+use std::alloc::Global;
+use std::marker::Model;
+
+/// A group's place and its labels.
+#[derive(Drop)]
+pub(crate) struct Placed {
+    place: usize,
+    labels: LabelSet,
+}
+
+/// Groups, each by the labels that its samples share, which are kept packed.
+#[derive(Drop)]
+pub(crate) struct Others {
+    sets: SeenSets,
+    groups: Vec<Group>,
+    /// The group of the last part: the next part is mostly of the same group.
+    nearest: Option<Placed>,
+}
+
+impl Model for Others {
+    ghost use Rattle.std.specs.Prelude as spec;
+    ghost use Rattle.std.specs.List.{zip};
+    ghost use Rattle.label_sets.specs.declared.label_set.LabelSet.{LabelSet as Shared};
+    ghost use Rattle.sample_groups.specs.Groups.{Gathered as Kept};
+    ghost use Rattle.label_sets.specs.Labels.{label_sets_eq};
+    ghost use Rattle.sample_groups.specs.Beside.{AreBeside};
+    ghost use Rattle.sample_groups.specs.Nearest.{IsNearest};
+
+    ghost Value = { spec.List (Shared × Kept) };
+
+    ghost view = { λ o. zip o.sets o.groups.items };
+
+    ghost invariant = { λ o. AreBeside label_sets_eq o.sets o.groups.items × spec.IfSome o.nearest (IsNearest o.sets) };
+}
+
+/// Whether each of the groups is whole.
+fn all_whole(groups: &[Group]) -> bool
+    ensures { result ≡ list_all is_whole_group groups.now }
+{
+    for group in groups {
+        if !group.is_whole() {
+            return false;
+        }
+    }
+    true
+}
+
+/// Puts the readings of groups, whose labels are these, behind others.
+fn put_all(
+    alloc: Global,
+    kind: Kind,
+    family: &Name,
+    unit: &Text,
+    sets: &SeenSets,
+    groups: Vec<Group>,
+    readings: &mut Vec<Reading>,
+) -> Result<(), Memory>
+    requires { length sets.now ≡ length groups.items }
+    ensures { OnOk result (readings.new.items ≡ readings.old.items ++ map (reading_from kind family.now unit.now) (zip sets.now groups.items)) }
+{
+    let mut place = 0;
+    for group in groups {
+        let labels = sets.set(alloc, place)?;
+        readings.push(reading(alloc, kind, family, unit, labels, group)?)?;
+        place += 1;
+    }
+    Ok(())
+}
+
+/// Puts a group without parts behind the others, where the place is there.
+fn put_new(alloc: Global, groups: &mut Vec<Group>, place: usize)
+    requires { vec_len groups.old < vec_capacity groups.old }
+    ensures new { place ≡ length groups.old.items → groups.new.items ≡ groups.old.items ++ empty_group ∷ [] }
+    ensures other { (place ≡ length groups.old.items → ⊥) → groups.new.items ≡ groups.old.items }
+{
+    if place == groups.len() {
+        groups.push(Group::new(alloc)).unwrap();
+    }
+}
+
+/// The place of the group with the labels of a sample without the one of this name, which is a new one
+/// behind the others where there was none.
+fn place_in(
+    alloc: Global,
+    sets: &mut SeenSets,
+    groups: &mut Vec<Group>,
+    name: &[u8],
+    labels: &LabelSet,
+) -> Result<usize, Memory>
+    requires { AreBeside label_sets_eq sets.old groups.old.items }
+    ensures place { IfOk result (HasPlace (zip sets.old groups.old.items) (zip sets.new groups.new.items) (without_label name.now labels.now)) }
+    ensures beside { OnOk result (AreBeside label_sets_eq sets.new groups.new.items) }
+    ensures set { IfOk result (λ place. slice_get sets.new place ≡ Some (without_label name.now labels.now)) }
+    ensures err { OnErr result ((sets.new ≡ sets.old) × (groups.new.items ≡ groups.old.items)) }
+{
+    // So that nothing can fail behind the set.
+    groups.reserve(1)?;
+    let place = sets.insert_without(labels, name)?;
+    put_new(alloc, groups, place);
+    Ok(place)
+}
+
+impl Others {
+    /// No groups. It takes no memory.
+    pub(crate) fn new(alloc: Global) -> Others
+        ensures { result ≡ [] }
+    {
+        Others {
+            sets: SeenSets::new(alloc),
+            groups: Vec::new(alloc),
+            nearest: None,
+        }
+    }
+
+    /// How many groups there are.
+    pub(crate) fn len(&self) -> usize
+        ensures { result ≡ length self.now }
+    {
+        self.groups.len()
+    }
+
+    /// The place of the nearest group, where it has the labels of a sample without the one of this name. It
+    /// takes no memory.
+    fn nearest_place(&self, name: &[u8], labels: &LabelSet) -> Option<usize>
+        ensures { IfSome result (HasPlace self.now self.now (without_label name.now labels.now)) }
+    {
+        match &self.nearest {
+            Some(nearest) if labels.is_without(name, &nearest.labels) => Some(nearest.place),
+            _ => None,
+        }
+    }
+
+    /// The place of the group with the labels of a sample without the one of this name, which is a new one
+    /// behind the others where there was none.
+    fn place_of(&mut self, alloc: Global, name: &[u8], labels: &LabelSet) -> Result<usize, Memory>
+        ensures { IfOk result (HasPlace self.old self.new (without_label name.now labels.now)) }
+    {
+        let shared = labels.without(alloc, name)?;
+        let place = place_in(alloc, &mut self.sets, &mut self.groups, name, labels)?;
+        self.nearest = Some(Placed {
+            place,
+            labels: shared,
+        });
+        Ok(place)
+    }
+
+    /// The same, at first at the nearest place.
+    fn place_from(&mut self, alloc: Global, name: &[u8], labels: &LabelSet) -> Result<usize, Memory>
+        ensures { IfOk result (HasPlace self.old self.new (without_label name.now labels.now)) }
+    {
+        match self.nearest_place(name, labels) {
+            Some(place) => Ok(place),
+            None => self.place_of(alloc, name, labels),
+        }
+    }
+
+    /// Adds a part of a sample with these labels, of which the one of this name tells buckets or quantiles
+    /// apart, to its group, unless it breaks the order of the group.
+    pub(crate) fn add(
+        &mut self,
+        alloc: Global,
+        name: &[u8],
+        labels: &LabelSet,
+        part: Part,
+    ) -> Result<bool, Memory>
+        ensures answer { IfOk result (λ added. added ≡ not (breaks_order (or_empty (known_group self.old (without_label name.now labels.now))) part)) }
+        ensures added { IfOk result (λ added. added ≡ true → self.new ≡ with_part self.old (without_label name.now labels.now) part) }
+    {
+        let place = self.place_from(alloc, name, labels)?;
+        let added = self.groups[place].add(alloc, part)?;
+        Ok(added)
+    }
+
+    /// Whether each group of a histogram is whole.
+    pub(crate) fn are_whole(&self) -> bool
+        ensures { result ≡ list_all (λ (g : Labels × Gathered). is_whole_group g.1) self.now }
+    {
+        all_whole(self.groups.as_slice())
+    }
+
+    /// Puts the readings of the groups behind these, in their order.
+    pub(crate) fn put_readings(
+        self,
+        alloc: Global,
+        kind: Kind,
+        family: &Name,
+        unit: &Text,
+        readings: &mut Vec<Reading>,
+    ) -> Result<(), Memory>
+        ensures { OnOk result (readings.new.items ≡ readings.old.items ++ map (reading_from kind family.now unit.now) self) }
+    {
+        let Others { sets, groups, .. } = self;
+        put_all(alloc, kind, family, unit, &sets, groups, readings)
+    }
+}
