@@ -1,7 +1,9 @@
 //! The page on an input.
-ghost use Rattle.std.specs.Prelude.{◌≡◌, ◌++◌, ℕ, List, length, IfOk, IfErr};
+ghost use Rattle.std.specs.Prelude.{◌≡◌, ◌++◌, [], ℕ, List, length, IfOk, IfErr};
 ghost use Rattle.page_model.specs.declared.page.Page.{Page as AnyPage};
-ghost use Rattle.text_grammar.specs.PageFeeding.{Answers, CountAnswers};
+ghost use Rattle.page_model.specs.declared.format.Treatment.TheVariants.{Scraped};
+ghost use Rattle.text_grammar.specs.PageFeeding.{Stands, Answers, CountAnswers};
+ghost use Rattle.bridge_cli.specs.Limits.{most_samples};
 ghost use Rattle.bridge_cli.specs.declared.stop.Stop.TheVariants.{Memory};
 ghost use Rattle.bridge_cli.specs.PageAnswers.{page_setting, IsPageAnswer};
 ghost use Rattle.bridge_cli.specs.PageInputs.{IsFed, HasRoomFor, IsFedWhole, HoldsPage, HoldsCounts, Leaves};
@@ -63,13 +65,14 @@ impl FedPage {
 
 /// Reads an input to its end, or until it is too long, and feeds its page. It reads on behind a fault,
 /// since a failed read and too many bytes go before that.
-fn read_page<I: Source>(alloc: Global, input: &mut I) -> Result<FedPage, Stop>
+fn read_page<I: Source>(input: &mut I, reader: TextPage) -> Result<FedPage, Stop>
+    requires { Stands Scraped most_samples [] reader }
     ensures fed { IfOk result (IsFedWhole (I.left input.old)) }
     ensures stop { (text_of : AnyPage → List ℕ) → IfErr result (StopsAs (IsPageAnswer page_setting text_of) (I.left input.old)) }
     ensures input { Leaves (I.left input.old) (I.left input.new)
         (I.read_faults input.old) (I.read_faults input.new) result }
 {
-    let mut page = FedPage::Reading(TextPage::new(alloc, Treatment::Scraped, MOST_SAMPLES)?);
+    let mut page = FedPage::Reading(reader);
     let mut taken = 0usize;
     let mut block = [0u8; BLOCK_BYTES];
     loop {
@@ -92,7 +95,8 @@ pub(crate) fn whole_page<I: Source>(alloc: Global, input: &mut I) -> Result<Page
     ensures input { Leaves (I.left input.old) (I.left input.new)
         (I.read_faults input.old) (I.read_faults input.new) result }
 {
-    let page = read_page(alloc, input)?;
+    let reader = TextPage::new(alloc, Treatment::Scraped, MOST_SAMPLES)?;
+    let page = read_page(input, reader)?;
     Ok(page.finish()?)
 }
 
@@ -103,6 +107,7 @@ pub(crate) fn page_counts<I: Source>(alloc: Global, input: &mut I) -> Result<Pag
     ensures input { Leaves (I.left input.old) (I.left input.new)
         (I.read_faults input.old) (I.read_faults input.new) result }
 {
-    let page = read_page(alloc, input)?;
+    let reader = TextPage::counting(alloc, Treatment::Scraped, MOST_SAMPLES)?;
+    let page = read_page(input, reader)?;
     Ok(page.count()?)
 }

@@ -1,7 +1,10 @@
 -- The loops that build readings and families.
-use Rattle.std.proofs.Common.{◌≡◌, ◌≤◌, ℕ, zero, suc, arith, List, [], ◌∷◌, ◌++◌, drop, length, Option, Some, None, refl, sym, ap, ◌∙◌}
+use Rattle.std.proofs.Common.{◌≡◌, ◌≤◌, ◌+◌, ℕ, zero, suc, arith, List, [], ◌∷◌, ◌++◌, drop, length, Option, Some, None, refl, sym, ap, ◌∙◌}
 use Rattle.std.specs.Prelude.{slice_get, MatchOption}
-use Rattle.std.proofs.lemmas.List.{append-nil, append_assoc, drop_all}
+use Rattle.std.specs.Vec.Iter.{into_iter_items, into_iter_steps}
+use Rattle.std.specs.declared.vec.IntoIter.{IntoIter}
+use Rattle.std.specs.declared.alloc.Global.{Global}
+use Rattle.std.proofs.lemmas.List.{append-nil, append_assoc, drop_all, drop-drop}
 use Rattle.family_rules.specs.LeftFamilies.{named}
 use Rattle.label_sets.specs.declared.kind.Kind.{Kind}
 use Rattle.page_model.specs.declared.page.Family.{Family}
@@ -63,3 +66,11 @@ none_left (Some x) old new e h = absurd (let f : Some x ≡ None = e in cc)
 pub one_left : {A : Type 0} (o : Option A) (x : A) (old new : List A) → o ≡ Some x → IsNextOf o old new → old ≡ x ∷ new
 one_left None x old new e h = absurd (let f : None ≡ Some x = e in cc)
 one_left (Some y) x old new e h = let same : y ≡ x = let f : Some y ≡ Some x = e in cc in h ∙ ap (λ z. z ∷ new) same
+
+-- one key more is passed over
+pub passed_one : (s t : IntoIter SampleKey Global) (o : Option SampleKey) (n : ℕ) (whole : List SampleKey) → into_iter_steps s o t → into_iter_items s ≡ drop n whole → into_iter_items t ≡ drop (n + 1) whole
+passed_one s t None n whole step h =
+    let before : into_iter_items s ≡ [] = no_length (into_iter_items s) (omega (arith, s.rest.ok, step.0)) in
+    let after : into_iter_items t ≡ [] = no_length (into_iter_items t) (omega (arith, t.rest.ok, step.1)) in
+    after ∙ (sym (ap (drop 1) before) ∙ (ap (drop 1) h ∙ drop-drop 1 n whole))
+passed_one s t (Some x) n whole step h = sym (ap (drop 1) step.0) ∙ (ap (drop 1) h ∙ drop-drop 1 n whole)

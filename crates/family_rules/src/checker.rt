@@ -16,13 +16,14 @@ ghost use Rattle.sample_groups.specs.Parts.{is_grouped};
 ghost use Rattle.family_rules.specs.Steps.{with_left};
 
 use crate::family::{Current, Descriptor, FamilySoFar};
+use crate::keys::SampleKeys;
 use crate::left::LeftFamilies;
 use crate::pages::families_in;
 use crate::rare_text::RareText;
 use crate::suffix::is_sample_name;
 use exact_decimal::Number;
 use label_sets::{Kind, LabelSet, Memory, Name, Text};
-use packed_keys::{SampleKey, SeenKeys};
+use packed_keys::SampleKey;
 use page_model::{Format, Item, Page, PageCounts, PageFault, Rule, Sample, Treatment};
 use sample_groups::{Part, is_grouped, part_of};
 use std::alloc::Global;
@@ -38,7 +39,7 @@ pub struct Checker {
     limit: u32,
     left: LeftFamilies,
     current: Option<Current>,
-    seen: SeenKeys,
+    seen: SampleKeys,
     samples: u32,
     /// The first refusal, or want of memory.
     stopped: Option<PageFault>,
@@ -63,7 +64,7 @@ impl Checker {
     ghost use Rattle.family_rules.specs.Checking.{Stands, IsTextItem, Answers, TellsEnd, HasStopped, key_of};
     ghost use Rattle.family_rules.specs.Steps.{Takes, TellsPart, is_current_family, known_in, current_kind, is_late_in, left_stop, place_stop, is_current_sample, begun, reached, current_with, with_current, with_part_in, fits_order, order_stop, with_sample, sample_stop, page_at};
 
-    /// A checker that has taken no line. `limit` is the most samples that the page may have.
+    /// A checker that has taken no line, and will make a page. `limit` is the most samples that the page may have.
     pub fn new(
         alloc: Global,
         format: Format,
@@ -73,17 +74,47 @@ impl Checker {
         requires { format ≡ Format.Text }
         ensures { IfOk result (λ c. Stands (record { format = format; treatment = treatment; limit = limit }) c []) }
     {
-        Ok(Checker {
+        let keys = SampleKeys::new(alloc, true);
+        Ok(Checker::over(alloc, format, treatment, limit, keys))
+    }
+
+    /// The same, for a page that will be counted: it takes less memory, and `close` more time.
+    pub fn counting(
+        alloc: Global,
+        format: Format,
+        treatment: Treatment,
+        limit: u32,
+    ) -> Result<Checker, Memory>
+        requires { format ≡ Format.Text }
+        ensures { IfOk result (λ c. Stands (record { format = format; treatment = treatment; limit = limit }) c []) }
+    {
+        let keys = SampleKeys::new(alloc, false);
+        Ok(Checker::over(alloc, format, treatment, limit, keys))
+    }
+
+    /// A checker that has taken no line and seen no key.
+    fn over(
+        alloc: Global,
+        format: Format,
+        treatment: Treatment,
+        limit: u32,
+        seen: SampleKeys,
+    ) -> Checker
+        requires text { format ≡ Format.Text }
+        requires none { seen ≡ [] }
+        ensures { Stands (record { format = format; treatment = treatment; limit = limit }) result [] }
+    {
+        Checker {
             alloc,
             format,
             treatment,
             limit,
             left: LeftFamilies::new(alloc),
             current: None,
-            seen: SeenKeys::new(alloc),
+            seen,
             samples: 0,
             stopped: None,
-        })
+        }
     }
 
     /// Whether this is the family of the nearest line.
@@ -303,7 +334,7 @@ impl Checker {
         ensures broken { IfOk result (λ answer. answer ≡ sample_stop self.old key broken) }
         ensures added { IfOk result (λ answer. answer ≡ None → self.new ≡ with_sample self.old key value) }
     {
-        let added = self.seen.insert(&key)?;
+        let added = self.seen.insert(key)?;
         if !added {
             return Ok(Some(Rule::Duplicate));
         }
@@ -467,7 +498,7 @@ impl Checker {
             ..
         } = self;
         put_left(&mut left, current)?;
-        let families = families_in(alloc, left, seen.into_keys())?;
+        let families = families_in(alloc, left, seen.into_entries())?;
         Ok(Page { families, samples })
     }
 

@@ -4,6 +4,7 @@
 
 mod checker;
 mod family;
+mod keys;
 mod left;
 mod numbers;
 mod pages;

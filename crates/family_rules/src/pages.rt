@@ -3,11 +3,12 @@ ghost use Rattle.std.specs.Prelude.{◌≡◌, [], drop, length, unwrap_or, IfOk
 ghost use Rattle.family_rules.specs.Steps.{reading_at, readings_at, family_at, families_at};
 
 use crate::family::FamilySoFar;
+use crate::keys::KeyEntries;
 use crate::left::LeftFamilies;
 use crate::numbers::Numbers;
 use exact_decimal::Number;
 use label_sets::{Kind, List, Memory, Name, SeriesKey, Text};
-use packed_keys::{Keys, SampleKey};
+use packed_keys::SampleKey;
 use page_model::{Family, Reading, Value};
 use sample_groups::is_grouped;
 use std::alloc::Global;
@@ -53,7 +54,7 @@ fn readings(
     kind: Kind,
     unit: &Text,
     values: Numbers,
-    keys: &mut Keys,
+    keys: &mut KeyEntries,
 ) -> Result<Vec<Reading>, Memory>
     ensures readings { IfOk result (λ readings. readings.items ≡ readings_at kind unit.now keys.old values) }
     ensures rest { OnOk result (keys.new ≡ drop (length values) keys.old) }
@@ -70,7 +71,12 @@ fn readings(
 }
 
 /// The family of what is known of it; the keys of its samples come next.
-fn family(alloc: Global, name: Name, known: FamilySoFar, keys: &mut Keys) -> Result<Family, Memory>
+fn family(
+    alloc: Global,
+    name: Name,
+    known: FamilySoFar,
+    keys: &mut KeyEntries,
+) -> Result<Family, Memory>
     ensures family { IfOk result (λ family. family ≡ family_at name known keys.old) }
     ensures rest { OnOk result (keys.new ≡ drop (length known.values) keys.old) }
 {
@@ -100,7 +106,11 @@ fn family(alloc: Global, name: Name, known: FamilySoFar, keys: &mut Keys) -> Res
 
 /// The families of what is known of each, in their order; the keys of their samples stand one family
 /// behind the other.
-pub fn families_in(alloc: Global, known: LeftFamilies, keys: Keys) -> Result<List<Family>, Memory>
+pub fn families_in(
+    alloc: Global,
+    known: LeftFamilies,
+    keys: KeyEntries,
+) -> Result<List<Family>, Memory>
     ensures { IfOk result (λ families. families ≡ families_at known keys) }
 {
     let mut families = Vec::with_capacity(alloc, known.len())?;

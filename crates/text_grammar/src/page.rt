@@ -65,17 +65,34 @@ fn line_limit(treatment: Treatment) -> u32
 }
 
 impl TextPage {
+    ghost use Rattle.family_rules.specs.Checking as checking;
     ghost use Rattle.text_grammar.specs.PageFeeding.{Stands, HasStopped, TakesLine, TakesStep, PieceAnswer, AtLast, EndAnswer, Answers, CountAnswers};
 
     /// A reader that was fed nothing. `limit` is the most samples that the page may have.
     pub fn new(alloc: Global, treatment: Treatment, limit: u32) -> Result<TextPage, Memory>
         ensures { IfOk result (Stands treatment limit []) }
     {
+        let checker = Checker::new(alloc, Format::Text, treatment, limit)?;
+        TextPage::over(alloc, treatment, checker)
+    }
+
+    /// The same, for a page that will be counted: it takes less memory, and `finish` more time.
+    pub fn counting(alloc: Global, treatment: Treatment, limit: u32) -> Result<TextPage, Memory>
+        ensures { IfOk result (Stands treatment limit []) }
+    {
+        let checker = Checker::counting(alloc, Format::Text, treatment, limit)?;
+        TextPage::over(alloc, treatment, checker)
+    }
+
+    /// A reader that was fed nothing, over a checker that has taken no line.
+    fn over(alloc: Global, treatment: Treatment, checker: Checker) -> Result<TextPage, Memory>
+        ensures { (limit : ℕ) → checking.Stands (text_setting treatment limit) checker [] → IfOk result (Stands treatment limit []) }
+    {
         Ok(TextPage {
             alloc,
             treatment,
             lines: Lines::new(alloc, line_limit(treatment))?,
-            checker: Checker::new(alloc, Format::Text, treatment, limit)?,
+            checker,
             labels: Vec::new(alloc),
             stopped: None,
         })

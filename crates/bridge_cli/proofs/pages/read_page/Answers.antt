@@ -4,7 +4,7 @@ use Rattle.bridge_cli.proofs.PageLaws.{fed_nothing, fed_all, fed_too_much, fed_m
 use Rattle.bridge_cli.proofs.pages.read_page.Goals as goal
 
 pub loop-page-init : goal.loop-page-init
-loop-page-init g c = (fed_nothing _ _ c.in_ok-new.ensures, refl)
+loop-page-init g c = (fed_nothing _ _ c.requires, refl)
 
 pub returns-in_err-count-clause-input : goal.returns-in_err-count-clause-input
 returns-in_err-count-clause-input g c =

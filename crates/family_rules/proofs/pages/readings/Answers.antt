@@ -13,6 +13,6 @@ returns-clause-readings c =
           let none : into_iter_items c.loop-value.value-iterator ≡ [] = no_length (into_iter_items c.loop-value.value-iterator) (omega (arith, c.loop-value.value-iterator.rest.ok, w.in-None.ensures.steps.0)) in
           readings_end c.loop-value.readings.items _ _ (ap (readings_at c.args.kind c.args.unit.now c.loop-value.keys) none ∙ no_values c.args.kind c.args.unit.now c.loop-value.keys) c.loop-value.invariant.readings ∙ all
       | in-Some+in_ok-next+in_default w ↦
-          readings_end c.loop-value.readings.items _ _ (ap (λ keys. readings_at c.args.kind c.args.unit.now keys (into_iter_items c.loop-value.value-iterator)) (none_left w.in_ok-next.next c.loop-value.keys w.next-in-loop-value.new.self w.in_default.is w.in_ok-next.ensures.steps))
+          readings_end c.loop-value.readings.items _ _ (ap (λ keys. readings_at c.args.kind c.args.unit.now keys (into_iter_items c.loop-value.value-iterator)) (none_left w.in_ok-next.next c.loop-value.keys w.next-in-loop-value.new.self w.in_default.is w.in_ok-next.ensures))
           c.loop-value.invariant.readings ∙ all
     ]

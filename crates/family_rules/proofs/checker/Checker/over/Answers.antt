@@ -1,16 +1,16 @@
 use Rattle.std.proofs.Common.{refl}
 use Rattle.page_model.specs.Owners.{owned_lines}
 use Rattle.family_rules.specs.Checking.{left_families, current_family, keys_of}
-use Rattle.family_rules.proofs.checker.Checker.new.Goals as goal
+use Rattle.family_rules.proofs.checker.Checker.over.Goals as goal
 
 pub returns : goal.returns
 unfolding owned_lines left_families current_family keys_of
 returns c = record {
   setting = refl;
-  text = c.requires;
+  text = c.requires.text;
   left = c.new.ensures;
   current = refl;
-  seen = c.new-2.ensures;
+  seen = c.requires.none;
   samples = refl;
   working = refl;
   text_items = tt;
