@@ -10,30 +10,30 @@ use Rattle.otlp_tree.specs.declared.tree.AttributeValue.TheVariants.{Str, Int}
 use Rattle.otlp_tree.specs.declared.tree.NumberPoint.{NumberPoint}
 use Rattle.otlp_tree.specs.declared.tree.Shape.TheVariants as shapes
 use Rattle.page_model.specs.declared.page.Quantile.{Quantile}
-use Rattle.otlp_json.specs.Json.{json_string, json_integer}
-use Rattle.otlp_json.specs.Texts.{attribute_value_text, attribute_text, label_text, attributes_member, start_member, number_member, number_point_text, known_sum_member, observation_members, histogram_value_members, histogram_point_text, quantile_text, quantile_members, summary_value_members, summary_point_text, gauge_member, sum_member, histogram_member, summary_member, shape_member, metric_text, scope_text, request_text}
+use Rattle.otlp_json.specs.Json.{json_string, json_integer, json_array}
+use Rattle.otlp_json.specs.Texts.{attribute_value_text, attribute_text, label_text, attributes_member, start_member, point_text, number_members, number_point_text, known_sum_member, observation_members, histogram_point_text, quantile_text, quantile_members, summary_point_text, gauge_member, sum_member, histogram_member, summary_member, shape_member, metric_text, scope_text, request_text}
 
 -- a line feed, a quote, two backslashes, a letter of two bytes, DEL and a control character
 escapes : json_string (112 ∷ 10 ∷ 34 ∷ 92 ∷ 92 ∷ 113 ∷ 195 ∷ 169 ∷ 127 ∷ 31 ∷ []) ≡ codes "\"p\\u000a\\\"\\\\\\\\q" ++ 195 ∷ 169 ∷ 127 ∷ codes "\\u001f\""
-unfolding json_string
+unfolding json_string json_array
 escapes = refl
 
 -- a point of a gauge, up to its number
 gauge_point : (n : Number) → number_point_text (record { labels = []; start = None; time = 1000; value = Some n })
     ≡ codes "{\"timeUnixNano\":\"1000\",\"asDouble\":" ++ number_json n ++ codes "}"
-unfolding number_point_text attributes_member start_member number_member json_integer digits
+unfolding number_point_text attributes_member start_member number_members json_integer digits json_array point_text
 gauge_point n = refl
 
 -- a point of a counter, up to its number
 counter_point : (n : Number) → number_point_text (record { labels = []; start = Some 30; time = 30; value = Some n })
     ≡ codes "{\"startTimeUnixNano\":\"30\",\"timeUnixNano\":\"30\",\"asDouble\":" ++ number_json n ++ codes "}"
-unfolding number_point_text attributes_member start_member number_member json_integer digits
+unfolding number_point_text attributes_member start_member number_members json_integer digits json_array point_text
 counter_point n = refl
 
 -- a point without a value
 marker : number_point_text (record { labels = []; start = Some 10; time = 20; value = None })
     ≡ codes "{\"startTimeUnixNano\":\"10\",\"timeUnixNano\":\"20\",\"flags\":1}"
-unfolding number_point_text attributes_member start_member number_member json_integer digits
+unfolding number_point_text attributes_member start_member number_members json_integer digits json_array point_text
 marker = refl
 
 -- a point without a value
@@ -43,7 +43,7 @@ no_value labels = record { labels = labels; start = None; time = 20; value = Non
 -- a metric without a description and a unit
 gauge_metric : metric_text (record { name = codes "q"; description = []; unit = []; shape = shapes.Gauge (no_value [] ∷ []) })
     ≡ codes "{\"name\":\"q\",\"gauge\":{\"dataPoints\":[{\"timeUnixNano\":\"20\",\"flags\":1}]}}"
-unfolding metric_text shape_member gauge_member number_point_text attributes_member start_member number_member json_string json_integer digits
+unfolding metric_text shape_member gauge_member number_point_text attributes_member start_member number_members json_string json_integer digits json_array point_text
 gauge_metric = refl
 
 -- a metric with both, and two points
@@ -54,7 +54,7 @@ sum_metric : metric_text (record {
   shape = shapes.Sum (no_value (record { name = codes "a"; value = codes "1" } ∷ record { name = codes "b"; value = codes "2" } ∷ []) ∷ no_value [] ∷ []) false;
 })
     ≡ codes "{\"name\":\"q\",\"description\":\"what\",\"unit\":\"By\",\"sum\":{\"dataPoints\":[{\"attributes\":[{\"key\":\"a\",\"value\":{\"stringValue\":\"1\"}},{\"key\":\"b\",\"value\":{\"stringValue\":\"2\"}}],\"timeUnixNano\":\"20\",\"flags\":1},{\"timeUnixNano\":\"20\",\"flags\":1}],\"aggregationTemporality\":2,\"isMonotonic\":false}}"
-unfolding metric_text shape_member sum_member number_point_text label_text attribute_value_text attributes_member start_member number_member json_string json_integer digits
+unfolding metric_text shape_member sum_member number_point_text label_text attribute_value_text attributes_member start_member number_members json_string json_integer digits json_array point_text
 sum_metric = refl
 
 -- digits divided by a power of ten
@@ -74,19 +74,19 @@ histogram_metric : metric_text (record {
   } ∷ []);
 })
     ≡ codes "{\"name\":\"h\",\"histogram\":{\"dataPoints\":[{\"startTimeUnixNano\":\"1000\",\"timeUnixNano\":\"1000\",\"count\":\"5\",\"sum\":1.5,\"bucketCounts\":[\"2\",\"3\",\"0\"],\"explicitBounds\":[0.1,1]}],\"aggregationTemporality\":2}}"
-unfolding metric_text shape_member histogram_member histogram_point_text histogram_value_members observation_members known_sum_member attributes_member start_member json_string json_integer digits number_json decimal_text size_text is_plain plain_text pointed sign_text
+unfolding metric_text shape_member histogram_member histogram_point_text observation_members known_sum_member attributes_member start_member json_string json_integer digits number_json decimal_text size_text is_plain plain_text pointed sign_text json_array point_text
 histogram_metric = refl
 
 -- a histogram without a sum and with one bucket
 histogram_point : histogram_point_text (record { labels = []; start = 1000; time = 1000; value = Some (record { layout = record { bounds = []; counts = 1 ∷ []; count = 1 }; sum = None }) })
     ≡ codes "{\"startTimeUnixNano\":\"1000\",\"timeUnixNano\":\"1000\",\"count\":\"1\",\"bucketCounts\":[\"1\"],\"explicitBounds\":[]}"
-unfolding histogram_point_text histogram_value_members observation_members known_sum_member attributes_member start_member json_integer digits
+unfolding histogram_point_text observation_members known_sum_member attributes_member start_member json_integer digits json_array point_text
 histogram_point = refl
 
 -- a histogram that has no value any more
 histogram_marker : histogram_point_text (record { labels = []; start = 10; time = 20; value = None })
     ≡ codes "{\"startTimeUnixNano\":\"10\",\"timeUnixNano\":\"20\",\"flags\":1}"
-unfolding histogram_point_text histogram_value_members attributes_member start_member json_integer digits
+unfolding histogram_point_text attributes_member start_member json_integer digits json_array point_text
 histogram_marker = refl
 
 -- a quantile without a value
@@ -106,13 +106,13 @@ summary_metric : metric_text (record {
   } ∷ []);
 })
     ≡ codes "{\"name\":\"s\",\"description\":\"d\",\"summary\":{\"dataPoints\":[{\"startTimeUnixNano\":\"1000\",\"timeUnixNano\":\"1000\",\"count\":\"0\",\"sum\":0,\"quantileValues\":[{\"quantile\":0.5,\"value\":\"NaN\"},{\"quantile\":0.9,\"value\":\"NaN\"},{\"quantile\":0.99,\"value\":\"NaN\"}]}]}}"
-unfolding metric_text shape_member summary_member summary_point_text summary_value_members quantile_members quantile_text attributes_member start_member json_string json_integer digits number_json decimal_text size_text is_plain plain_text pointed sign_text
+unfolding metric_text shape_member summary_member summary_point_text quantile_members quantile_text attributes_member start_member json_string json_integer digits number_json decimal_text size_text is_plain plain_text pointed sign_text json_array point_text
 summary_metric = refl
 
 -- a summary that has no value any more
 summary_marker : summary_point_text (record { labels = []; start = 10; time = 20; value = None })
     ≡ codes "{\"startTimeUnixNano\":\"10\",\"timeUnixNano\":\"20\",\"flags\":1}"
-unfolding summary_point_text summary_value_members attributes_member start_member json_integer digits
+unfolding summary_point_text attributes_member start_member json_integer digits json_array point_text
 summary_marker = refl
 
 -- a whole request, its numbers left out
@@ -122,5 +122,5 @@ whole : request_text (record {
       ∷ record { name = codes "bridge.target"; metrics = [] } ∷ [];
 })
     ≡ codes "{\"resourceMetrics\":[{\"resource\":{\"attributes\":[{\"key\":\"service.name\",\"value\":{\"stringValue\":\"j\"}},{\"key\":\"server.port\",\"value\":{\"intValue\":\"1\"}}]},\"scopeMetrics\":[{\"scope\":{\"name\":\"bridge\"},\"metrics\":[{\"name\":\"q\",\"sum\":{\"dataPoints\":[],\"aggregationTemporality\":2,\"isMonotonic\":true}}]},{\"scope\":{\"name\":\"bridge.target\"},\"metrics\":[]}]}]}"
-unfolding request_text scope_text metric_text shape_member sum_member attribute_text attribute_value_text json_string json_integer digits
+unfolding request_text scope_text metric_text shape_member sum_member attribute_text attribute_value_text json_string json_integer digits json_array
 whole = refl

@@ -11,21 +11,21 @@ unfoldable pub next_text : {A : Type 0} → (A → List ℕ) → A → List ℕ
 next_text text x = codes "," ++ text x
 
 -- a text with a comma behind, as each but the last of a list has it
-abbrev pub with_comma : List ℕ → List ℕ
-with_comma text = text ++ codes ","
+abbrev pub before_comma : List ℕ → List ℕ
+before_comma text = text ++ codes ","
 
 -- the members in front of another one
-abbrev pub in_front : List (List ℕ) → List ℕ
-in_front members = flat_map with_comma members
+abbrev pub each_before_comma : List (List ℕ) → List ℕ
+each_before_comma members = flat_map before_comma members
 
 -- a text with a comma in front
 abbrev pub behind_comma : List ℕ → List ℕ
 behind_comma text = codes "," ++ text
 
 -- the members behind another one
-abbrev pub behind : List (List ℕ) → List ℕ
-behind members = flat_map behind_comma members
+abbrev pub each_behind_comma : List (List ℕ) → List ℕ
+each_behind_comma members = flat_map behind_comma members
 
 -- a point from its first member up to its time
 unfoldable pub point_front : LabelSet → Option ℕ → ℕ → List ℕ
-point_front labels start time = in_front (attributes_member labels) ++ in_front (start_member start) ++ codes "\"timeUnixNano\":" ++ json_integer time
+point_front labels start time = each_before_comma (attributes_member labels) ++ each_before_comma (start_member start) ++ codes "\"timeUnixNano\":" ++ json_integer time

@@ -60,14 +60,22 @@ point_head labels start time = attributes_member labels ++ start_member start ++
 abbrev pub no_value_member : List ℕ
 no_value_member = member (codes "flags") (codes "1")
 
--- the value of a number point, or the flag
-unfoldable pub number_member : Option Number → List ℕ
-number_member None = no_value_member
-number_member (Some n) = member (codes "asDouble") (number_json n)
+-- the members of a point's value, or the flag
+abbrev pub value_members : {A : Type 0} → (A → List (List ℕ)) → Option A → List (List ℕ)
+value_members members None = no_value_member ∷ []
+value_members members (Some v) = members v
+
+-- a point of any kind, by the members of its value
+unfoldable pub point_text : {A : Type 0} → (A → List (List ℕ)) → LabelSet → Option ℕ → ℕ → Option A → List ℕ
+point_text members labels start time value = json_object (point_head labels start time ++ value_members members value)
+
+-- the value of a number point
+unfoldable pub number_members : Number → List (List ℕ)
+number_members n = member (codes "asDouble") (number_json n) ∷ []
 
 -- a number point (NumberDataPoint)
 unfoldable pub number_point_text : NumberPoint → List ℕ
-number_point_text p = json_object (point_head p.labels p.start p.time ++ number_member p.value ∷ [])
+number_point_text p = point_text number_members p.labels p.start p.time p.value
 
 -- the sum of a histogram's observations, left out where it isn't known
 unfoldable pub known_sum_member : Option Number → List (List ℕ)
@@ -82,14 +90,9 @@ observation_members v =
     ++ member (codes "bucketCounts") (json_array (map json_integer v.layout.counts))
     ∷ member (codes "explicitBounds") (json_array (map decimal_text v.layout.bounds)) ∷ []
 
--- the value of a histogram point, or the flag
-unfoldable pub histogram_value_members : Option HistogramValue → List (List ℕ)
-histogram_value_members None = no_value_member ∷ []
-histogram_value_members (Some v) = observation_members v
-
 -- a histogram point (HistogramDataPoint)
 unfoldable pub histogram_point_text : HistogramPoint → List ℕ
-histogram_point_text p = json_object (point_head p.labels (Some p.start) p.time ++ histogram_value_members p.value)
+histogram_point_text p = point_text observation_members p.labels (Some p.start) p.time p.value
 
 -- a quantile and its value (ValueAtQuantile)
 unfoldable pub quantile_text : Quantile → List ℕ
@@ -102,14 +105,9 @@ quantile_members v =
     ∷ member (codes "sum") (number_json v.sum)
     ∷ member (codes "quantileValues") (json_array (map quantile_text v.quantiles)) ∷ []
 
--- the value of a summary point, or the flag
-unfoldable pub summary_value_members : Option SummaryValue → List (List ℕ)
-summary_value_members None = no_value_member ∷ []
-summary_value_members (Some v) = quantile_members v
-
 -- a summary point (SummaryDataPoint)
 unfoldable pub summary_point_text : SummaryPoint → List ℕ
-summary_point_text p = json_object (point_head p.labels (Some p.start) p.time ++ summary_value_members p.value)
+summary_point_text p = point_text quantile_members p.labels (Some p.start) p.time p.value
 
 -- ---- metrics, scopes and the whole
 

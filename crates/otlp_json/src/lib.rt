@@ -4,10 +4,9 @@
 //! the nearest floating point number.
 #![tactic(auto)]
 
-ghost use Rattle.std.specs.Prelude.{◌≡◌, ◌++◌, min, OnOk, OnErr, length as length_of};
+ghost use Rattle.std.specs.Prelude.{◌≡◌, ◌++◌, codes, min, OnOk, OnErr, length as length_of};
 ghost use Rattle.otlp_json.specs.Texts.{request_text};
 
-mod append;
 mod attributes;
 mod histograms;
 mod json;
@@ -22,12 +21,13 @@ mod values;
 
 use label_sets::Memory;
 use otlp_tree::Request;
+use requests::RequestText;
 
 /// The length of a request's text in bytes, saturating at `u64::MAX`. It takes no memory.
 pub fn length(request: &Request) -> u64
     ensures { result ≡ min (length_of (request_text request.now)) u64.MAX }
 {
-    requests::request_len(request)
+    text_emitter::length(&RequestText(request))
 }
 
 /// Puts the text of a request at the end of `out`: one JSON object with no blanks and no line end.
@@ -38,7 +38,13 @@ pub fn write(request: &Request, out: &mut Vec<u8>) -> Result<(), Memory>
     ensures ok { OnOk result (out.new.items ≡ out.old.items ++ request_text request.now) }
     ensures err { OnErr result (out.new.items ≡ out.old.items) }
 {
-    out.reserve(length(request) as usize)?;
-    requests::write_request(out, request);
-    Ok(())
+    text_emitter::write(&RequestText(request), out)
+}
+
+/// Puts the text of a request and a line feed at the end of `out`, as [`write`] does.
+pub fn write_line(request: &Request, out: &mut Vec<u8>) -> Result<(), Memory>
+    ensures ok { OnOk result (out.new.items ≡ out.old.items ++ request_text request.now ++ codes "\n") }
+    ensures err { OnErr result (out.new.items ≡ out.old.items) }
+{
+    text_emitter::write_line(&RequestText(request), out)
 }

@@ -1,34 +1,25 @@
-ghost use Rattle.std.specs.Prelude.{◌≡◌, length, min};
-ghost use Rattle.otlp_json.specs.Appended.{HasRoom, IsAppended};
+//! Whole requests.
+
+ghost use Rattle.std.specs.Prelude.{◌≡◌, fold};
 ghost use Rattle.otlp_json.specs.Texts.{request_text};
 
-use crate::append::put;
 use crate::json::Json;
 use otlp_tree::Request;
+use text_emitter::{Emit, Emitter};
 
-/// The length of a request's text, saturating at `u64::MAX`.
-#[tactic(auto, unfolding(crate::specs::Texts::request_text))]
-pub(crate) fn request_len(request: &Request) -> u64
-    ensures { result ≡ min (length (request_text request.now)) u64.MAX }
-{
-    request
-        .resource
-        .text_len()
-        .saturating_add(request.scopes.text_len())
-        .saturating_add(
-            b"{\"resourceMetrics\":[{\"resource\":{\"attributes\":},\"scopeMetrics\":}]}".len() as u64,
-        )
-}
+/// A request with its text.
+#[derive(Clone, Copy)]
+pub(crate) struct RequestText<'a>(pub(crate) &'a Request);
 
-/// Puts a request's text.
-#[tactic(auto, unfolding(crate::specs::Texts::request_text))]
-pub(crate) fn write_request(out: &mut Vec<u8>, request: &Request)
-    requires { HasRoom out.old (request_text request.now) }
-    ensures { IsAppended out.old out.new (request_text request.now) }
-{
-    put(out, b"{\"resourceMetrics\":[{\"resource\":{\"attributes\":");
-    request.resource.write_text(out);
-    put(out, b"},\"scopeMetrics\":");
-    request.scopes.write_text(out);
-    put(out, b"}]}");
+impl Emit for RequestText<'_> {
+    ghost text = { λ r. request_text r.0.now };
+
+    #[tactic(auto, unfolding(crate::specs::Texts::request_text))]
+    fn emit<E: Emitter>(&self, out: &mut E) {
+        out.put(b"{\"resourceMetrics\":[{\"resource\":{\"attributes\":");
+        self.0.resource.emit(out);
+        out.put(b"},\"scopeMetrics\":");
+        self.0.scopes.emit(out);
+        out.put(b"}]}");
+    }
 }

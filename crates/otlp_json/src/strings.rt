@@ -1,12 +1,13 @@
-ghost use Rattle.std.specs.Prelude.{◌≡◌, ◌+◌, ◌<◌, ◌≤◌, length, min, false};
+//! Strings with their escapes.
+
+ghost use Rattle.std.specs.Prelude.{◌≡◌, ◌+◌, ◌<◌, ◌≤◌, fold, length, false};
 ghost use Rattle.std.specs.List.{list_any, flat_map};
 ghost use Rattle.std.specs.Fmt.{digit_glyph};
-ghost use Rattle.otlp_json.specs.Appended.{HasRoom, IsAppended};
 ghost use Rattle.otlp_json.specs.Json.{control_escape, is_escaped, json_byte, json_string};
 
-use crate::append::put;
 use crate::json::Json;
 use label_sets::{Name, Text};
+use text_emitter::Emitter;
 
 /// Whether some byte of a piece of text stands in a string by an escape.
 #[inline(always)]
@@ -56,121 +57,68 @@ fn hex_digit(n: u8) -> u8
     if n < 10 { b'0' + n } else { b'a' + (n - 10) }
 }
 
-/// The length of a byte's text in a string.
-fn byte_len(b: u8) -> u64
-    ensures { result ≡ length (json_byte b) }
+/// Emits the escape of a control character.
+fn emit_control<E: Emitter>(out: &mut E, b: u8)
+    requires { b < 32 }
+    ensures { out.new ≡ fold E.push out.old (control_escape b) }
+{
+    out.put(b"\\u00");
+    out.put(&[hex_digit(b / 16), hex_digit(b % 16)]);
+}
+
+/// Emits a byte of a string, escaped where it has to be.
+fn emit_byte<E: Emitter>(out: &mut E, b: u8)
+    ensures { out.new ≡ fold E.push out.old (json_byte b) }
 {
     match b {
-        b'"' | b'\\' => 2,
-        0..=0x1f => 6,
-        _ => 1,
+        b'"' => out.put(b"\\\""),
+        b'\\' => out.put(b"\\\\"),
+        0..=0x1f => emit_control(out, b),
+        _ => out.put(&[b]),
     }
 }
 
-/// Puts the escape of a control character.
-fn write_control(out: &mut Vec<u8>, b: u8)
-    requires control { b < 32 }
-    requires room { HasRoom out.old (control_escape b) }
-    ensures { IsAppended out.old out.new (control_escape b) }
-{
-    put(out, b"\\u00");
-    put(out, &[hex_digit(b / 16), hex_digit(b % 16)]);
-}
-
-/// Puts a byte of a string, escaped where it has to be.
-fn write_byte(out: &mut Vec<u8>, b: u8)
-    requires { HasRoom out.old (json_byte b) }
-    ensures { IsAppended out.old out.new (json_byte b) }
-{
-    match b {
-        b'"' => put(out, b"\\\""),
-        b'\\' => put(out, b"\\\\"),
-        0..=0x1f => write_control(out, b),
-        _ => put(out, &[b]),
-    }
-}
-
-/// The length of a string's content that has escapes, saturating at `u64::MAX`.
-fn escaped_len(text: &[u8]) -> u64
-    ensures { result ≡ min (length (flat_map json_byte text.now)) u64.MAX }
-{
-    let mut len = 0u64;
-    for b in text {
-        len = len.saturating_add(byte_len(*b));
-    }
-    len
-}
-
-/// Puts a string's content that has escapes.
-fn write_escaped(out: &mut Vec<u8>, text: &[u8])
-    requires { HasRoom out.old (flat_map json_byte text.now) }
-    ensures { IsAppended out.old out.new (flat_map json_byte text.now) }
+/// Emits a string's content that has escapes.
+fn emit_escaped<E: Emitter>(out: &mut E, text: &[u8])
+    ensures { out.new ≡ fold E.push out.old (flat_map json_byte text.now) }
 {
     for b in text {
-        write_byte(out, *b);
+        emit_byte(out, *b);
     }
 }
 
-/// The length of a string's content, saturating at `u64::MAX`.
-fn content_len(text: &[u8]) -> u64
-    ensures { result ≡ min (length (flat_map json_byte text.now)) u64.MAX }
+/// Emits a string's content.
+pub(crate) fn emit_content<E: Emitter>(out: &mut E, text: &[u8])
+    ensures { out.new ≡ fold E.push out.old (flat_map json_byte text.now) }
 {
     if has_escapes(text) {
-        return escaped_len(text);
+        return emit_escaped(out, text);
     }
-    text.len() as u64
+    out.put(text)
 }
 
-/// Puts a string's content.
-pub(crate) fn write_content(out: &mut Vec<u8>, text: &[u8])
-    requires { HasRoom out.old (flat_map json_byte text.now) }
-    ensures { IsAppended out.old out.new (flat_map json_byte text.now) }
-{
-    if has_escapes(text) {
-        return write_escaped(out, text);
-    }
-    put(out, text)
-}
-
-/// The length of a string in quotes, saturating at `u64::MAX`.
+/// Emits a string in quotes.
 #[tactic(auto, unfolding(crate::specs::Json::json_string))]
-fn string_len(text: &[u8]) -> u64
-    ensures { result ≡ min (length (json_string text.now)) u64.MAX }
+fn emit_string<E: Emitter>(out: &mut E, text: &[u8])
+    ensures { out.new ≡ fold E.push out.old (json_string text.now) }
 {
-    content_len(text).saturating_add(b"\"\"".len() as u64)
-}
-
-/// Puts a string in quotes.
-#[tactic(auto, unfolding(crate::specs::Json::json_string))]
-fn write_string(out: &mut Vec<u8>, text: &[u8])
-    requires { HasRoom out.old (json_string text.now) }
-    ensures { IsAppended out.old out.new (json_string text.now) }
-{
-    put(out, b"\"");
-    write_content(out, text);
-    put(out, b"\"");
+    out.put(b"\"");
+    emit_content(out, text);
+    out.put(b"\"");
 }
 
 impl Json for Text {
     ghost text = { json_string };
 
-    fn text_len(&self) -> u64 {
-        string_len(self.as_bytes())
-    }
-
-    fn write_text(&self, out: &mut Vec<u8>) {
-        write_string(out, self.as_bytes());
+    fn emit<E: Emitter>(&self, out: &mut E) {
+        emit_string(out, self.as_bytes());
     }
 }
 
 impl Json for Name {
     ghost text = { json_string };
 
-    fn text_len(&self) -> u64 {
-        string_len(self.as_bytes())
-    }
-
-    fn write_text(&self, out: &mut Vec<u8>) {
-        write_string(out, self.as_bytes());
+    fn emit<E: Emitter>(&self, out: &mut E) {
+        emit_string(out, self.as_bytes());
     }
 }

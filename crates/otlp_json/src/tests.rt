@@ -1,4 +1,4 @@
-use super::{length, write};
+use super::{length, write, write_line};
 use exact_decimal::{Decimal, Number};
 use histogram_layout::Layout;
 use label_sets::{LabelSet, List, Memory, Text};
@@ -213,14 +213,15 @@ fn writes_histograms_and_summaries(rt: HostRuntime) -> Result<(), AllocError> {
 
 // With the first allocation failing, nothing is written.
 #[test]
-fn writes_all_or_nothing(rt: HostRuntime) {
+fn writes_a_line_or_nothing(rt: HostRuntime) {
     let request = Request {
         resource: List::new(rt.alloc()),
         scopes: List::new(rt.alloc()),
     };
     let mut out = Vec::new(rt.alloc());
-    let expected: &[u8] = match write(&request, &mut out) {
-        Ok(()) => br#"{"resourceMetrics":[{"resource":{"attributes":[]},"scopeMetrics":[]}]}"#,
+    let expected: &[u8] = match write_line(&request, &mut out) {
+        Ok(()) =>
+            b"{\"resourceMetrics\":[{\"resource\":{\"attributes\":[]},\"scopeMetrics\":[]}]}\n",
         Err(_) => b"",
     };
     assert_eq!(rt; out.as_slice(), expected);
