@@ -9,7 +9,7 @@ runs=${1:-11}
 take_crates label_sets
 add_program time_sets label_sets <<'TEXT'
 #![tactic(auto)]
-use label_sets::{Label, LabelSet, List, Name, Text};
+use label_sets::{Label, LabelSet, Name, Text};
 use std::alloc::{AllocError, Global};
 use std::env;
 use std::io;
@@ -32,7 +32,7 @@ fn all_values(alloc: Global, names: &[String]) -> Result<Vec<Vec<String>>, Alloc
 }
 
 #[inline(never)]
-fn pairs(alloc: Global, names: &[String], values: &[String]) -> Result<List<Label>, AllocError> {
+fn pairs(alloc: Global, names: &[String], values: &[String]) -> Result<Vec<Label>, AllocError> {
     let mut labels = Vec::with_capacity(alloc, names.len())?;
     for (name, value) in names.iter().zip(values.iter()) {
         labels.push(Label {
@@ -40,7 +40,7 @@ fn pairs(alloc: Global, names: &[String], values: &[String]) -> Result<List<Labe
             value: Text::from_str(alloc, value.as_str())?,
         })?;
     }
-    Ok(List::from_vec(labels))
+    Ok(labels)
 }
 
 fn made(
@@ -48,7 +48,7 @@ fn made(
     names: &[String],
     values: &[Vec<String>],
     count: usize,
-) -> Result<Vec<List<Label>>, AllocError> {
+) -> Result<Vec<Vec<Label>>, AllocError> {
     let mut all = Vec::with_capacity(alloc, count)?;
     for n in 0..count {
         if let Some(values) = values.get(n % 1000) {
@@ -59,11 +59,11 @@ fn made(
 }
 
 #[inline(never)]
-fn build(alloc: Global, pairs: List<Label>) -> Option<LabelSet> {
+fn build(alloc: Global, pairs: Vec<Label>) -> Option<LabelSet> {
     LabelSet::build(alloc, pairs, 64).ok()
 }
 
-fn built(alloc: Global, all: Vec<List<Label>>) -> Result<Vec<LabelSet>, AllocError> {
+fn built(alloc: Global, all: Vec<Vec<Label>>) -> Result<Vec<LabelSet>, AllocError> {
     let mut sets = Vec::with_capacity(alloc, all.len())?;
     for pairs in all {
         if let Some(set) = build(alloc, pairs) {

@@ -41,3 +41,7 @@ pub record IsNormal (d : DecimalValue) : Type 0 where
   pub zero_power : d.digits ≡ 0 → d.up + d.down ≡ 0
   pub low : d.digits ≢ 0 → 10 ^ d.down ≤ d.digits * 10 ^ (d.up + 400)
   pub high : d.digits * 10 ^ d.up < 10 ^ (309 + d.down)
+
+-- the number of four quarters of 32 bits, the lowest first
+abbrev pub of_quarters : ℕ → ℕ → ℕ → ℕ → ℕ
+of_quarters first second third fourth = ((fourth * 2 ^ 32 + third) * 2 ^ 32 + second) * 2 ^ 32 + first

@@ -1,3 +1,4 @@
+//! A buffer of bytes into which a number is printed.
 ghost use Rattle.std.specs.Prelude.{◌≡◌, ◌+◌, ◌≤◌, [], ◌++◌, length};
 ghost use Rattle.exact_decimal.specs.Literals.{zeros};
 

@@ -1,17 +1,19 @@
+//! The one form of a decimal.
 ghost use Rattle.std.specs.Prelude.{◌≡◌, ℕ, pos, ◌-ℤ◌};
 ghost use Rattle.exact_decimal.specs.Decimals.{IsNormal};
 ghost use Rattle.exact_decimal.specs.Tokens.{zero_decimal};
 
 use std::marker::Model;
 
-/// What the second quarter of 128 bits counts.
-const HALF: u128 = 1 << 32;
+/// How many values a quarter of 128 bits has.
+const QUARTER: u128 = 1 << 32;
 
 /// A decimal in its one form: `digits` is not divisible by 10 unless it is 0, and zero has no sign
 /// and power 0. There are at most 38 digits, and the leading one stands at a power of ten from -400
 /// to 308.
 #[derive(Clone, Copy, Debug, PartialEq, Eq, Hash)]
 pub struct Decimal {
+    // The digits in four quarters of 32 bits, the lowest first: 128 bits in one would take more room.
     first: u32,
     second: u32,
     third: u32,
@@ -21,20 +23,19 @@ pub struct Decimal {
     negative: bool,
 }
 
-const _: () = prove!(std::mem::size_of::<Decimal>() <= 28);
+const _: () = prove!(std::mem::size_of::<Decimal>() <= 24);
 
 impl Model for Decimal {
-    ghost use Rattle.exact_decimal.specs.Decimals.{DecimalValue, IsNormal};
+    ghost use Rattle.exact_decimal.specs.Decimals.{DecimalValue, IsNormal, of_quarters};
+    ghost use Rattle.std.specs.Prelude.{◌^◌, ◌%◌, ◌/◌, ◌<◌};
 
     ghost Value = { DecimalValue };
 
-    ghost use Rattle.std.specs.Prelude.{◌+◌, ◌*◌, ◌^◌, ◌%◌, ◌/◌, ◌<◌};
-
-    ghost view = { λ d. record { negative = d.negative; digits = ((d.fourth * 2 ^ 32 + d.third) * 2 ^ 32 + d.second) * 2 ^ 32 + d.first; up = d.up; down = d.down } };
+    ghost view = { λ d. record { negative = d.negative; digits = of_quarters d.first d.second d.third d.fourth; up = d.up; down = d.down } };
 
     ghost inverse = { λ v. record { first = v.digits % 2 ^ 32; second = v.digits / 2 ^ 32 % 2 ^ 32; third = v.digits / 2 ^ 32 / 2 ^ 32 % 2 ^ 32; fourth = v.digits / 2 ^ 32 / 2 ^ 32 / 2 ^ 32; up = v.up; down = v.down; negative = v.negative } };
 
-    ghost invariant = { λ d. (d.first < 2 ^ 32) × (d.second < 2 ^ 32) × (d.third < 2 ^ 32) × IsNormal (record { negative = d.negative; digits = ((d.fourth * 2 ^ 32 + d.third) * 2 ^ 32 + d.second) * 2 ^ 32 + d.first; up = d.up; down = d.down }) };
+    ghost invariant = { λ d. (d.first < 2 ^ 32) × (d.second < 2 ^ 32) × (d.third < 2 ^ 32) × IsNormal (record { negative = d.negative; digits = of_quarters d.first d.second d.third d.fourth; up = d.up; down = d.down }) };
 }
 
 impl Decimal {
@@ -51,10 +52,10 @@ impl Decimal {
         ensures { result ≡ record { negative = negative; digits = digits; up = up; down = down } }
     {
         Decimal {
-            first: (digits % HALF) as u32,
-            second: (digits / HALF % HALF) as u32,
-            third: (digits / HALF / HALF % HALF) as u32,
-            fourth: (digits / HALF / HALF / HALF) as u32,
+            first: (digits % QUARTER) as u32,
+            second: (digits / QUARTER % QUARTER) as u32,
+            third: (digits / QUARTER / QUARTER % QUARTER) as u32,
+            fourth: (digits / QUARTER / QUARTER / QUARTER) as u32,
             up,
             down,
             negative,
@@ -73,8 +74,9 @@ impl Decimal {
     pub fn digits(&self) -> u128
         ensures { result ≡ self.now.digits }
     {
-        ((u128::from(self.fourth) * HALF + u128::from(self.third)) * HALF + u128::from(self.second))
-            * HALF
+        ((u128::from(self.fourth) * QUARTER + u128::from(self.third)) * QUARTER
+            + u128::from(self.second))
+            * QUARTER
             + u128::from(self.first)
     }
 

@@ -35,6 +35,8 @@ pub enum Number {
     NotANumber,
 }
 
+const _: () = prove!(std::mem::size_of::<Number>() <= 28);
+
 /// Why a token is not read.
 #[derive(Clone, Copy, Debug, PartialEq, Eq)]
 pub enum NumberFault {

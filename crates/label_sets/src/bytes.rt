@@ -1,3 +1,4 @@
+//! Bytes of any value.
 ghost use Rattle.std.specs.Prelude.{◌≡◌, ◌==◌, IfOk, length};
 
 use std::alloc::{AllocError, Global};

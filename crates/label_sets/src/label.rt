@@ -1,3 +1,4 @@
+//! A label of a series.
 ghost use Rattle.std.specs.Prelude.{◌≡◌, IfOk};
 
 use crate::text::{Name, Text};

@@ -1,3 +1,4 @@
+//! Sets of labels: what tells the series of one name apart.
 ghost use Rattle.std.specs.Prelude.{◌≡◌, ◌==◌, ◌≤◌, ◌<◌, None, [], length, IfOk, IfErr, OnOk};
 ghost use Rattle.std.specs.Option.{option_copied};
 
@@ -93,8 +94,9 @@ impl LabelSet {
         requires { IsLabelSet labels.items }
         ensures { IfOk result (λ set. set ≡ labels.items) }
     {
-        let labels = Shared::of(labels)?;
-        Ok(LabelSet { labels })
+        Ok(LabelSet {
+            labels: Shared::of(labels)?,
+        })
     }
 
     /// The labels in byte order of their names.

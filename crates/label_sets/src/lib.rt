@@ -11,6 +11,7 @@ mod renaming;
 mod series_key;
 pub mod set_laws;
 mod shared;
+mod short_text;
 mod sorting;
 #[cfg(test)]
 mod tests;

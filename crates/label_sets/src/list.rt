@@ -1,3 +1,4 @@
+//! Lists that contracts see as plain lists.
 ghost use Rattle.std.specs.Prelude.{◌≡◌, [], length, ◌==◌, IfOk};
 
 use crate::shared::Shared;

@@ -1,3 +1,4 @@
+//! New names for the labels that a target's own labels stand beside.
 ghost use Rattle.std.specs.Prelude.{◌≡◌, length, IfOk, MatchOption, set};
 ghost use Rattle.std.specs.List.{IsDistinct};
 ghost use Rattle.label_sets.specs.Lists.{when_true};

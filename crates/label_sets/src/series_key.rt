@@ -1,3 +1,4 @@
+//! What a series is known by.
 ghost use Rattle.std.specs.Prelude.{◌≡◌, IfOk};
 
 use crate::kind::Kind;

@@ -1,3 +1,4 @@
+//! Labels in byte order of their names.
 ghost use Rattle.std.specs.Prelude.{◌≡◌, [], IfOk};
 ghost use Rattle.std.specs.List.Sorted.{IsStrictlySortedBy};
 ghost use Rattle.label_sets.specs.Sets.{by_name};

@@ -182,7 +182,12 @@ fn stays(alloc: Global, text: &str) -> Result<bool, AllocError> {
 #[test]
 fn texts_of_any_length(rt: HostRuntime) -> Result<(), AllocError> {
     let alloc = rt.alloc();
-    for text in ["", "qé", "just sixteen ...", "just seventeen .."] {
+    for text in [
+        "",
+        "qé",
+        "just twenty-eight bytes ....",
+        "just twenty-nine bytes ......",
+    ] {
         assert!(rt; stays(alloc, text)?, "{text}");
     }
     Ok(())

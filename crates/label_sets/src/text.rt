@@ -8,18 +8,18 @@ ghost use Rattle.std.specs.Cmp.Rules.{hashing};
 ghost use Rattle.std.specs.Hash as fed;
 ghost use Rattle.std.proofs.Common.{rules};
 
-use arrayvec::ArrayString;
+use crate::short_text::ShortText;
 use std::alloc::{AllocError, Global};
 use std::cmp::Ordering;
 use std::hash::{Hash, Hasher};
 use std::marker::Model;
 use std::sync::ArcStr;
 
-/// Where the bytes of a text lie: up to 16 in the value itself, more in memory that may have several
+/// Where the bytes of a text lie: up to 28 in the value itself, more in memory that may have several
 /// owners.
 #[derive(Drop)]
 enum Stored {
-    Inline(ArrayString<16>),
+    Short(ShortText),
     Shared(ArcStr),
 }
 
@@ -46,7 +46,7 @@ impl Text {
         ensures { result ≡ [] }
     {
         Text {
-            stored: Stored::Inline(ArrayString::new()),
+            stored: Stored::Short(ShortText::empty()),
         }
     }
 
@@ -54,9 +54,9 @@ impl Text {
     pub fn from_string(text: String) -> Result<Text, AllocError>
         ensures { IfOk result (λ t. t ≡ string_bytes text) }
     {
-        let stored = match ArrayString::from(text.as_str()) {
-            Ok(short) => Stored::Inline(short),
-            Err(_) => Stored::Shared(ArcStr::from_string(text)?),
+        let stored = match ShortText::of(text.as_str()) {
+            Some(short) => Stored::Short(short),
+            None => Stored::Shared(ArcStr::from_string(text)?),
         };
         Ok(Text { stored })
     }
@@ -65,9 +65,9 @@ impl Text {
     pub fn from_str(alloc: Global, text: &str) -> Result<Text, AllocError>
         ensures { IfOk result (λ t. t ≡ text.now) }
     {
-        let stored = match ArrayString::from(text) {
-            Ok(short) => Stored::Inline(short),
-            Err(_) => Stored::Shared(ArcStr::from_str(alloc, text)?),
+        let stored = match ShortText::of(text) {
+            Some(short) => Stored::Short(short),
+            None => Stored::Shared(ArcStr::from_str(alloc, text)?),
         };
         Ok(Text { stored })
     }
@@ -107,7 +107,7 @@ impl Text {
         ensures { result.now ≡ self.now }
     {
         match &self.stored {
-            Stored::Inline(text) => text.as_str(),
+            Stored::Short(text) => text.as_str(),
             Stored::Shared(text) => text.as_str(),
         }
     }
@@ -131,7 +131,7 @@ impl Text {
         ensures { IfOk result (λ t. t ≡ self.now) }
     {
         let stored = match &self.stored {
-            Stored::Inline(text) => Stored::Inline(*text),
+            Stored::Short(text) => Stored::Short(text.copy()),
             Stored::Shared(text) => Stored::Shared(text.clone()?),
         };
         Ok(Text { stored })
