@@ -2,8 +2,8 @@
 
 use crate::{
     AfterLabel, Blank, Cut, Escapes, LabelChar, LabelParts, MetricChar, after_label, behind,
-    behind_text, cut_chars, cut_name, has_backslash, is_word, label_of, own_labels, quoted_at, set_of,
-    unescaped_text,
+    behind_text, cut_chars, cut_name, has_backslash, is_word, label_of, own_labels, quoted_at,
+    set_of, unescaped_text,
 };
 use label_sets::Memory;
 use page_model::Treatment;
