@@ -4,3 +4,4 @@ pub use Rattle.exact_decimal.proofs.Answered.{not_a_number}
 pub use Rattle.exact_decimal.proofs.TokenChars.{all_mono, from_digit, from_sign, real_passes, token_passes}
 pub use Rattle.exact_decimal.proofs.OrderLaws.{decimal_cmp_total}
 pub use Rattle.exact_decimal.proofs.NumberOrder.{same_normal, whole_less, whole_same}
+pub use Rattle.exact_decimal.proofs.SameDecimals.{decimals_decide}

@@ -20,7 +20,7 @@ impl<T> Model for List<T> {
     ghost view = { λ l. l.items };
 }
 
-impl<T: Drop> List<T> {
+impl<T> List<T> {
     /// A list without values. It takes no memory.
     pub fn new(_alloc: Global) -> List<T>
         ensures { result ≡ [] }
@@ -28,14 +28,6 @@ impl<T: Drop> List<T> {
         List {
             items: Shared::none(),
         }
-    }
-
-    /// The values of a vector, without a copy.
-    pub fn from_vec(items: Vec<T>) -> Result<List<T>, AllocError>
-        ensures { IfOk result (λ l. l ≡ items.items) }
-    {
-        let items = Shared::of(items)?;
-        Ok(List { items })
     }
 
     /// The values as a slice.
@@ -57,6 +49,16 @@ impl<T: Drop> List<T> {
         ensures { result ≡ (length self.now == 0) }
     {
         self.items.as_slice().is_empty()
+    }
+}
+
+impl<T: Drop> List<T> {
+    /// The values of a vector, without a copy.
+    pub fn from_vec(items: Vec<T>) -> Result<List<T>, AllocError>
+        ensures { IfOk result (λ l. l ≡ items.items) }
+    {
+        let items = Shared::of(items)?;
+        Ok(List { items })
     }
 
     /// The same values, with one owner more.

@@ -7,7 +7,7 @@ use Rattle.std.proofs.lemmas.Bool.{and_parts}
 use Rattle.std.specs.Str.{bytes_eq}
 use Rattle.exact_decimal.specs.Tokens.{is_digits, unsigned}
 use Rattle.page_model.specs.TextItems.{is_integer_token}
-use Rattle.exact_decimal.proofs.Runs.{value_more}
+use Rattle.exact_decimal.proofs.Laws.{value_more}
 
 -- some digits are digits
 pub digits_are : (bs : List ℕ) → 0 < length bs → is_digits bs ≡ list_all is_ascii_digit bs

@@ -12,7 +12,7 @@ use Rattle.exact_decimal.specs.declared.number.Number.{Number}
 use Rattle.exact_decimal.specs.declared.number.NumberFault.TheVariants as faults
 use Rattle.exact_decimal.specs.Tokens.{is_number_token}
 use Rattle.exact_decimal.specs.Numbers.{number_read, number}
-use Rattle.exact_decimal.proofs.Answered.{not_a_number}
+use Rattle.exact_decimal.proofs.Laws.{not_a_number}
 use Rattle.page_model.specs.declared.format.Format.TheVariants.{Text}
 use Rattle.page_model.specs.declared.format.Treatment.{Treatment}
 use Rattle.page_model.specs.declared.rule.Rule.TheVariants as rules

@@ -17,7 +17,7 @@ use crate::scan::{
 };
 use crate::stamp::{optional_number, stamp_of};
 use exact_decimal::{Number, NumberFault};
-use label_sets::{Kind, Label, LabelFault, LabelSet, List, Memory, Name};
+use label_sets::{Kind, Label, LabelFault, LabelSet, Memory, Name};
 use page_model::{Item, Rule, Sample, Treatment};
 use std::alloc::{AllocError, Global};
 
@@ -144,12 +144,12 @@ fn made_sample(
     alloc: Global,
     treatment: Treatment,
     name: &[u8],
-    labels: List<Label>,
+    labels: Vec<Label>,
     value: Number,
     stamp: Option<Number>,
 ) -> Result<LineRead, Memory>
     requires { IsUtf8 name.now }
-    ensures { IfOk result (Makes treatment name.now labels value stamp) }
+    ensures { IfOk result (Makes treatment name.now labels.items value stamp) }
 {
     let labels = match LabelSet::build(alloc, labels, label_limit(treatment)) {
         Ok(labels) => labels,
@@ -174,13 +174,13 @@ fn read_sample(
     alloc: Global,
     treatment: Treatment,
     name: &[u8],
-    labels: List<Label>,
+    labels: Vec<Label>,
     value: &[u8],
     stamp: Option<&[u8]>,
 ) -> Result<LineRead, Memory>
     requires name { IsUtf8 name.now }
     requires stamp { IfSome stamp (λ token. is_integer_token token.now ≡ true) }
-    ensures { IfOk result (Reads treatment (when_true (is_number_token value.now) (written_sample name.now labels value.now (option_copied stamp.entry)))) }
+    ensures { IfOk result (Reads treatment (when_true (is_number_token value.now) (written_sample name.now labels.items value.now (option_copied stamp.entry)))) }
 {
     let value = match exact_decimal::read(value) {
         Ok(value) => value,
@@ -193,13 +193,14 @@ fn read_sample(
     made_sample(alloc, treatment, name, labels, value, stamp)
 }
 
-/// The labels that were read, in a list that takes no more room than they need.
-fn list_of(alloc: Global, labels: &mut Vec<Label>) -> Result<List<Label>, Memory>
-    ensures { IfOk result (λ list. list ≡ labels.old.items) }
+/// The labels that were read, in no more room than they need. The room that they were read into is
+/// for the next line.
+fn own_labels(alloc: Global, labels: &mut Vec<Label>) -> Result<Vec<Label>, Memory>
+    ensures { IfOk result (λ items. items.items ≡ labels.old.items) }
 {
     let mut items = Vec::with_capacity(alloc, labels.len())?;
     items.append(labels)?;
-    Ok(List::from_vec(items))
+    Ok(items)
 }
 
 /// A sample line.
@@ -224,7 +225,7 @@ fn sample_line(
     let Some(stamp) = stamp_of(value.rest) else {
         return Ok(LineRead::Refused(Rule::Syntax));
     };
-    let labels = list_of(alloc, labels)?;
+    let labels = own_labels(alloc, labels)?;
     read_sample(alloc, treatment, name.front, labels, value.front, stamp)
 }
 

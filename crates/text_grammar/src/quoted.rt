@@ -158,5 +158,5 @@ pub(crate) fn unescaped_text(
     let bytes = unescaped(alloc, escapes, written)?;
     // What UTF-8 stands for is UTF-8: escapes are of ASCII and stand for ASCII.
     let text = unsafe { String::from_utf8_unchecked(bytes) };
-    Ok(Text::from_string(text))
+    Text::from_string(text)
 }

@@ -11,21 +11,21 @@ use Rattle.text_grammar.proofs.LineSteps.{sample-no_number, sample-value_range, 
 use Rattle.text_grammar.proofs.line.read_sample.Goals as goal
 
 pub returns-in-Err-NotANumber : goal.returns-in-Err-NotANumber
-returns-in-Err-NotANumber c = sample-no_number c.args.treatment c.args.name.now c.args.labels c.args.value.now (option_copied c.args.stamp) (sym (rw c.in-Err-NotANumber.field-0-is at c.in-Err-NotANumber.ensures))
+returns-in-Err-NotANumber c = sample-no_number c.args.treatment c.args.name.now c.args.labels.items c.args.value.now (option_copied c.args.stamp) (sym (rw c.in-Err-NotANumber.field-0-is at c.in-Err-NotANumber.ensures))
 
 pub returns-in-Err-OutOfRange : goal.returns-in-Err-OutOfRange
-returns-in-Err-OutOfRange c = sample-value_range c.args.treatment c.args.name.now c.args.labels c.args.value.now (option_copied c.args.stamp) (sym (rw c.in-Err-OutOfRange.field-0-is at c.in-Err-OutOfRange.ensures))
+returns-in-Err-OutOfRange c = sample-value_range c.args.treatment c.args.name.now c.args.labels.items c.args.value.now (option_copied c.args.stamp) (sym (rw c.in-Err-OutOfRange.field-0-is at c.in-Err-OutOfRange.ensures))
 
 pub returns-in_default : goal.returns-in_default
-returns-in_default c = sample-stamp_range c.args.treatment c.args.name.now c.args.labels c.args.value.now (option_copied c.args.stamp) c.in-Ok.value (sym c.in-Ok.ensures)
+returns-in_default c = sample-stamp_range c.args.treatment c.args.name.now c.args.labels.items c.args.value.now (option_copied c.args.stamp) c.in-Ok.value (sym c.in-Ok.ensures)
     (unread (some_passes is_out_of_i64 (option_copied c.args.stamp)) (option_map (λ t. number (short_token t)) (option_copied c.args.stamp)) c.in_default.ensures)
 
 pub returns : goal.returns
 returns c =
     let tokens = option_copied c.args.stamp in
     let on = reads_on (some_passes is_out_of_i64 tokens) (option_map (λ t. number (short_token t)) tokens) c.in-Some.stamp c.in-Some.ensures in
-    if_ok (Makes c.args.treatment c.args.name.now c.args.labels c.in-Ok.value c.in-Some.stamp)
-    (Reads c.args.treatment (when_true (is_number_token c.args.value.now) (written_sample c.args.name.now c.args.labels c.args.value.now tokens)))
+    if_ok (Makes c.args.treatment c.args.name.now c.args.labels.items c.in-Ok.value c.in-Some.stamp)
+    (Reads c.args.treatment (when_true (is_number_token c.args.value.now) (written_sample c.args.name.now c.args.labels.items c.args.value.now tokens)))
     c.made_sample.result
-    (λ read m. sample-made c.args.treatment c.args.name.now c.args.labels c.args.value.now (option_copied c.args.stamp) c.in-Ok.value read (sym c.in-Ok.ensures) on.0 (subst (λ (s : Option Number). Makes c.args.treatment c.args.name.now c.args.labels c.in-Ok.value s read) on.1 m))
+    (λ read m. sample-made c.args.treatment c.args.name.now c.args.labels.items c.args.value.now (option_copied c.args.stamp) c.in-Ok.value read (sym c.in-Ok.ensures) on.0 (subst (λ (s : Option Number). Makes c.args.treatment c.args.name.now c.args.labels.items c.in-Ok.value s read) on.1 m))
     c.made_sample.ensures
