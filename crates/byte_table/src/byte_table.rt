@@ -17,14 +17,16 @@ use std::marker::Model;
 /// The most strings that a new one passes before the table goes over to ordered maps.
 const MOST_STEPS: usize = 16;
 
-/// Byte strings in the order in which they were added, each once. It has room for 4 GiB of bytes and as many
-/// strings; what is beyond is want of memory.
+/// Byte strings in the order in which they were added, each once. There is room for 4,294,967,295 bytes and as
+/// many strings; beyond that the answer is want of memory.
 #[derive(Drop)]
 pub struct ByteTable {
     strings: Strings,
     chains: Chains,
     ordered: Option<Box<Ordered>>,
 }
+
+const _: () = prove!(std::mem::size_of::<ByteTable>() <= 112);
 
 impl Model for ByteTable {
     ghost use Rattle.std.specs.Prelude as spec;

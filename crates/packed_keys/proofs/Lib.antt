@@ -1,4 +1,5 @@
 mod Cases
+pub mod Laws
 pub mod Packed
 pub mod Steps
 pub mod Put

@@ -1,5 +1,5 @@
 -- Packed keys are read back, so that no two have the same bytes.
-use Rattle.std.proofs.Common.{◌≡◌, ℕ, zero, suc, ◌+◌, ◌-◌, ◌*◌, ◌/◌, ◌%◌, ◌<◌, ◌≤◌, Bool, true, false, ◌||◌, List, [], ◌∷◌, ◌++◌, length, take, drop, map, replicate, refl, sym, ap, ◌∙◌, arith, append_assoc, ◌==◌}
+use Rattle.std.proofs.Common.{◌≡◌, ℕ, zero, suc, ◌+◌, ◌-◌, ◌*◌, ◌/◌, ◌%◌, ◌<◌, ◌≤◌, Bool, false, ◌||◌, List, [], ◌∷◌, ◌++◌, length, take, drop, map, replicate, refl, sym, ap, ◌∙◌, arith, append_assoc, ◌==◌}
 use Rattle.std.specs.Bool.{Decides}
 use Rattle.std.specs.List.{flat_map, list_any, AllByRecursion}
 use Rattle.std.specs.Str.{bytes_eq}
@@ -101,7 +101,7 @@ key_back key = rw (part_back key.name (labels_bytes key.labels)) (rw (set_back k
 
 -- ---- equality
 
-key_decides : (a b : SampleKey) → Decides (key_eq a b) (a ≡ b)
+pub key_decides : (a b : SampleKey) → Decides (key_eq a b) (a ≡ b)
 key_decides a b =
     let both = Decides-and (bytes_eq a.name b.name) (label_sets_eq a.labels b.labels) (bytes_decides a.name b.name) (sets_decide a.labels b.labels) in
     (λ e i. record { name = (both.0 e).0 i; labels = (both.0 e).1 i }, λ e. both.1 (ap (λ (k : SampleKey). k.name) e, ap (λ (k : SampleKey). k.labels) e))

@@ -1,14 +1,13 @@
 -- Labels that were put behind others, one by one.
-use Rattle.std.proofs.Common.{◌≡◌, ℕ, ◌+◌, ◌<◌, Bool, true, false, not, List, [], ◌∷◌, ◌++◌, length, take, get_or, filter, cond, refl, sym, ap, subst, ◌∙◌, append_assoc, arith}
+use Rattle.std.proofs.Common.{◌≡◌, ℕ, Bool, true, false, not, List, [], ◌∷◌, ◌++◌, length, cond, refl, sym, ap, ◌∙◌, append_assoc, arith}
 use Rattle.std.specs.Prelude.{Result, Ok, Err, OnOk, IsUtf8}
 use Rattle.std.specs.List.{flat_map, All}
 use Rattle.std.specs.Str.{bytes_eq}
 use Rattle.std.proofs.lemmas.List.{append-nil}
-use Rattle.std.proofs.lemmas.List.Elements.{All-push, All-filter, filter-append}
+use Rattle.std.proofs.lemmas.List.Elements.{All-push, filter-append}
 use Rattle.std.proofs.lemmas.Grind.{flat_map-append}
 use Rattle.label_sets.specs.declared.label.Label.{Label}
 use Rattle.label_sets.specs.Labels.{without_label}
-use Rattle.label_sets.specs.Sets.{IsLabelSet}
 use Rattle.packed_keys.specs.declared.sample_key.SampleKey.{SampleKey}
 use Rattle.packed_keys.specs.Packing.{length_code, label_bytes, labels_bytes}
 use Rattle.packed_keys.specs.Texts.{IsTextLabel, IsTextSet, IsTextKey}

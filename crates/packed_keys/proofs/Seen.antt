@@ -1,5 +1,5 @@
 -- Packed keys and sets put into a table.
-use Rattle.std.proofs.Common.{◌≡◌, ℕ, suc, ◌+◌, ◌<◌, Bool, true, false, not, ◌||◌, List, [], ◌∷◌, ◌++◌, length, map, drop, get_or, cond, refl, sym, ap, ◌∙◌, subst, arith, add-one, drop-cons, Bor}
+use Rattle.std.proofs.Common.{◌≡◌, ℕ, suc, ◌+◌, ◌<◌, Bool, true, false, not, ◌||◌, List, [], ◌∷◌, ◌++◌, length, map, drop, get_or, refl, sym, ap, ◌∙◌, subst, arith, add-one, drop-cons, Bor}
 use Rattle.std.specs.Prelude.{IsUtf8, Result, Ok, Err, IfOk, OnErr, MatchOption, Option, Some, None, slice_get, is_none, unwrap_or, option_map, if◌then◌else◌}
 use Rattle.std.specs.List.{list_any, All, AllByRecursion}
 use Rattle.std.specs.Option.{option_eq, option_copied}
@@ -12,7 +12,7 @@ use Rattle.label_sets.specs.declared.label.Label.{Label}
 use Rattle.label_sets.specs.Labels.{label_sets_eq}
 use Rattle.byte_table.proofs.Laws.{among, place_new}
 use Rattle.packed_keys.specs.declared.sample_key.SampleKey.{SampleKey}
-use Rattle.packed_keys.specs.Packing.{part_bytes, labels_bytes, labels_in, key_bytes, key_at, key_eq, part_at}
+use Rattle.packed_keys.specs.Packing.{labels_bytes, labels_in, key_bytes, key_at, key_eq, part_at}
 use Rattle.packed_keys.specs.Texts.{IsTextSet, IsTextKey, IsPackedSet, IsPackedKey}
 use Rattle.packed_keys.proofs.Packed.{part_back, key_back, set_back, same_key, same_set}
 

@@ -1,4 +1,4 @@
-ghost use Rattle.std.specs.Prelude.{◌≡◌, ◌++◌, drop, map, IfOk, IsUtf8};
+ghost use Rattle.std.specs.Prelude.{◌≡◌, ◌++◌, [], drop, map, IfNone, IfOk, OnErr, IsUtf8};
 ghost use Rattle.std.specs.List.{All};
 ghost use Rattle.std.specs.Option.{option_to_list};
 ghost use Rattle.packed_keys.specs.Packing.{key_at};
@@ -60,7 +60,9 @@ impl Keys {
 
     /// The next key, where there is one. A name is shared with the key before where it is the same.
     pub fn next(&mut self, alloc: Global) -> Result<Option<SampleKey>, Memory>
-        ensures { IfOk result (λ next. self.old ≡ option_to_list next ++ self.new) }
+        ensures steps { IfOk result (λ next. self.old ≡ option_to_list next ++ self.new) }
+        ensures end { IfOk result (λ next. IfNone next (self.old ≡ [])) }
+        ensures err { OnErr result (self.new ≡ self.old) }
     {
         if self.at >= self.table.len() {
             return Ok(None);

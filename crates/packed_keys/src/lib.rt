@@ -8,6 +8,8 @@ mod sample_key;
 mod seen_keys;
 mod seen_names;
 mod seen_sets;
+#[cfg(test)]
+mod tests;
 mod unpacking;
 
 pub use keys::Keys;

@@ -1,4 +1,4 @@
-use Rattle.std.proofs.Common.{take, sym, ap, subst, ◌∙◌, arith, List, [], ◌∷◌, ◌++◌, ◌≡◌, ◌+◌}
+use Rattle.std.proofs.Common.{take, sym, ap, subst, ◌∙◌, arith, [], ◌∷◌, ◌++◌, ◌≡◌, ◌+◌}
 use Rattle.std.proofs.lemmas.List.{take_more, take_all}
 use Rattle.label_sets.specs.declared.label.Label.{Label}
 use Rattle.packed_keys.proofs.Put.{AreAdded, none_added, one_added, set_added}

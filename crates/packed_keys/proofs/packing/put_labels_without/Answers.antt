@@ -1,4 +1,4 @@
-use Rattle.std.proofs.Common.{take, sym, ap, subst, ◌∙◌, arith, not, true, false, Bool, List, ℕ, [], ◌∷◌, ◌++◌, ◌≡◌, ◌+◌, length}
+use Rattle.std.proofs.Common.{take, sym, ap, subst, ◌∙◌, arith, not, true, false, List, ℕ, [], ◌∷◌, ◌++◌, ◌≡◌, ◌+◌, length}
 use Rattle.std.specs.Str.{bytes_eq}
 use Rattle.std.proofs.lemmas.List.{take_more, take_all}
 use Rattle.label_sets.specs.declared.label.Label.{Label}

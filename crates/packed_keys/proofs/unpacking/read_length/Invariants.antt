@@ -1,4 +1,4 @@
-use Rattle.std.proofs.Common.{◌≡◌, ◌+◌, ◌-◌, ◌^◌, min, length}
+use Rattle.std.proofs.Common.{length}
 use Rattle.packed_keys.proofs.Read.{IsReading}
 use Rattle.packed_keys.proofs.unpacking.read_length.Given as goal
 

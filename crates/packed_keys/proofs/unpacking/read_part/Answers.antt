@@ -1,5 +1,4 @@
-use Rattle.std.proofs.Common.{◌≡◌, ◌≤◌, ◌-◌, ◌^◌, length, rules}
-use Rattle.packed_keys.specs.Packing.{part_at}
+use Rattle.std.proofs.Common.{◌≤◌, ◌-◌, ◌^◌, length, rules}
 use Rattle.packed_keys.proofs.Read.{part_is}
 use Rattle.packed_keys.proofs.unpacking.read_part.Goals as goal
 

@@ -1,4 +1,4 @@
-use Rattle.std.proofs.Common.{◌≡◌, ◌≤◌, ◌<◌, ◌-◌, ◌^◌, sym, ap, subst, ◌∙◌, length, ◌++◌, ◌∷◌, [], List, ℕ, IsUtf8, rules}
+use Rattle.std.proofs.Common.{◌≤◌, ◌<◌, ◌-◌, ◌^◌, sym, ap, subst, ◌∙◌, length, ◌++◌, ◌∷◌, [], List, ℕ, IsUtf8, rules}
 use Rattle.label_sets.specs.declared.label.Label.{Label}
 use Rattle.label_sets.specs.Sets.{IsLabelSet}
 use Rattle.packed_keys.specs.Packing.{label_at, part_at}

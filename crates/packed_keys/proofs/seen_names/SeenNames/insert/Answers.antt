@@ -1,4 +1,4 @@
-use Rattle.std.proofs.Common.{sym, subst, ◌∙◌, ◌≡◌, IsUtf8}
+use Rattle.std.proofs.Common.{IsUtf8}
 use Rattle.packed_keys.proofs.Seen.{still_any}
 use Rattle.packed_keys.proofs.seen_names.SeenNames.insert.Goals as goal
 

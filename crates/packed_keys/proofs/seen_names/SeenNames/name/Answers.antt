@@ -1,4 +1,4 @@
-use Rattle.std.proofs.Common.{sym, ap, subst, ◌∙◌, ◌≡◌, ◌<◌, length, get_or, [], IsUtf8, List, ℕ}
+use Rattle.std.proofs.Common.{sym, ap, subst, ◌∙◌, ◌<◌, length, get_or, [], IsUtf8, List, ℕ}
 use Rattle.packed_keys.proofs.Seen.{name_at}
 use Rattle.packed_keys.proofs.seen_names.SeenNames.name.Goals as goal
 

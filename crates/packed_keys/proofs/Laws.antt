@@ -1,0 +1,2 @@
+-- What other crates may use of this crate's proofs.
+pub use Rattle.packed_keys.proofs.Packed.{key_decides, key_back, set_back, part_back, same_key, same_set}
