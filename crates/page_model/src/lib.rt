@@ -2,14 +2,16 @@
 //! breaks, and which families and readings a page without a fault has. It reads and checks nothing.
 #![tactic(auto)]
 
+mod counts;
 mod event;
 mod fault;
 mod format;
 mod item;
-pub mod laws;
+pub mod page_laws;
 mod page;
 mod rule;
 
+pub use counts::PageCounts;
 pub use event::{Cause, Event, Outcome, Shown};
 pub use fault::PageFault;
 pub use format::{Format, Treatment};

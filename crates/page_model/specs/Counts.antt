@@ -1,0 +1,8 @@
+-- How much a page has (the bridge's own).
+use Rattle.std.specs.Prelude.{length}
+use Rattle.page_model.specs.declared.counts.PageCounts.{PageCounts}
+use Rattle.page_model.specs.declared.page.Page.{Page}
+
+-- how many families and sample lines the page has
+abbrev pub counts_of : Page → PageCounts
+counts_of page = record { families = length page.families; samples = page.samples }
