@@ -3,7 +3,7 @@ use Rattle.std.proofs.Common.{◌≡◌, ◌≢◌, ℕ, List, refl, sym, ap, su
 use Rattle.page_model.specs.declared.page.Page.{Page}
 use Rattle.page_model.specs.declared.rule.Rule.{Rule}
 use Rattle.page_model.specs.Written.{Setting}
-use Rattle.page_model.proofs.Decides.{first_fault_once, page_of_once, fault_or_page}
+use Rattle.page_model.proofs.Laws.{first_fault_once, page_of_once, fault_or_page}
 use Rattle.bridge_cli.specs.declared.status.Status.TheVariants.{NoForm}
 use Rattle.bridge_cli.specs.Statuses.{code_of}
 use Rattle.bridge_cli.specs.Stops.{refused_text}

@@ -31,7 +31,7 @@ use Rattle.packed_keys.specs.declared.sample_key.SampleKey.{SampleKey}
 use Rattle.sample_groups.specs.Groups.{groups_from, reading_from}
 use Rattle.sample_groups.specs.Parts.{is_grouped, entry_of}
 use Rattle.sample_groups.specs.Sound.{AreSound}
-use Rattle.sample_groups.proofs.Made.{readings_made}
+use Rattle.sample_groups.proofs.Laws.{readings_made}
 use Rattle.family_rules.specs.Checking.{has_sort, has_samples, groups_in, so_far, left_before, key_of, keys_of, Checking, Stands, left_families, current_family}
 use Rattle.family_rules.specs.Steps.{left_stop, page_at, with_left, reading_at, readings_at, readings_in, family_at, families_at}
 use Rattle.family_rules.proofs.Lists.{bytes_same, reverse-cons, first_of_each-snoc, first_some-append, list_any-map, list_any-reverse, pairs, lookup-map, insert_entry-last}

@@ -11,7 +11,7 @@ use Rattle.page_model.specs.Owners.{Owned, is_of, kind_of, owner_of, with_owner,
 use Rattle.page_model.specs.Rules.{is_incomplete, leaves_incomplete}
 use Rattle.page_model.specs.Faults.{owned_breaks, item_breaks, item_rules, item_fault, end_breaks, end_rules, end_fault}
 use Rattle.page_model.specs.Pages.{AreFaultless}
-use Rattle.page_model.proofs.Least.{none_found}
+use Rattle.page_model.proofs.Laws.{none_found}
 use Rattle.family_rules.proofs.Lists.{bytes_swap}
 
 not_true : (b : Bool) → (b ≡ true → ⊥) → b ≡ false

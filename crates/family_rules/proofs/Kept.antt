@@ -21,7 +21,7 @@ use Rattle.page_model.specs.Rules.{is_late_descriptor, is_split, sample_group}
 use Rattle.page_model.specs.Readings.{families_of}
 use Rattle.sample_groups.specs.Groups.{Gathered, groups_from, with_part}
 use Rattle.sample_groups.specs.Parts.{is_grouped, entry_of, part_of}
-use Rattle.sample_groups.proofs.Steps.{one_part_more}
+use Rattle.sample_groups.proofs.Laws.{one_part_more}
 use Rattle.family_rules.specs.declared.family.FamilySoFar.{FamilySoFar}
 use Rattle.family_rules.specs.Checking.{groups_in, so_far, no_lines, left_before, has_samples, has_sort}
 use Rattle.family_rules.proofs.Lists.{or_false, bytes_same, bytes_swap, reverse-cons, first_of_each-snoc, list_any-map, list_any-reverse}

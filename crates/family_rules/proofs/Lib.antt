@@ -9,3 +9,4 @@ pub mod Loops
 pub mod Built
 pub mod Complete
 pub mod Values
+pub mod Laws

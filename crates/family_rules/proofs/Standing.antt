@@ -29,8 +29,7 @@ use Rattle.sample_groups.specs.declared.part.Part.{Part}
 use Rattle.sample_groups.specs.Groups.{Gathered, groups_from, shared_labels, with_part, is_whole_group}
 use Rattle.sample_groups.specs.Parts.{is_grouped, entry_of, part_of}
 use Rattle.sample_groups.specs.Sound.{AreSound}
-use Rattle.sample_groups.proofs.Steps.{shared_group}
-use Rattle.sample_groups.proofs.Whole.{whole_kept}
+use Rattle.sample_groups.proofs.Laws.{shared_group, whole_kept}
 use Rattle.family_rules.specs.declared.family.Current.{Current}
 use Rattle.family_rules.specs.declared.family.Descriptor.{Descriptor}
 use Rattle.family_rules.specs.declared.family.Descriptor.TheVariants as sorts

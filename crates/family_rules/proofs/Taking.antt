@@ -27,8 +27,7 @@ use Rattle.page_model.specs.Faults.{item_fault}
 use Rattle.sample_groups.specs.declared.part.Part.{Part}
 use Rattle.sample_groups.specs.Groups.{groups_from, known_group, or_empty, breaks_order, shared_labels}
 use Rattle.sample_groups.specs.Parts.{is_grouped, entry_of, part_of}
-use Rattle.sample_groups.proofs.Steps.{shared_group}
-use Rattle.sample_groups.proofs.Orders.{order_kept}
+use Rattle.sample_groups.proofs.Laws.{shared_group, order_kept}
 use Rattle.family_rules.specs.declared.family.Descriptor.{Descriptor}
 use Rattle.family_rules.specs.declared.family.Descriptor.TheVariants as sorts
 use Rattle.packed_keys.specs.declared.sample_key.SampleKey.{SampleKey}

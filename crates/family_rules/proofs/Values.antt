@@ -22,13 +22,11 @@ use Rattle.page_model.specs.Rules.{is_histogram, is_complete_at, is_incomplete}
 use Rattle.page_model.specs.Faults.{end_fault}
 use Rattle.page_model.specs.Pages.{AreFaultless}
 use Rattle.page_model.specs.Readings.{value_with, counter_suffix, is_measured, value_of, key_name, reading_labels, stamp_of, exemplars_of, reading_of, readings_of, quantiles_of, sum_of, unit_in, family_of}
-use Rattle.page_model.proofs.KindLaws.{kind_of_page}
+use Rattle.page_model.proofs.Laws.{kind_of_page}
 use Rattle.sample_groups.specs.Groups.{Gathered, groups_from, is_whole_group, reading_from}
 use Rattle.sample_groups.specs.Parts.{is_grouped, entry_of}
 use Rattle.sample_groups.specs.Sound.{AreSound}
-use Rattle.sample_groups.proofs.Whole.{whole_kept}
-use Rattle.sample_groups.proofs.Made.{readings_made}
-use Rattle.sample_groups.proofs.Cumulative.{RiseToUp, whole_rise}
+use Rattle.sample_groups.proofs.Laws.{whole_kept, readings_made, RiseToUp, whole_rise}
 use Rattle.family_rules.specs.Checking.{AreTextItems}
 use Rattle.family_rules.proofs.Faults.{fit_lines, sound_samples}
 use Rattle.family_rules.proofs.Kept.{reversed_samples}

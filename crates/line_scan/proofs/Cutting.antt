@@ -5,7 +5,7 @@ use Rattle.std.specs.List.{list_all, starts_with}
 use Rattle.std.specs.Cmp.Lexicographic.{bytes_decides}
 use Rattle.std.proofs.lemmas.List.{take-append-drop}
 use Rattle.label_sets.specs.Lists.{rest_while}
-use Rattle.page_model.proofs.Fronts.{while_passes}
+use Rattle.page_model.proofs.Laws.{while_passes}
 use Rattle.line_scan.specs.declared.scan.Cut.{Cut}
 use Rattle.line_scan.specs.Cuts.{IsNamed}
 use Rattle.line_scan.proofs.Utf8.{PassesAscii, utf8_front, utf8_rest, utf8_behind}

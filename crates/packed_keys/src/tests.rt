@@ -36,20 +36,31 @@ fn is_next(alloc: Global, keys: &mut Keys, name: &str, labels: &str) -> Result<b
     }
 }
 
+/// Puts in four keys, and answers which are new.
+fn four_put_in(alloc: Global, seen: &mut SeenKeys) -> Result<[bool; 4], Memory> {
+    let first = is_new(alloc, seen, "requests", "code=200 job=a")?;
+    let second = is_new(alloc, seen, "requests", "code=20 job=0a")?;
+    let again = is_new(alloc, seen, "requests", "job=a code=200")?;
+    let last = is_new(alloc, seen, "up", "")?;
+    Ok([first, second, again, last])
+}
+
+/// Reads them back but the second, and answers which are right.
+fn read_back(alloc: Global, keys: &mut Keys) -> Result<[bool; 3], Memory> {
+    let first = is_next(alloc, keys, "requests", "code=200 job=a")?;
+    keys.pass_over(1);
+    let last = is_next(alloc, keys, "up", "")?;
+    let end = keys.next(alloc)?.is_none();
+    Ok([first, last, end])
+}
+
 #[test]
 fn keys_are_seen_once_and_read_back(rt: HostRuntime) -> Result<(), Fail> {
     let alloc = rt.alloc();
     let mut seen = SeenKeys::new(alloc);
-    assert!(rt; is_new(alloc, &mut seen, "requests", "code=200 job=a")?);
-    assert!(rt; is_new(alloc, &mut seen, "requests", "code=20 job=0a")?);
-    assert!(rt; !is_new(alloc, &mut seen, "requests", "job=a code=200")?);
-    assert!(rt; is_new(alloc, &mut seen, "up", "")?);
+    assert_eq!(rt; four_put_in(alloc, &mut seen)?, [true, true, false, true]);
     assert_eq!(rt; seen.len(), 3);
-    let mut keys = seen.into_keys();
-    assert!(rt; is_next(alloc, &mut keys, "requests", "code=200 job=a")?);
-    keys.pass_over(1);
-    assert!(rt; is_next(alloc, &mut keys, "up", "")?);
-    assert!(rt; keys.next(alloc)?.is_none());
+    assert_eq!(rt; read_back(alloc, &mut seen.into_keys())?, [true; 3]);
     Ok(())
 }
 
@@ -62,15 +73,20 @@ fn long(alloc: Global, text: &str, more: &str) -> Result<String, AllocError> {
     Ok(long)
 }
 
+/// Whether one key of such a name and such a value is new, and is read back.
+fn is_kept(alloc: Global, name: &str, labels: &str) -> Result<bool, Memory> {
+    let mut seen = SeenKeys::new(alloc);
+    let new = is_new(alloc, &mut seen, name, labels)?;
+    let back = is_next(alloc, &mut seen.into_keys(), name, labels)?;
+    Ok(new && back)
+}
+
 #[test]
 fn long_parts_are_read_back(rt: HostRuntime) -> Result<(), Fail> {
     let alloc = rt.alloc();
     let name = long(alloc, "", "n")?;
     let labels = long(alloc, "code=2 job=", "é")?;
-    let mut seen = SeenKeys::new(alloc);
-    assert!(rt; is_new(alloc, &mut seen, name.as_str(), labels.as_str())?);
-    let mut keys = seen.into_keys();
-    assert!(rt; is_next(alloc, &mut keys, name.as_str(), labels.as_str())?);
+    assert!(rt; is_kept(alloc, name.as_str(), labels.as_str())?);
     Ok(())
 }
 
@@ -80,33 +96,57 @@ fn place(alloc: Global, seen: &mut SeenSets, labels: &str) -> Result<usize, Memo
     seen.insert_without(&labels, b"le")
 }
 
+/// The places of four sets without their `le`.
+fn four_places(alloc: Global, seen: &mut SeenSets) -> Result<[usize; 4], Memory> {
+    let first = place(alloc, seen, "job=a le=1")?;
+    let same = place(alloc, seen, "job=a le=2")?;
+    let other = place(alloc, seen, "job=b le=1")?;
+    let bare = place(alloc, seen, "job=a")?;
+    Ok([first, same, other, bare])
+}
+
+/// Whether the set at a place is the one that is written so.
+fn is_set(alloc: Global, seen: &SeenSets, at: usize, labels: &str) -> Result<bool, Memory> {
+    if at >= seen.len() {
+        return Ok(false);
+    }
+    Ok(seen.set(alloc, at)? == set(alloc, labels)?)
+}
+
 #[test]
 fn sets_are_seen_without_a_label(rt: HostRuntime) -> Result<(), Fail> {
     let alloc = rt.alloc();
     let mut seen = SeenSets::new(alloc);
-    assert_eq!(rt; place(alloc, &mut seen, "job=a le=1")?, 0);
-    assert_eq!(rt; place(alloc, &mut seen, "job=a le=2")?, 0);
-    assert_eq!(rt; place(alloc, &mut seen, "job=b le=1")?, 1);
-    assert_eq!(rt; place(alloc, &mut seen, "job=a")?, 0);
+    assert_eq!(rt; four_places(alloc, &mut seen)?, [0, 0, 1, 0]);
     assert_eq!(rt; seen.len(), 2);
-    if seen.len() > 1 {
-        assert!(rt; seen.set(alloc, 1)? == set(alloc, "job=b")?);
-    }
+    assert!(rt; is_set(alloc, &seen, 1, "job=b")?);
     Ok(())
+}
+
+/// Puts in two names, the first once more, and answers what each call finds.
+fn two_names(alloc: Global, seen: &mut SeenNames) -> Result<[Option<usize>; 4], Memory> {
+    let first = Name::from_str(alloc, "requests")?;
+    let second = Name::from_str(alloc, "request")?;
+    let new = seen.insert(&first)?;
+    let unknown = seen.find(&second);
+    let other = seen.insert(&second)?;
+    let known = seen.insert(&first)?;
+    Ok([new, unknown, other, known])
+}
+
+/// Whether the name at a place is this one.
+fn is_name(alloc: Global, seen: &SeenNames, at: usize, name: &str) -> Result<bool, Memory> {
+    if at >= seen.len() {
+        return Ok(false);
+    }
+    Ok(seen.name(alloc, at)?.as_str() == name)
 }
 
 #[test]
 fn names_are_seen_once(rt: HostRuntime) -> Result<(), Fail> {
     let alloc = rt.alloc();
     let mut seen = SeenNames::new(alloc);
-    let first = Name::from_str(alloc, "requests")?;
-    let second = Name::from_str(alloc, "request")?;
-    assert_eq!(rt; seen.insert(&first)?, None);
-    assert_eq!(rt; seen.find(&second), None);
-    assert_eq!(rt; seen.insert(&second)?, None);
-    assert_eq!(rt; seen.insert(&first)?, Some(0));
-    if seen.len() > 1 {
-        assert_eq!(rt; seen.name(alloc, 1)?.as_str(), "request");
-    }
+    assert_eq!(rt; two_names(alloc, &mut seen)?, [None, None, None, Some(0)]);
+    assert!(rt; is_name(alloc, &seen, 1, "request")?);
     Ok(())
 }

@@ -3,3 +3,4 @@ pub mod Telling
 pub mod TellingOn
 pub mod Standing
 mod Cases
+pub mod Laws

@@ -4,7 +4,7 @@
 ghost use Rattle.std.specs.Prelude.{◌≡◌, ◌≢◌, ℕ, ◌+◌, ◌-◌, ◌^◌, ◌<◌, ◌≤◌, ◌↔◌, IsTrue, true, Some, IfOk, IfSome, IfNone, IsSomeAnd, List, [], ◌∷◌, ◌++◌, length, map, take, slice_get};
 ghost use Rattle.page_lines.specs.Lines.{Plain};
 
-pub mod laws;
+pub mod line_laws;
 
 use memchr::memchr;
 use std::alloc::{AllocError, Global};

@@ -18,3 +18,4 @@ pub mod Least
 pub mod RightPages
 pub mod Texts
 pub mod KindLaws
+pub mod Laws

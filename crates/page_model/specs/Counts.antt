@@ -1,9 +1,8 @@
--- How much a page has.
--- Prometheus text format 0.0.4, "Text-based format" (lines of samples, metric families).
+-- How much a page has (the bridge's own).
 use Rattle.std.specs.Prelude.{length}
 use Rattle.page_model.specs.declared.counts.PageCounts.{PageCounts}
 use Rattle.page_model.specs.declared.page.Page.{Page}
 
--- how many families and sample lines a page has
+-- how many families and sample lines the page has
 abbrev pub counts_of : Page → PageCounts
 counts_of page = record { families = length page.families; samples = page.samples }

@@ -16,7 +16,7 @@ pub mod RuleNames
 pub mod Faults
 pub mod Readings
 pub mod Pages
+pub mod Counts
 pub mod PageReading
 pub mod Presence
-pub mod Counts
 pub mod Laws

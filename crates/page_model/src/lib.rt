@@ -7,7 +7,7 @@ mod event;
 mod fault;
 mod format;
 mod item;
-pub mod laws;
+pub mod page_laws;
 mod page;
 mod rule;
 

@@ -27,9 +27,9 @@ use Rattle.page_model.specs.Rules.{is_bound, is_up}
 use Rattle.page_model.specs.Faults.{Line, end_fault}
 use Rattle.page_model.specs.Readings.{family_of, families_of, page_of}
 use Rattle.page_model.specs.Pages.{AreLines, AreFaultless, items_of}
-use Rattle.page_model.proofs.KindLaws.{kind_of_page}
-use Rattle.sample_groups.proofs.Cumulative.{AreRising, RiseToUp}
-use Rattle.family_rules.proofs.Values.{IsPlain, IsQuantiles, HasRisingBuckets, HaveValuesOf, page_values}
+use Rattle.page_model.proofs.Laws.{kind_of_page}
+use Rattle.sample_groups.proofs.Laws.{AreRising, RiseToUp}
+use Rattle.family_rules.proofs.Laws.{IsPlain, IsQuantiles, HasRisingBuckets, HaveValuesOf, page_values}
 use Rattle.histogram_layout.specs.Layouts.{may_follow, are_cumulative}
 use Rattle.otlp_tree.specs.declared.tree.Metric.{Metric}
 use Rattle.otlp_tree.specs.declared.tree.Shape.{Shape}

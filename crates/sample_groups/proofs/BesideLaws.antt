@@ -1,5 +1,5 @@
 -- Laws on values that stand beside their keys.
-use Rattle.std.proofs.Common.{◌≡◌, ℕ, zero, suc, Bool, true, false, cond, ◌||◌, List, [], ◌∷◌, ◌++◌, length, slice_get, slice_set, Some, None, refl, sym, ap, subst, ◌∙◌, arith}
+use Rattle.std.proofs.Common.{◌≡◌, ℕ, zero, suc, ◌+◌, Bool, true, false, cond, ◌||◌, List, [], ◌∷◌, ◌++◌, length, drop, slice_get, slice_set, Some, None, refl, sym, ap, subst, ◌∙◌, arith}
 use Rattle.std.specs.List.{list_any, zip, IsDistinct, AllByRecursion}
 use Rattle.std.specs.Map.{lookup}
 use Rattle.std.proofs.lemmas.List.{length-set}
@@ -98,3 +98,15 @@ module _ {K : Type 0} (eq : K → K → Bool) (decides : (a b : K) → (eq a b �
         by : (c : Bool) → (c || list_any (eq k) ks) ≡ false → (list_any (eq k) ks ≡ false → lookup (eq k) (zip ks vs) ≡ None) → cond c (Some v) (lookup (eq k) (zip ks vs)) ≡ None
         by true e more = absurd (let no : true ≡ false = e in cc)
         by false e more = more e
+
+-- ---- a walk over keys and values at once
+
+-- the key at a place, and those behind it
+pub taken_off : {A : Type 0} (xs : List A) (i : ℕ) (x : A) → slice_get xs i ≡ Some x → drop i xs ≡ x ∷ drop (i + 1) xs
+taken_off [] i x e = absurd (let no : None ≡ Some x = e in cc)
+taken_off (y ∷ ys) zero x e = let one : y ≡ x = cc in ap (λ z. z ∷ ys) one
+taken_off (y ∷ ys) (suc i) x e = taken_off ys i x e ∙ ap (λ l. x ∷ l) (ap (λ n. drop n (y ∷ ys)) (let next : suc (i + 1) ≡ suc i + 1 = omega arith in next))
+
+-- one value fewer is left
+pub fewer_left : {A B : Type 0} (place : ℕ) (left next : List A) (x : A) (sets : List B) → left ≡ x ∷ next → place + length left ≡ length sets → place + 1 + length next ≡ length sets
+fewer_left place left next x sets first many = let more : length left ≡ suc (length next) = ap length first in omega arith

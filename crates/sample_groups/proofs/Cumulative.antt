@@ -16,7 +16,7 @@ use Rattle.page_model.specs.declared.page.Bucket.{Bucket}
 use Rattle.page_model.specs.Written.{Setting}
 use Rattle.page_model.specs.Rules.{is_histogram, is_bucket, is_bound, is_up, sample_group, threshold, has_bad_threshold, is_out_of_order}
 use Rattle.page_model.specs.Readings.{bucket_of}
-use Rattle.page_model.proofs.Groups.{label_sets_decide}
+use Rattle.page_model.proofs.Laws.{label_sets_decide}
 use Rattle.sample_groups.specs.declared.part.Part.{Part}
 use Rattle.sample_groups.specs.declared.part.Part.TheVariants as parts
 use Rattle.sample_groups.specs.Parts.{is_grouped, part_of, entry_of}

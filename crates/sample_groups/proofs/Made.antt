@@ -14,7 +14,7 @@ use Rattle.page_model.specs.declared.page.Value.TheVariants as values
 use Rattle.page_model.specs.Written.{Setting}
 use Rattle.page_model.specs.Rules.{has_suffix, is_bucket, sample_group}
 use Rattle.page_model.specs.Readings.{value_with, either_value, bucket_of, buckets_of, quantile_of, quantiles_of, sum_of, is_measured, value_of, stamp_of, exemplars_of, reading_of, readings_of}
-use Rattle.page_model.proofs.Groups.{Member, label_sets_decide}
+use Rattle.page_model.proofs.Laws.{Member, label_sets_decide}
 use Rattle.sample_groups.specs.declared.part.Part.{Part}
 use Rattle.sample_groups.specs.Parts.{is_grouped, part_of, entry_of}
 use Rattle.sample_groups.specs.Groups.{Gathered, bucket_in, quantile_in, sum_in, count_in, group_from, parts_in, groups_from, group_value, reading_from}

@@ -8,7 +8,8 @@ use Rattle.std.specs.List.{list_any, list_all, last_or, cons_option}
 use Rattle.std.specs.Option.{option_or}
 use Rattle.std.specs.Map.{lookup}
 use Rattle.label_sets.specs.Lists.{first_of_each, first_some, some_passes}
-use Rattle.page_model.proofs.Groups.{Member}
+use Rattle.label_sets.proofs.Laws.{same_tests}
+use Rattle.page_model.proofs.Laws.{Member}
 
 -- ---- tests
 
@@ -31,11 +32,6 @@ or_swap true true = refl
 or_swap true false = refl
 or_swap false true = refl
 or_swap false false = refl
-
-same_tests : (a b : Bool) → (a ≡ true → b ≡ true) → (b ≡ true → a ≡ true) → a ≡ b
-same_tests true b f g = sym (f refl)
-same_tests false true f g = g refl
-same_tests false false f g = refl
 
 -- ---- a list turned round
 

@@ -18,7 +18,7 @@ use Rattle.page_model.specs.declared.page.Quantile.{Quantile}
 use Rattle.page_model.specs.Written.{Setting}
 use Rattle.page_model.specs.Rules.{is_histogram, has_suffix, is_bucket, is_count, sample_group, in_one_group, threshold, quantile_at, has_wrong_suffix, has_bad_value, has_bad_threshold, buckets_of_group, follows_bucket, breaks_bucket_order, is_out_of_order}
 use Rattle.page_model.specs.Readings.{bucket_of, placed_quantile, quantile_of}
-use Rattle.page_model.proofs.Groups.{Member}
+use Rattle.page_model.proofs.Laws.{Member}
 use Rattle.sample_groups.specs.declared.part.Part.TheVariants as parts
 use Rattle.sample_groups.specs.Parts.{is_grouped, quantile_part, part_of, entry_of}
 use Rattle.sample_groups.specs.Groups.{Gathered, bucket_in, quantile_in, group_from, parts_in, groups_from, known_group, or_empty, breaks_last, breaks_order}

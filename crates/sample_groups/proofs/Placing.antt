@@ -13,7 +13,7 @@ use Rattle.sample_groups.specs.Groups.{Gathered, empty_group, known_group, or_em
 use Rattle.sample_groups.specs.Finding.{place_name}
 use Rattle.sample_groups.specs.Beside.{AreBeside}
 use Rattle.sample_groups.specs.Placing.{HasPlace, with_group_at}
-use Rattle.sample_groups.proofs.BesideLaws.{one_more, zip-snoc, beside_more, found_beside, missing_beside, suc_same, first_apart_from, distinct_rest}
+use Rattle.sample_groups.proofs.BesideLaws.{taken_off, one_more, zip-snoc, beside_more, found_beside, missing_beside, suc_same, first_apart_from, distinct_rest}
 
 some_same : {a b : Gathered} → Some a ≡ Some b → a ≡ b
 some_same e = cc
@@ -218,11 +218,6 @@ whole_beside (s ∷ ss) (g ∷ gs) e = ap (λ b. is_whole_group g && b) (whole_b
 
 -- ---- readings
 
-taken_off : {A : Type 0} (xs : List A) (i : ℕ) (x : A) → slice_get xs i ≡ Some x → drop i xs ≡ x ∷ drop (i + 1) xs
-taken_off [] i x e = absurd (let no : None ≡ Some x = e in cc)
-taken_off (y ∷ ys) zero x e = let one : y ≡ x = cc in ap (λ z. z ∷ ys) one
-taken_off (y ∷ ys) (suc i) x e = taken_off ys i x e ∙ ap (λ l. x ∷ l) (ap (λ n. drop n (y ∷ ys)) (let next : suc (i + 1) ≡ suc i + 1 = omega arith in next))
-
 -- one reading more
 pub one_reading : (kind : Kind) (family unit : List ℕ) (sets : List LabelSet) (place : ℕ) (labels : LabelSet) (group : Gathered) (one : Reading) (left next : List Gathered) (old new whole : List Reading)
     → slice_get sets place ≡ Some labels → left ≡ group ∷ next → one ≡ reading_from kind family unit (labels, group) → new ≡ old ++ one ∷ []
@@ -231,9 +226,6 @@ one_reading kind family unit sets place labels group one left next old new whole
     ap (λ l. l ++ map (reading_from kind family unit) (zip (drop (place + 1) sets) next)) (more ∙ ap (λ r. old ++ r ∷ []) is)
     ∙ append_assoc old (reading_from kind family unit (labels, group) ∷ []) (map (reading_from kind family unit) (zip (drop (place + 1) sets) next))
     ∙ sym (λ i. old ++ map (reading_from kind family unit) (zip (taken_off sets place labels at i) (first i))) ∙ so_far
-
-pub fewer_left : {A B : Type 0} (place : ℕ) (left next : List A) (x : A) (sets : List B) → left ≡ x ∷ next → place + length left ≡ length sets → place + 1 + length next ≡ length sets
-fewer_left place left next x sets first many = let more : length left ≡ suc (length next) = ap length first in omega arith
 
 -- ---- a group at its place
 

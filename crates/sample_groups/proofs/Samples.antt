@@ -22,7 +22,7 @@ use Rattle.page_model.specs.Written.{Setting}
 use Rattle.page_model.specs.Suffixes.{suffixes, is_sample_name, suffix_of}
 use Rattle.page_model.specs.Rules.{is_histogram, has_suffix, is_bucket, is_count, sample_group, quantile_at, is_whole, has_wrong_suffix, has_forbidden_value, has_bad_value, has_bad_threshold}
 use Rattle.page_model.specs.Readings.{bucket_of, placed_quantile, quantile_of}
-use Rattle.page_model.proofs.Groups.{Member}
+use Rattle.page_model.proofs.Laws.{Member}
 use Rattle.sample_groups.specs.declared.part.Part.{Part}
 use Rattle.sample_groups.specs.declared.part.Part.TheVariants as parts
 use Rattle.sample_groups.specs.Parts.{quantile_part, part_of, entry_of}

@@ -14,7 +14,7 @@ use Rattle.page_model.specs.declared.item.Sample.{Sample}
 use Rattle.page_model.specs.Written.{Setting}
 use Rattle.page_model.specs.Owners.{kept_labels}
 use Rattle.page_model.specs.Rules.{sample_group}
-use Rattle.page_model.proofs.Groups.{label_sets_decide}
+use Rattle.page_model.proofs.Laws.{label_sets_decide}
 use Rattle.sample_groups.specs.declared.part.Part.{Part}
 use Rattle.sample_groups.specs.declared.part.Part.TheVariants as parts
 use Rattle.sample_groups.specs.Parts.{is_grouped}

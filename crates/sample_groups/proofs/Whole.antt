@@ -18,7 +18,7 @@ use Rattle.page_model.specs.declared.item.Sample.{Sample}
 use Rattle.page_model.specs.Written.{Setting}
 use Rattle.page_model.specs.Rules.{is_histogram, is_bucket, is_count, sample_group, threshold, is_up, buckets_of_group, breaks_bucket_order, is_complete_at}
 use Rattle.page_model.specs.Readings.{bucket_of}
-use Rattle.page_model.proofs.Groups.{Member, label_sets_decide, agrees_in, is_complete_group, groups_of, complete_by_groups}
+use Rattle.page_model.proofs.Laws.{Member, label_sets_decide, agrees_in, is_complete_group, groups_of, complete_by_groups}
 use Rattle.sample_groups.specs.declared.part.Part.{Part}
 use Rattle.sample_groups.specs.Parts.{part_of, entry_of}
 use Rattle.sample_groups.specs.Groups.{Gathered, count_in, are_one, group_from, parts_in, groups_from, ends_with, is_whole_group}

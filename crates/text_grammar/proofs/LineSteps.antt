@@ -21,15 +21,14 @@ use Rattle.page_model.specs.TextItems.{is_integer_token, without_leading_blanks,
 use Rattle.page_model.specs.TextReading.{stamp_of, named_at, at_blank, marked_of, middle_at, sample_of, trimmed_of, text_line_of}
 use Rattle.page_model.specs.Faults.{own_fault, line_breaks, line_rules}
 use Rattle.page_model.specs.PageReading.{line_read}
-use Rattle.page_model.proofs.Fronts.{while_parts, behind_parts, behind-append}
+use Rattle.page_model.proofs.Laws.{while_parts, behind_parts, behind-append}
 use Rattle.std.proofs.lemmas.Bool.{cases_eq}
-use Rattle.line_scan.proofs.Laws.{other_byte}
+use Rattle.line_scan.proofs.Laws.{other_byte, utf8_tail}
 use Rattle.line_scan.specs.declared.scan.Cut.{Cut}
 use Rattle.text_grammar.specs.declared.line.LineRead.{LineRead}
 use Rattle.text_grammar.specs.declared.line.LineRead.TheVariants as reads
 use Rattle.line_scan.specs.Cuts.{IsNamed}
 use Rattle.text_grammar.specs.LineReading.{says_fault, Reads, IsRead, Makes, help_of, type_of, written_sample}
-use Rattle.line_scan.proofs.Laws.{utf8_tail}
 
 -- ---- timestamps
 

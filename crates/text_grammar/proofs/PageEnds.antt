@@ -12,7 +12,7 @@ use Rattle.page_lines.specs.Feeding.{Feeding, IsEnd, told_at_end}
 use Rattle.page_lines.specs.Feeding as feeding
 use Rattle.page_lines.specs.Told.{Told, told_of, told_line, whole, too_long}
 use Rattle.page_lines.specs.Lines.{lines_of, ends_clean, ended_lines, open_line, is_line_feed, without_empty_last}
-use Rattle.page_lines.proofs.TellingOn.{whole_lines}
+use Rattle.page_lines.proofs.Laws.{whole_lines}
 use Rattle.page_model.specs.declared.format.Format.TheVariants.{Text}
 use Rattle.page_model.specs.declared.format.Treatment.{Treatment}
 use Rattle.page_model.specs.declared.item.Item.{Item}
@@ -27,8 +27,7 @@ use Rattle.page_model.specs.Faults.{Line as PageLine, line_fault, lines_fault, e
 use Rattle.page_model.specs.Readings.{page_of}
 use Rattle.page_model.specs.Pages.{items_of}
 use Rattle.page_model.specs.PageReading.{line_read, text_fault, text_page}
-use Rattle.page_model.proofs.Decides.{front_fault, first_fault_read, page_is_read}
-use Rattle.page_model.proofs.Prefixes.{fault_from-append}
+use Rattle.page_model.proofs.Laws.{front_fault, first_fault_read, page_is_read, fault_from-append}
 use Rattle.family_rules.specs.Checking.{Checking}
 use Rattle.family_rules.specs.Checking as checking
 use Rattle.text_grammar.specs.PageFeeding.{Fed, Stands, Answers, LineAnswer, TakesLine, AtLast, IsEnded, EndAnswer, HasCounts, CountAnswers}

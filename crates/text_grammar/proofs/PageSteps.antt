@@ -12,7 +12,7 @@ use Rattle.page_lines.specs.Feeding.{Feeding, told_by}
 use Rattle.page_lines.specs.Feeding as feeding
 use Rattle.page_lines.specs.Told.{Told, told_of, whole, too_long}
 use Rattle.page_lines.specs.Lines.{ended_lines, open_line}
-use Rattle.page_lines.proofs.TellingOn.{told_first, long_next}
+use Rattle.page_lines.proofs.Laws.{told_first, long_next}
 use Rattle.page_model.specs.declared.format.Format.TheVariants.{Text}
 use Rattle.page_model.specs.declared.format.Treatment.{Treatment}
 use Rattle.page_model.specs.declared.item.Item.{Item}
@@ -24,8 +24,7 @@ use Rattle.page_model.specs.Written.{Setting, text_setting, line_limit}
 use Rattle.page_model.specs.Faults.{Line as PageLine, Fault, line_fault, lines_fault, with_line, with_lines}
 use Rattle.page_model.specs.Pages.{FirstFault}
 use Rattle.page_model.specs.PageReading.{line_read}
-use Rattle.page_model.proofs.Decides.{front_fault}
-use Rattle.page_model.proofs.Prefixes.{too_long_fault}
+use Rattle.page_model.proofs.Laws.{front_fault, too_long_fault, text_line_sound}
 use Rattle.family_rules.specs.Checking.{Checking}
 use Rattle.family_rules.specs.Checking as checking
 use Rattle.std.specs.Prelude.{option_and_then, OnOk, IfOk, IsOk, IsTrue, ⊤}
@@ -37,7 +36,6 @@ use Rattle.page_model.specs.Written.{Written, blank, comment, eof, help, type_li
 use Rattle.page_model.specs.TextItems.{SpellsTrimmed, text_kind_word, trimmed}
 use Rattle.page_model.specs.TextReading.{text_line_of}
 use Rattle.page_model.specs.Faults.{own_fault, item_fault}
-use Rattle.page_model.proofs.TextSound.{text_line_sound}
 use Rattle.text_grammar.specs.declared.line.LineRead.TheVariants as reads
 use Rattle.text_grammar.specs.LineReading.{IsRead}
 use Rattle.text_grammar.specs.PageFeeding.{TakesLine, TakesStep, Fed, Stands, Refuses, LineAnswer, StepAnswer}

@@ -1,5 +1,6 @@
 use Rattle.std.specs.Vec.Iter.{into_iter_items}
-use Rattle.sample_groups.proofs.Placing.{one_reading, fewer_left}
+use Rattle.sample_groups.proofs.Placing.{one_reading}
+use Rattle.sample_groups.proofs.BesideLaws.{fewer_left}
 use Rattle.sample_groups.proofs.others.put_all.Goals as goal
 
 pub loop-group-preserved : goal.loop-group-preserved

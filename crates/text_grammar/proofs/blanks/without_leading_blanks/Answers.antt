@@ -1,5 +1,4 @@
-use Rattle.line_scan.proofs.Laws.{utf8_rest, blanks_ascii}
-use Rattle.line_scan.proofs.Laws.{tail_slice}
+use Rattle.line_scan.proofs.Laws.{utf8_rest, blanks_ascii, tail_slice}
 use Rattle.label_sets.specs.Names.{is_blank}
 use Rattle.text_grammar.proofs.blanks.without_leading_blanks.Goals as goal
 

@@ -1,6 +1,5 @@
 use Rattle.std.proofs.Common.{rules, arith, ◌≡◌, get_or}
-use Rattle.line_scan.proofs.Laws.{tail_slice}
-use Rattle.line_scan.proofs.Laws.{utf8_drop}
+use Rattle.line_scan.proofs.Laws.{tail_slice, utf8_drop}
 use Rattle.text_grammar.proofs.labels.opened_at.Goals as goal
 
 pub returns-in-61-clause-utf8 : goal.returns-in-61-clause-utf8

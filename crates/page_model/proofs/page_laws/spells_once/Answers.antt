@@ -1,5 +1,5 @@
 use Rattle.page_model.proofs.Decides.{spells_once, written_sound, written_complete}
-use Rattle.page_model.proofs.laws.spells_once.Goals as goal
+use Rattle.page_model.proofs.page_laws.spells_once.Goals as goal
 
 pub returns-clause-once : goal.returns-clause-once
 returns-clause-once c = spells_once

@@ -1,6 +1,6 @@
 use Rattle.page_model.proofs.RightPages.{text_is_right, nothing_is_right}
 use Rattle.page_model.proofs.Texts.{items_make_text}
-use Rattle.page_model.proofs.laws.right_pages.Goals as goal
+use Rattle.page_model.proofs.page_laws.right_pages.Goals as goal
 
 pub returns-clause-texts : goal.returns-clause-texts
 returns-clause-texts c = text_is_right

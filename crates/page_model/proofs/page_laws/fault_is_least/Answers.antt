@@ -1,5 +1,5 @@
 use Rattle.page_model.proofs.Least.{fault_is_least}
-use Rattle.page_model.proofs.laws.fault_is_least.Goals as goal
+use Rattle.page_model.proofs.page_laws.fault_is_least.Goals as goal
 
 pub returns : goal.returns
 returns c = fault_is_least

@@ -1,5 +1,5 @@
 use Rattle.page_lines.proofs.Ends.{lines_of-more}
-use Rattle.page_lines.proofs.laws.lines_go_on.Goals as goal
+use Rattle.page_lines.proofs.line_laws.lines_go_on.Goals as goal
 
 pub returns : goal.returns
 returns c = lines_of-more

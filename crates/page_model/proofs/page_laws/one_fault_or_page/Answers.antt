@@ -1,5 +1,5 @@
 use Rattle.page_model.proofs.Decides.{first_fault_once, page_of_once, fault_or_page, first_fault_read, page_is_read}
-use Rattle.page_model.proofs.laws.one_fault_or_page.Goals as goal
+use Rattle.page_model.proofs.page_laws.one_fault_or_page.Goals as goal
 
 pub returns-clause-fault : goal.returns-clause-fault
 returns-clause-fault c = first_fault_once

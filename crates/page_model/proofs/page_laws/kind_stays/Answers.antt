@@ -1,5 +1,5 @@
 use Rattle.page_model.proofs.KindLaws.{kind_stays, kind_of_page}
-use Rattle.page_model.proofs.laws.kind_stays.Goals as goal
+use Rattle.page_model.proofs.page_laws.kind_stays.Goals as goal
 
 pub returns-clause-stays : goal.returns-clause-stays
 returns-clause-stays c = kind_stays

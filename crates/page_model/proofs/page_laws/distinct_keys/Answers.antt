@@ -1,5 +1,5 @@
 use Rattle.page_model.proofs.RightPages.{right-distinct_keys}
-use Rattle.page_model.proofs.laws.distinct_keys.Goals as goal
+use Rattle.page_model.proofs.page_laws.distinct_keys.Goals as goal
 
 pub returns : goal.returns
 returns c = right-distinct_keys
