@@ -1,3 +1,4 @@
+//! Where bytes go: the trait of an output.
 ghost use Rattle.std.specs.Prelude.{◌≡◌, ℕ, List, [], Option, is_some, IfOk};
 ghost use Rattle.std.specs.Io.{WritesAtMost};
 ghost use Rattle.std.specs.Io.KnownBytes.{WriteAppends};

@@ -1,3 +1,4 @@
+//! A table of byte strings, each once, which no strings make slow.
 ghost use Rattle.std.specs.Prelude.{◌≡◌, ◌==◌, ◌<◌, ◌++◌, [], ◌∷◌, length, IfOk, OnOk, OnErr, MatchOption, slice_get, slice_index_or, Some, false};
 ghost use Rattle.std.specs.List.{list_any};
 ghost use Rattle.std.specs.Option.{option_copied};

@@ -32,8 +32,8 @@ use Rattle.sample_groups.specs.Groups.{groups_from, reading_from}
 use Rattle.sample_groups.specs.Parts.{is_grouped, entry_of}
 use Rattle.sample_groups.specs.Sound.{AreSound}
 use Rattle.sample_groups.proofs.Laws.{readings_made}
-use Rattle.family_rules.specs.Checking.{has_sort, has_samples, groups_in, so_far, left_before, key_of, keys_of, Checking, Stands, left_families, current_family}
-use Rattle.family_rules.specs.Steps.{left_stop, page_at, with_left, reading_at, readings_at, readings_in, family_at, families_at}
+use Rattle.family_rules.specs.Checking.{has_sort, has_samples, groups_so_far, so_far, left_before, key_of, keys_above, Checking, Stands, left_families, current_family}
+use Rattle.family_rules.specs.Steps.{left_stop, page_at, with_left, plain_reading, readings_at, readings_in, family_at, families_at}
 use Rattle.family_rules.proofs.Lists.{bytes_same, reverse-cons, first_of_each-snoc, first_some-append, list_any-map, list_any-reverse, pairs, lookup-map, insert_entry-last}
 use Rattle.family_rules.proofs.Standing.{label_sets_swap, left_at_end}
 use Rattle.std.specs.Map.{lookup}
@@ -232,7 +232,7 @@ module _ (st : Setting) where
   }) (value_of st.format k F own)
 
   -- that of one plain sample of its own name
-  own_made : (k : Kind) (unit : List ℕ) (s : Sample) → st.format ≡ Text → is_plain k ≡ true → made k s.name unit (s ∷ []) (kept s) ≡ Some (reading_at k unit (key_of st s) s.value)
+  own_made : (k : Kind) (unit : List ℕ) (s : Sample) → st.format ≡ Text → is_plain k ≡ true → made k s.name unit (s ∷ []) (kept s) ≡ Some (plain_reading k unit (key_of st s) s.value)
   unfolding value_of value_with stamp_of exemplars_of
   own_made Counter unit s text h = rw (text, drop_all s.name, append-nil s.name) refl
   own_made Gauge unit s text h = rw (drop_all s.name) refl
@@ -267,10 +267,10 @@ module _ (st : Setting) where
 
     -- the reading of one sample
     abbrev read : Sample → Reading
-    read s = reading_at k unit (key_of st s) s.value
+    read s = plain_reading k unit (key_of st s) s.value
 
     one_made : (s : Sample) → s.name ≡ F → made k F unit (s ∷ []) (kept s) ≡ Some (read s)
-    one_made s name = subst (λ G. made k G unit (s ∷ []) (kept s) ≡ Some (reading_at k unit (key_of st s) s.value)) name (own_made k unit s text plain)
+    one_made s name = subst (λ G. made k G unit (s ∷ []) (kept s) ≡ Some (plain_reading k unit (key_of st s) s.value)) name (own_made k unit s text plain)
 
     -- one sample more, of labels that no other has
     snoc_read : (samples : List Sample) (y : Sample) → list_any (λ t. label_sets_eq (kept t) (kept y)) samples ≡ false → y.name ≡ F → by_labels (samples ++ y ∷ []) ≡ by_labels samples ++ read y ∷ []
@@ -356,12 +356,12 @@ module _ (st : Setting) where
           ∙ ap (λ l. flat_map (keys_in (n ∷ above)) (left_before n.family above ++ n.family ∷ []) ++ l) (sym (ap (map (key_of st)) (samples_none (n ∷ above) F (rw e none))))
 
   -- the keys stand family by family
-  together : (above : List Owned) → AreFit st above → keys_of st above ≡ flat_map (keys_in above) (families_of (reverse above))
-  unfolding keys_of left_before families_of
+  together : (above : List Owned) → AreFit st above → keys_above st above ≡ flat_map (keys_in above) (families_of (reverse above))
+  unfolding keys_above left_before families_of
   together [] fit = refl
   together (o ∷ above) fit =
       let own : List SampleKey = option_to_list (option_map (key_of st) (sample_of_line o.item)) in
-      let before : keys_of st above ≡ flat_map (keys_in above) (left_before o.family above) ++ keys_in above o.family = together above fit.1 ∙ keys_before o.family o.item above fit.1 fit.0.together in
+      let before : keys_above st above ≡ flat_map (keys_in above) (left_before o.family above) ++ keys_in above o.family = together above fit.1 ∙ keys_before o.family o.item above fit.1 fit.0.together in
       ap (λ l. l ++ own) before ∙ append_assoc (flat_map (keys_in above) (left_before o.family above)) (keys_in above o.family) own
       ∙ ap (λ l. flat_map (keys_in above) (left_before o.family above) ++ l) (sym (keys_own o above))
       ∙ ap (λ l. l ++ keys_in (o ∷ above) o.family) (flat_map-same (keys_in above) (keys_in (o ∷ above)) o.family (left_before o.family above) (fresh st o.family o.item above fit.1 fit.0.together) (λ name e. sym (keys_other o above name e)))
@@ -372,10 +372,10 @@ module _ (st : Setting) where
 -- ---- families
 
 taken : (st : Setting) (k : Kind) (unit : List ℕ) (samples : List Sample) (more : List SampleKey)
-    → readings_at k unit (map (key_of st) samples ++ more) (map (λ (s : Sample). s.value) samples) ≡ map (λ s. reading_at k unit (key_of st s) s.value) samples
+    → readings_at k unit (map (key_of st) samples ++ more) (map (λ (s : Sample). s.value) samples) ≡ map (λ s. plain_reading k unit (key_of st s) s.value) samples
 taken st k unit [] [] = refl
 taken st k unit [] (key ∷ more) = refl
-taken st k unit (s ∷ samples) more = ap (λ l. reading_at k unit (key_of st s) s.value ∷ l) (taken st k unit samples more)
+taken st k unit (s ∷ samples) more = ap (λ l. plain_reading k unit (key_of st s) s.value ∷ l) (taken st k unit samples more)
 
 dropped : (st : Setting) (samples : List Sample) (more : List SampleKey) → drop (length (map (λ (s : Sample). s.value) samples)) (map (key_of st) samples ++ more) ≡ more
 dropped st [] [] = refl
@@ -385,7 +385,7 @@ dropped st (s ∷ samples) more = dropped st samples more
 -- the readings of what is known of a family are those of its samples
 made_readings : (st : Setting) (above : List Owned) (F : List ℕ) (more : List SampleKey) → st.format ≡ Text → AreFit st above
     → readings_in F (so_far st above F) (keys_in st above F ++ more) ≡ readings_of st (kind_of above F) F (unwrap_or (first_some (unit_in F) above) []) (samples_of (reverse above) F)
-unfolding so_far kind_of groups_in
+unfolding so_far kind_of groups_so_far
 made_readings st above F more text fit = by (is_grouped (kind_of above F)) refl
   where
     unit : List ℕ

@@ -23,7 +23,7 @@ use Rattle.page_model.specs.Rules.{is_info_or_state_set, is_after_eof, is_late_d
 use Rattle.page_model.specs.Pages.{AreFaultless}
 use Rattle.page_model.specs.Faults.{sample_breaks, owned_breaks, item_breaks, item_fault}
 use Rattle.sample_groups.specs.Parts.{is_grouped}
-use Rattle.sample_groups.specs.Sound.{IsSound, AreSound}
+use Rattle.sample_groups.specs.Sound.{IsSoundSample, AreSound}
 use Rattle.family_rules.specs.Checking.{IsTextItem, AreTextItems}
 use Rattle.family_rules.proofs.Lists.{or_false, cond_none}
 
@@ -75,7 +75,7 @@ pub record Fits (st : Setting) (above : List Owned) (o : Owned) : Type 0 where
   pub descriptor : is_late_descriptor above o ≡ false
   pub together : is_split above o ≡ false
   pub single : some_passes (is_duplicate st above) (sample_of_line o.item) ≡ false
-  pub sound : IfSome (sample_of_line o.item) (IsSound st (kind_of above o.family) o.family (samples_of above o.family))
+  pub sound : IfSome (sample_of_line o.item) (IsSoundSample st (kind_of above o.family) o.family (samples_of above o.family))
   pub kind : IfSome (kind_of_line o.item) (λ k. not (is_info_or_state_set k) ≡ true)
 
 -- each of the owned lines breaks no rule under those above it
@@ -142,9 +142,9 @@ sound_samples st (o ∷ above) F fit = by (is_of F o) o.item refl refl (sound_sa
         let none : samples_of above F ≡ [] = ap (samples_of above) (sym ((bytes_decides o.family F).0 e)) ∙ none_above above o.family (items.KindOf n k) refl late in
         subst (AreSound st k F) (sym none) tt
     by true (items.Sample s) e same ih =
-        let own : IfSome (sample_of_line (items.Sample s)) (IsSound st (kind_of above o.family) o.family (samples_of above o.family)) =
-        subst (λ i. IfSome (sample_of_line i) (IsSound st (kind_of above o.family) o.family (samples_of above o.family))) same fit.0.sound in
-        (subst (λ G. IsSound st (kind_of above G) G (samples_of above G) s) ((bytes_decides o.family F).0 e) own, ih)
+        let own : IfSome (sample_of_line (items.Sample s)) (IsSoundSample st (kind_of above o.family) o.family (samples_of above o.family)) =
+        subst (λ i. IfSome (sample_of_line i) (IsSoundSample st (kind_of above o.family) o.family (samples_of above o.family))) same fit.0.sound in
+        (subst (λ G. IsSoundSample st (kind_of above G) G (samples_of above G) s) ((bytes_decides o.family F).0 e) own, ih)
 
 -- ---- rules that no line of these breaks
 

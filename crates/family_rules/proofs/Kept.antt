@@ -23,7 +23,7 @@ use Rattle.sample_groups.specs.Groups.{Gathered, groups_from, with_part}
 use Rattle.sample_groups.specs.Parts.{is_grouped, entry_of, part_of}
 use Rattle.sample_groups.proofs.Laws.{one_part_more}
 use Rattle.family_rules.specs.declared.family.FamilySoFar.{FamilySoFar}
-use Rattle.family_rules.specs.Checking.{groups_in, so_far, no_lines, left_before, has_samples, has_sort}
+use Rattle.family_rules.specs.Checking.{groups_so_far, so_far, no_lines, left_before, has_samples, has_sort}
 use Rattle.family_rules.proofs.Lists.{or_false, bytes_same, bytes_swap, reverse-cons, first_of_each-snoc, list_any-map, list_any-reverse}
 use Rattle.family_rules.proofs.Faults.{AreFit}
 
@@ -132,8 +132,8 @@ own_samples F item above = samples_of-reverse (record { family = F; item = item 
 -- ---- groups
 
 -- no samples make no groups
-no_groups : (st : Setting) (k : Kind) (F : List ℕ) → groups_in st k F [] ≡ []
-unfolding groups_in groups_from
+no_groups : (st : Setting) (k : Kind) (F : List ℕ) → groups_so_far st k F [] ≡ []
+unfolding groups_so_far groups_from
 no_groups st k F = by (is_grouped k)
   where
     by : (b : Bool) → cond {A = List (LabelSet × Gathered)} b [] [] ≡ []
@@ -144,8 +144,8 @@ no_groups st k F = by (is_grouped k)
 abbrev pub grown : Setting → Kind → List ℕ → Sample → List (LabelSet × Gathered) → List (LabelSet × Gathered)
 grown st k F s groups = cond (is_grouped k) (with_part groups (sample_group st k F s) (part_of F s)) []
 
-groups_more : (st : Setting) (k : Kind) (F : List ℕ) (samples : List Sample) (s : Sample) → groups_in st k F (samples ++ s ∷ []) ≡ grown st k F s (groups_in st k F samples)
-unfolding groups_in
+groups_more : (st : Setting) (k : Kind) (F : List ℕ) (samples : List Sample) (s : Sample) → groups_so_far st k F (samples ++ s ∷ []) ≡ grown st k F s (groups_so_far st k F samples)
+unfolding groups_so_far
 groups_more st k F samples s = by (is_grouped k)
   where
     by : (b : Bool) → cond b (groups_from (map (entry_of st k F) (samples ++ s ∷ []))) []
@@ -176,8 +176,8 @@ module _ (st : Setting) where
   unfolding so_far kind_of
   so_far-kind F kind above none =
       let values = own_samples F (items.KindOf F kind) above ∙ append-nil (samples_of (reverse above) F) in
-      let groups : groups_in st kind F (samples_of (reverse above) F) ≡ groups_in st (kind_of above F) F (samples_of (reverse above) F) =
-      ap (groups_in st kind F) none ∙ no_groups st kind F ∙ sym (ap (groups_in st (kind_of above F) F) none ∙ no_groups st (kind_of above F) F) in
+      let groups : groups_so_far st kind F (samples_of (reverse above) F) ≡ groups_so_far st (kind_of above F) F (samples_of (reverse above) F) =
+      ap (groups_so_far st kind F) none ∙ no_groups st kind F ∙ sym (ap (groups_so_far st (kind_of above F) F) none ∙ no_groups st (kind_of above F) F) in
       rw (bytes_same F, values, groups) refl
 
   pub so_far-unit : (F unit : List ℕ) (above : List Owned) → so_far st (record { family = F; item = items.Unit F unit } ∷ above) F ≡ record (so_far st above F) { unit = Some unit }
@@ -199,7 +199,7 @@ module _ (st : Setting) where
 
   -- nothing is known of a family without lines
   pub so_far-none : (above : List Owned) (F : List ℕ) → list_any (is_of F) above ≡ false → so_far st above F ≡ no_lines
-  unfolding so_far samples_of kind_of groups_in
+  unfolding so_far samples_of kind_of groups_so_far
   so_far-none [] F none = refl
   so_far-none (o ∷ above) F none = by (bytes_eq o.family F) refl none (so_far-none above F)
     where

@@ -34,9 +34,9 @@ use Rattle.family_rules.specs.declared.family.Current.{Current}
 use Rattle.family_rules.specs.declared.family.Descriptor.{Descriptor}
 use Rattle.family_rules.specs.declared.family.Descriptor.TheVariants as sorts
 use Rattle.family_rules.specs.declared.family.FamilySoFar.{FamilySoFar}
-use Rattle.family_rules.specs.Checking.{Checking, no_lines, has_samples, has_sort, groups_in, so_far, left_before, left_families, current_family, key_of, keys_of, IsTextItem, Stands}
+use Rattle.family_rules.specs.Checking.{Checking, no_lines, has_samples, has_sort, groups_so_far, so_far, left_before, left_families, current_family, key_of, keys_above, IsTextItem, Stands}
 use Rattle.family_rules.specs.Steps.{is_of_sort, is_late_in, current_kind, is_current_family, known_in, is_current_sample, has_incomplete, left_stop, place_stop, with_left, begun, reached, current_with, with_current, with_part_in, with_sample, IsReady}
-use Rattle.packed_keys.specs.Packing.{key_eq}
+use Rattle.packed_keys.specs.Packing.{sample_key_eq}
 use Rattle.family_rules.proofs.Lists.{or_false, bytes_same, bytes_swap, pairs, lookup-map, map-pairs, insert_entry-last}
 use Rattle.family_rules.proofs.Faults.{AreFit, fit_lines, sound_samples, none_above, left_fault, place_fault}
 use Rattle.family_rules.proofs.Kept.{known_lines, fresh, reversed_samples, grown, so_far-other, so_far-help, so_far-kind, so_far-unit, so_far-sample, so_far-none, late_known}
@@ -106,12 +106,12 @@ module _ (st : Setting) where
 
   -- a histogram that isn't complete, by its groups
   incomplete_groups : (k : Kind) (F : List ℕ) (samples : List Sample) → st.format ≡ Text → AreSound st k F samples
-      → (is_histogram k && not (list_all (is_complete_at st k F samples) samples)) ≡ (is_histogram k && not (list_all (λ (g : LabelSet × Gathered). is_whole_group g.1) (groups_in st k F (reverse samples))))
-  unfolding groups_in
+      → (is_histogram k && not (list_all (is_complete_at st k F samples) samples)) ≡ (is_histogram k && not (list_all (λ (g : LabelSet × Gathered). is_whole_group g.1) (groups_so_far st k F (reverse samples))))
+  unfolding groups_so_far
   incomplete_groups k F samples text sound = by (is_histogram k) refl
     where
       by : (b : Bool) → is_histogram k ≡ b
-          → (b && not (list_all (is_complete_at st k F samples) samples)) ≡ (b && not (list_all (λ (g : LabelSet × Gathered). is_whole_group g.1) (groups_in st k F (reverse samples))))
+          → (b && not (list_all (is_complete_at st k F samples) samples)) ≡ (b && not (list_all (λ (g : LabelSet × Gathered). is_whole_group g.1) (groups_so_far st k F (reverse samples))))
       by false e = refl
       by true e = ap not (whole_kept st k F samples e text sound
           ∙ ap (λ b. list_all (λ (g : LabelSet × Gathered). is_whole_group g.1) (cond b (groups_from (map (entry_of st k F) (reverse samples))) [])) (sym (grouped e)))
@@ -123,7 +123,7 @@ module _ (st : Setting) where
   unfolding is_incomplete so_far kind_of
   incomplete_above above F text fit =
       incomplete_groups (kind_of above F) F (samples_of above F) text (sound_samples st above F fit)
-      ∙ ap (λ l. is_histogram (kind_of above F) && not (list_all (λ (g : LabelSet × Gathered). is_whole_group g.1) (groups_in st (kind_of above F) F l))) (sym (reversed_samples above F))
+      ∙ ap (λ l. is_histogram (kind_of above F) && not (list_all (λ (g : LabelSet × Gathered). is_whole_group g.1) (groups_so_far st (kind_of above F) F l))) (sym (reversed_samples above F))
 
   -- Incomplete, at a line of another family or of none
   left_other : (above : List Owned) (owner : Option (List ℕ)) → st.format ≡ Text → AreFit st above → some_passes (λ F. is_current_family (current_family st above) F) owner ≡ false
@@ -247,7 +247,7 @@ module _ (st : Setting) (c : Checking) (earlier : List Item) (F : List ℕ) (r :
   -- another checker, in which only the current family, the seen samples and their number have changed
   stands_with : (item : Item) → IsTextItem item → item_fault st earlier item ≡ None → owner_of st.format (owned_lines st.format earlier) item ≡ Some F
       → (d : Checking) → d.setting ≡ c.setting → d.left ≡ c.left → d.current ≡ Some (record { name = F; family = so_far st (record { family = F; item = item } ∷ owned_lines st.format earlier) F })
-      → d.seen ≡ keys_of st (record { family = F; item = item } ∷ owned_lines st.format earlier) → d.samples ≡ count_by is_sample (item ∷ earlier) → d.stopped ≡ c.stopped
+      → d.seen ≡ keys_above st (record { family = F; item = item } ∷ owned_lines st.format earlier) → d.samples ≡ count_by is_sample (item ∷ earlier) → d.stopped ≡ c.stopped
       → Stands st d (item ∷ earlier)
   unfolding left_families current_family owned_lines
   stands_with item text none owner d setting left current seen samples stopped =
@@ -262,16 +262,16 @@ module _ (st : Setting) (c : Checking) (earlier : List Item) (F : List ℕ) (r :
         text = r.text;
         left = left ∙ r.left ∙ pairs_same ∙ ap (λ l. pairs (so_far st l) (left_families l)) (sym lines);
         current = current ∙ ap (current_family st) (sym lines);
-        seen = seen ∙ ap (keys_of st) (sym lines);
+        seen = seen ∙ ap (keys_above st) (sym lines);
         samples = samples;
         working = stopped ∙ r.working;
         text_items = (text, r.text_items);
         faultless = (none, r.faultless);
       } in placed
 
-  unseen : (item : Item) → sample_of_line item ≡ None → c.seen ≡ keys_of st (record { family = F; item = item } ∷ owned_lines st.format earlier)
-  unfolding keys_of
-  unseen item e = r.seen ∙ sym (append-nil (keys_of st (owned_lines st.format earlier))) ∙ ap (λ o. keys_of st (owned_lines st.format earlier) ++ option_to_list (option_map (key_of st) o)) (sym e)
+  unseen : (item : Item) → sample_of_line item ≡ None → c.seen ≡ keys_above st (record { family = F; item = item } ∷ owned_lines st.format earlier)
+  unfolding keys_above
+  unseen item e = r.seen ∙ sym (append-nil (keys_above st (owned_lines st.format earlier))) ∙ ap (λ o. keys_above st (owned_lines st.format earlier) ++ option_to_list (option_map (key_of st) o)) (sym e)
 
   changed : (change : FamilySoFar → FamilySoFar) (f : FamilySoFar) → f ≡ change (so_far st (owned_lines st.format earlier) F) → current_with change c.current ≡ Some (record { name = F; family = f })
   changed change f e = ap (current_with change) r.current ∙ ap (λ g. Some (record { name = F; family = g })) (sym e)
@@ -309,7 +309,7 @@ module _ (st : Setting) (c : Checking) (earlier : List Item) (F : List ℕ) (r :
       → d.current ≡ current_with (λ f. record f { groups = groups }) c.current
       → groups ≡ grown st (kind_of (owned_lines st.format earlier) F) F s (so_far st (owned_lines st.format earlier) F).groups
       → Stands st (with_sample d (key_of st s) s.value) (items.Sample s ∷ earlier)
-  unfolding with_sample keys_of
+  unfolding with_sample keys_above
   sampled s groups text owner none d setting left seen samples stopped current groups_are =
       let above : List Owned = owned_lines st.format earlier in
       let change : FamilySoFar → FamilySoFar = λ f. record f { values = f.values ++ s.value ∷ []; groups = groups } in
@@ -330,7 +330,7 @@ module _ (st : Setting) (c : Checking) (earlier : List Item) (F : List ℕ) (r :
   pub stands_sample : (s : Sample) → s.exemplar ≡ None → sample_owner st.format (owned_lines st.format earlier) s.name ≡ F → item_fault st earlier (items.Sample s) ≡ None
       → is_grouped (kind_of (owned_lines st.format earlier) F) ≡ false
       → Stands st (with_sample c (key_of st s) s.value) (items.Sample s ∷ earlier)
-  unfolding so_far groups_in
+  unfolding so_far groups_so_far
   stands_sample s text owner none plain =
       let above : List Owned = owned_lines st.format earlier in
       let groups : (so_far st above F).groups ≡ grown st (kind_of above F) F s (so_far st above F).groups = rw plain refl in
@@ -427,7 +427,7 @@ label_sets_swap (x ∷ xs) (y ∷ ys) = ap (λ b. (b && bytes_eq x.value y.value
     ∙ ap (λ b. (bytes_eq y.name x.name && b) && label_sets_eq xs ys) (bytes_swap x.value y.value)
     ∙ ap (λ b. (bytes_eq y.name x.name && bytes_eq y.value x.value) && b) (label_sets_swap xs ys)
 
-key_same : (st : Setting) (s t : Sample) → key_eq (key_of st s) (key_of st t) ≡ is_same_series st s t
+key_same : (st : Setting) (s t : Sample) → sample_key_eq (key_of st s) (key_of st t) ≡ is_same_series st s t
 key_same st s t = ap (λ b. b && label_sets_eq (kept_labels st.treatment s.labels) (kept_labels st.treatment t.labels)) (bytes_swap s.name t.name)
     ∙ ap (λ b. bytes_eq t.name s.name && b) (label_sets_swap (kept_labels st.treatment s.labels) (kept_labels st.treatment t.labels))
 
@@ -438,18 +438,18 @@ or_comm false true = refl
 or_comm false false = refl
 
 -- Duplicate, by the keys
-pub duplicate_keys : (st : Setting) (above : List Owned) (s : Sample) → list_any (key_eq (key_of st s)) (keys_of st above) ≡ is_duplicate st above s
-unfolding keys_of is_duplicate
+pub duplicate_keys : (st : Setting) (above : List Owned) (s : Sample) → list_any (sample_key_eq (key_of st s)) (keys_above st above) ≡ is_duplicate st above s
+unfolding keys_above is_duplicate
 duplicate_keys st [] s = refl
 duplicate_keys st (o ∷ above) s =
-    list_any-append (key_eq (key_of st s)) (keys_of st above) (option_to_list (option_map (key_of st) (sample_of_line o.item)))
-    ∙ or_comm (list_any (key_eq (key_of st s)) (keys_of st above)) (list_any (key_eq (key_of st s)) (option_to_list (option_map (key_of st) (sample_of_line o.item))))
-    ∙ ap (λ b. b || list_any (key_eq (key_of st s)) (keys_of st above)) (by (sample_of_line o.item))
+    list_any-append (sample_key_eq (key_of st s)) (keys_above st above) (option_to_list (option_map (key_of st) (sample_of_line o.item)))
+    ∙ or_comm (list_any (sample_key_eq (key_of st s)) (keys_above st above)) (list_any (sample_key_eq (key_of st s)) (option_to_list (option_map (key_of st) (sample_of_line o.item))))
+    ∙ ap (λ b. b || list_any (sample_key_eq (key_of st s)) (keys_above st above)) (by (sample_of_line o.item))
     ∙ ap (λ b. some_passes (is_same_series st s) (sample_of_line o.item) || b) (duplicate_keys st above s)
   where
-    by : (t : Option Sample) → list_any (key_eq (key_of st s)) (option_to_list (option_map (key_of st) t)) ≡ some_passes (is_same_series st s) t
+    by : (t : Option Sample) → list_any (sample_key_eq (key_of st s)) (option_to_list (option_map (key_of st) t)) ≡ some_passes (is_same_series st s) t
     by None = refl
-    by (Some t) = or_false (key_eq (key_of st s) (key_of st t)) ∙ key_same st s t
+    by (Some t) = or_false (sample_key_eq (key_of st s) (key_of st t)) ∙ key_same st s t
 
 -- ---- a sample by its name
 

@@ -31,9 +31,9 @@ use Rattle.sample_groups.proofs.Laws.{shared_group, order_kept}
 use Rattle.family_rules.specs.declared.family.Descriptor.{Descriptor}
 use Rattle.family_rules.specs.declared.family.Descriptor.TheVariants as sorts
 use Rattle.packed_keys.specs.declared.sample_key.SampleKey.{SampleKey}
-use Rattle.family_rules.specs.Checking.{Checking, groups_in, so_far, left_families, current_family, keys_of, key_of, IsTextItem, Stands}
+use Rattle.family_rules.specs.Checking.{Checking, groups_so_far, so_far, left_families, current_family, keys_above, key_of, IsTextItem, Stands}
 use Rattle.family_rules.specs.Steps.{is_current_family, current_kind, is_of_sort, begun, reached, current_with, with_current, with_part_in, with_sample, left_stop, place_stop, fits_order, order_stop, sample_stop, is_current_sample, part_or_rule, TellsPart, Takes, IsReady}
-use Rattle.packed_keys.specs.Packing.{key_eq}
+use Rattle.packed_keys.specs.Packing.{sample_key_eq}
 use Rattle.family_rules.proofs.Lists.{bytes_same, pairs}
 use Rattle.family_rules.proofs.Faults.{AreFit, fit_lines, text_family, plain_or_grouped, plain_name, plain_measure, sound_samples, described, described_fault, unit_fault, left_fault, measure_fault, rest_fault, sample_fault, blank_fault, comment_fault, eof_fault}
 use Rattle.family_rules.proofs.Kept.{reversed_samples}
@@ -142,15 +142,15 @@ stop_kept : (st : Setting) (c : Checking) (earlier : List Item) (s : Sample) (br
     → sample_stop c (key_of c.setting s) broken ≡ cond (is_duplicate st (owned_lines st.format earlier) s) (Some rules.Duplicate) (option_or broken (cond (is_past_limit st earlier) (Some rules.TooMany) None))
 unfolding sample_stop is_past_limit
 stop_kept st c earlier s broken stands =
-    let double : list_any (key_eq (key_of c.setting s)) c.seen ≡ is_duplicate st (owned_lines st.format earlier) s =
-    (λ i. list_any (key_eq (key_of (stands.setting i) s)) (stands.seen i)) ∙ duplicate_keys st (owned_lines st.format earlier) s in
+    let double : list_any (sample_key_eq (key_of c.setting s)) c.seen ≡ is_duplicate st (owned_lines st.format earlier) s =
+    (λ i. list_any (sample_key_eq (key_of (stands.setting i) s)) (stands.seen i)) ∙ duplicate_keys st (owned_lines st.format earlier) s in
     let past : nat_le c.setting.limit c.samples ≡ nat_le st.limit (count_by is_sample earlier) = λ i. nat_le (stands.setting i).limit (stands.samples i) in
     λ i. cond (double i) (Some rules.Duplicate) (option_or broken (cond (past i) (Some rules.TooMany) None))
 
 -- a rule that is broken refuses the sample
 stop_some : (c : Checking) (key : SampleKey) (rule : Rule) → sample_stop c key (Some rule) ≡ None → ⊥
 unfolding sample_stop
-stop_some c key rule h = by (list_any (key_eq key) c.seen) h
+stop_some c key rule h = by (list_any (sample_key_eq key) c.seen) h
   where
     by : (b : Bool) → cond b (Some rules.Duplicate) (Some rule) ≡ None → ⊥
     by true e = cc
@@ -261,7 +261,7 @@ module _ (s : Sample) (c : Checking) (d : Checking) (own : is_current_sample c.s
       → has_bad_threshold (kind_of (owned_lines st.format earlier) (owner st earlier)) (owner st earlier) s ≡ false
       → order_stop given (kept_labels c.setting.treatment s.labels) (part_of (owner st earlier) s) c.current
       ≡ cond (is_out_of_order st (kind_of (owned_lines st.format earlier) (owner st earlier)) (owner st earlier) (samples_of (owned_lines st.format earlier) (owner st earlier)) s) (Some rules.Order) None
-  unfolding so_far groups_in
+  unfolding so_far groups_so_far
   order_here st earlier stands grouped valued placed =
       let above : List Owned = owned_lines st.format earlier in
       let F : List ℕ = owner st earlier in
@@ -423,21 +423,21 @@ pub negated_true : (a b : Bool) → a ≡ not b → a ≡ true → b ≡ false
 negated_true a false h e = refl
 negated_true a true h e = absurd (let f : true ≡ false = sym e ∙ h in cc)
 
-pub stop_duplicate : (c : Checking) (key : SampleKey) (broken : Option Rule) → list_any (key_eq key) c.seen ≡ true → Some rules.Duplicate ≡ sample_stop c key broken
+pub stop_duplicate : (c : Checking) (key : SampleKey) (broken : Option Rule) → list_any (sample_key_eq key) c.seen ≡ true → Some rules.Duplicate ≡ sample_stop c key broken
 unfolding sample_stop
 stop_duplicate c key broken h = rw h refl
 
-pub stop_broken : (c : Checking) (key : SampleKey) (broken : Option Rule) → list_any (key_eq key) c.seen ≡ false → is_some broken ≡ true → broken ≡ sample_stop c key broken
+pub stop_broken : (c : Checking) (key : SampleKey) (broken : Option Rule) → list_any (sample_key_eq key) c.seen ≡ false → is_some broken ≡ true → broken ≡ sample_stop c key broken
 unfolding sample_stop
 stop_broken c key None h some = absurd (let f : false ≡ true = some in cc)
 stop_broken c key (Some rule) h some = rw h refl
 
-pub stop_many : (c : Checking) (key : SampleKey) (broken : Option Rule) → list_any (key_eq key) c.seen ≡ false → is_some broken ≡ false → c.setting.limit ≤ c.samples → Some rules.TooMany ≡ sample_stop c key broken
+pub stop_many : (c : Checking) (key : SampleKey) (broken : Option Rule) → list_any (sample_key_eq key) c.seen ≡ false → is_some broken ≡ false → c.setting.limit ≤ c.samples → Some rules.TooMany ≡ sample_stop c key broken
 unfolding sample_stop
 stop_many c key (Some rule) h some many = absurd (let f : true ≡ false = some in cc)
 stop_many c key None h some many = rw (h, le-leb c.setting.limit c.samples many) refl
 
-pub stop_none : (c : Checking) (key : SampleKey) (broken : Option Rule) → list_any (key_eq key) c.seen ≡ false → is_some broken ≡ false → c.samples < c.setting.limit → None ≡ sample_stop c key broken
+pub stop_none : (c : Checking) (key : SampleKey) (broken : Option Rule) → list_any (sample_key_eq key) c.seen ≡ false → is_some broken ≡ false → c.samples < c.setting.limit → None ≡ sample_stop c key broken
 unfolding sample_stop
 stop_none c key (Some rule) h some few = absurd (let f : true ≡ false = some in cc)
 stop_none c key None h some few = let past : nat_le c.setting.limit c.samples ≡ false = grind (arith, nat_tests) in rw (h, past) refl
@@ -453,7 +453,7 @@ module _ (c : Checking) where
     text = s.text;
     left = s.left ∙ ap (λ l. pairs (so_far st l) (left_families l)) (sym lines);
     current = s.current ∙ ap (current_family st) (sym lines);
-    seen = s.seen ∙ ap (keys_of st) (sym lines);
+    seen = s.seen ∙ ap (keys_above st) (sym lines);
     samples = s.samples ∙ samples;
     working = s.working;
     text_items = (text, s.text_items);

@@ -58,8 +58,8 @@ has_sort _ f = false
 -- ---- what the lines above come to
 
 -- the groups of samples, where their kind has groups
-unfoldable pub groups_in : Setting → Kind → List ℕ → List Sample → List (LabelSet × Gathered)
-groups_in st kind family samples = if is_grouped kind then groups_from (map (entry_of st kind family) samples) else []
+unfoldable pub groups_so_far : Setting → Kind → List ℕ → List Sample → List (LabelSet × Gathered)
+groups_so_far st kind family samples = if is_grouped kind then groups_from (map (entry_of st kind family) samples) else []
 
 -- what is known of a family from these lines
 unfoldable pub so_far : Setting → List Owned → List ℕ → FamilySoFar
@@ -68,7 +68,7 @@ so_far st above family = record {
   kind = first_some (declared_kind family) above;
   unit = first_some (unit_in family) above;
   values = map (λ (s : Sample). s.value) (samples_of (reverse above) family);
-  groups = groups_in st (kind_of above family) family (samples_of (reverse above) family);
+  groups = groups_so_far st (kind_of above family) family (samples_of (reverse above) family);
 }
 
 -- the families that were left before a line of this family, in the order in which they were left
@@ -92,9 +92,9 @@ abbrev pub key_of : Setting → Sample → SampleKey
 key_of st s = record { name = s.name; labels = kept_labels st.treatment s.labels }
 
 -- the keys of the samples in the order of their lines
-unfoldable pub keys_of : Setting → List Owned → List SampleKey
-keys_of st [] = []
-keys_of st (o ∷ above) = keys_of st above ++ option_to_list (option_map (key_of st) (sample_of_line o.item))
+unfoldable pub keys_above : Setting → List Owned → List SampleKey
+keys_above st [] = []
+keys_above st (o ∷ above) = keys_above st above ++ option_to_list (option_map (key_of st) (sample_of_line o.item))
 
 -- ---- what a checker stands for
 
@@ -115,7 +115,7 @@ pub record Stands (st : Setting) (c : Checking) (earlier : List Item) : Type 0 w
   pub text : st.format ≡ Text
   pub left : c.left ≡ map (λ family. (family, so_far st (owned_lines st.format earlier) family)) (left_families (owned_lines st.format earlier))
   pub current : c.current ≡ current_family st (owned_lines st.format earlier)
-  pub seen : c.seen ≡ keys_of st (owned_lines st.format earlier)
+  pub seen : c.seen ≡ keys_above st (owned_lines st.format earlier)
   pub samples : c.samples ≡ count_by is_sample earlier
   pub working : c.stopped ≡ None
   pub text_items : AreTextItems earlier

@@ -35,8 +35,8 @@ use Rattle.family_rules.specs.declared.family.Descriptor.{Descriptor}
 use Rattle.family_rules.specs.declared.family.Descriptor.TheVariants as sorts
 use Rattle.family_rules.specs.declared.family.FamilySoFar.{FamilySoFar}
 use Rattle.packed_keys.specs.declared.sample_key.SampleKey.{SampleKey}
-use Rattle.packed_keys.specs.Packing.{key_eq}
-use Rattle.family_rules.specs.Checking.{Checking, no_lines, has_samples, kind_in, so_far, left_before, keys_of, IsTextItem, AreTextItems, Stands}
+use Rattle.packed_keys.specs.Packing.{sample_key_eq}
+use Rattle.family_rules.specs.Checking.{Checking, no_lines, has_samples, kind_in, so_far, left_before, keys_above, IsTextItem, AreTextItems, Stands}
 
 -- ---- reading
 
@@ -143,7 +143,7 @@ order_stop kind labels part current = if fits_order kind labels part current the
 -- Duplicate, then what else is broken, then TooMany
 unfoldable pub sample_stop : Checking → SampleKey → Option Rule → Option Rule
 sample_stop c key broken =
-    if list_any (key_eq key) c.seen then Some rules.Duplicate
+    if list_any (sample_key_eq key) c.seen then Some rules.Duplicate
     else option_or broken (if nat_le c.setting.limit c.samples then Some rules.TooMany else None)
 
 -- Value or Threshold, or else the part of a sample
@@ -166,7 +166,7 @@ pub record IsReady (st : Setting) (c : Checking) (earlier : List Item) (family :
   pub text : st.format ≡ Text
   pub left : c.left ≡ map (λ name. (name, so_far st (owned_lines st.format earlier) name)) (left_before family (owned_lines st.format earlier))
   pub current : c.current ≡ Some (record { name = family; family = so_far st (owned_lines st.format earlier) family })
-  pub seen : c.seen ≡ keys_of st (owned_lines st.format earlier)
+  pub seen : c.seen ≡ keys_above st (owned_lines st.format earlier)
   pub samples : c.samples ≡ count_by is_sample earlier
   pub working : c.stopped ≡ None
   pub text_items : AreTextItems earlier
@@ -180,8 +180,8 @@ pub record Takes (item : Item) (old new : Checking) (broken : Option Rule) : Typ
 -- ---- the page
 
 -- the reading of a sample
-abbrev pub reading_at : Kind → List ℕ → SampleKey → Number → Reading
-reading_at kind unit key value = record {
+abbrev pub plain_reading : Kind → List ℕ → SampleKey → Number → Reading
+plain_reading kind unit key value = record {
   key = record { name = key.name; kind = kind; unit = unit; labels = key.labels };
   value = values.Plain value;
   created = None;
@@ -193,7 +193,7 @@ reading_at kind unit key value = record {
 abbrev pub readings_at : Kind → List ℕ → List SampleKey → List Number → List Reading
 readings_at kind unit [] vs = []
 readings_at kind unit (key ∷ keys) [] = []
-readings_at kind unit (key ∷ keys) (v ∷ vs) = reading_at kind unit key v ∷ readings_at kind unit keys vs
+readings_at kind unit (key ∷ keys) (v ∷ vs) = plain_reading kind unit key v ∷ readings_at kind unit keys vs
 
 -- the readings of what is known of a family; the keys of its samples stand in front
 abbrev pub readings_in : List ℕ → FamilySoFar → List SampleKey → List Reading

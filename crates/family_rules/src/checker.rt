@@ -1,3 +1,4 @@
+//! The checker: items in, and the first fault, a page or its counts out.
 ghost use Rattle.std.specs.Prelude.{◌≡◌, ◌++◌, List, [], ◌∷◌, Err, IfErr, true, not, is_some, None, Some, IfOk, OnOk};
 ghost use Rattle.std.specs.Map.{lookup};
 ghost use Rattle.std.specs.Option.{option_copied};

@@ -3,7 +3,7 @@
 ghost use Rattle.std.specs.Prelude.{◌≡◌, ◌++◌, [], ◌∷◌, drop, not, IfOk, OnOk, MatchOption, List, if◌then◌else◌};
 ghost use Rattle.std.specs.List.{list_any};
 ghost use Rattle.std.specs.Vec.Iter.{into_iter_items};
-ghost use Rattle.packed_keys.specs.Packing.{key_eq};
+ghost use Rattle.packed_keys.specs.Packing.{sample_key_eq};
 ghost use Rattle.packed_keys.specs.declared.sample_key.SampleKey.{SampleKey as AnyKey};
 ghost use Rattle.family_rules.specs.SampleKeys.{AreKept, HasRoomForKey};
 
@@ -68,7 +68,7 @@ impl SampleKeys {
 
     /// Adds a key, and answers whether it is new.
     pub fn insert(&mut self, key: SampleKey) -> Result<bool, Memory>
-        ensures added { IfOk result (λ added. added ≡ not (list_any (key_eq key) self.old)) }
+        ensures added { IfOk result (λ added. added ≡ not (list_any (sample_key_eq key) self.old)) }
         ensures keys { IfOk result (λ added. self.new ≡ (if added then self.old ++ key ∷ [] else self.old)) }
     {
         make_room(&mut self.kept)?;

@@ -1,6 +1,6 @@
 //! The families and readings of a page, from what was kept of its lines (OpenMetrics 1.0, "Data Model").
 ghost use Rattle.std.specs.Prelude.{◌≡◌, [], drop, length, unwrap_or, IfOk, OnOk};
-ghost use Rattle.family_rules.specs.Steps.{reading_at, readings_at, family_at, families_at};
+ghost use Rattle.family_rules.specs.Steps.{plain_reading, readings_at, family_at, families_at};
 
 use crate::family::FamilySoFar;
 use crate::keys::KeyEntries;
@@ -31,7 +31,7 @@ fn reading(
     key: SampleKey,
     value: Number,
 ) -> Result<Reading, Memory>
-    ensures { IfOk result (λ reading. reading ≡ reading_at kind unit.now key value) }
+    ensures { IfOk result (λ reading. reading ≡ plain_reading kind unit.now key value) }
 {
     let unit = unit.copy()?;
     Ok(Reading {

@@ -3,7 +3,7 @@ use Rattle.std.proofs.Common.{◌≡◌, ℕ, true, false, List, [], ◌∷◌, 
 use Rattle.std.specs.Prelude.{codes}
 use Rattle.label_sets.specs.declared.label.Label.{Label}
 use Rattle.packed_keys.specs.declared.sample_key.SampleKey.{SampleKey}
-use Rattle.packed_keys.specs.Packing.{length_code, part_bytes, label_bytes, labels_bytes, key_bytes, length_at, part_at, label_at, labels_at, labels_in, key_at, key_eq}
+use Rattle.packed_keys.specs.Packing.{length_code, part_bytes, label_bytes, labels_bytes, key_bytes, length_at, part_at, packed_label_at, packed_labels_at, labels_in, key_at, sample_key_eq}
 
 abbrev label : List ℕ → List ℕ → Label
 label name value = record { name = name; value = value }
@@ -70,11 +70,11 @@ unfolding key_bytes labels_bytes label_bytes part_bytes length_code
 marks = refl
 
 key_read : key_at (1 ∷ 97 ∷ 2 ∷ 1 ∷ 98 ∷ 2 ∷ 99 ∷ 100 ∷ 1 ∷ 101 ∷ 1 ∷ 102 ∷ []) ≡ key (codes "a") (label (codes "b") (codes "cd") ∷ label (codes "e") (codes "f") ∷ [])
-unfolding key_at part_at labels_in labels_at length_at label_at
+unfolding key_at part_at labels_in packed_labels_at length_at packed_label_at
 key_read = refl
 
-same_keys : key_eq (key (codes "a") (label (codes "b") (codes "1") ∷ [])) (key (codes "a") (label (codes "b") (codes "1") ∷ [])) ≡ true
+same_keys : sample_key_eq (key (codes "a") (label (codes "b") (codes "1") ∷ [])) (key (codes "a") (label (codes "b") (codes "1") ∷ [])) ≡ true
 same_keys = refl
 
-other_name : key_eq (key (codes "a") []) (key (codes "b") []) ≡ false
+other_name : sample_key_eq (key (codes "a") []) (key (codes "b") []) ≡ false
 other_name = refl

@@ -10,7 +10,7 @@ use Rattle.label_sets.specs.declared.label.Label.{Label}
 use Rattle.label_sets.specs.Labels.{label_sets_eq}
 use Rattle.label_sets.proofs.Laws.{sets_decide, same_tests}
 use Rattle.packed_keys.specs.declared.sample_key.SampleKey.{SampleKey}
-use Rattle.packed_keys.specs.Packing.{length_code, part_bytes, label_bytes, labels_bytes, key_bytes, length_at, part_at, label_at, labels_at, labels_in, key_at, key_eq}
+use Rattle.packed_keys.specs.Packing.{length_code, part_bytes, label_bytes, labels_bytes, key_bytes, length_at, part_at, packed_label_at, packed_labels_at, labels_in, key_at, sample_key_eq}
 
 -- a number and what stands behind it
 abbrev counted : List ℕ → ℕ → ℕ × List ℕ
@@ -73,8 +73,8 @@ abbrev named : List ℕ × List ℕ → Label × List ℕ
 named p = (record { name = p.0; value = (part_at p.1).0 }, (part_at p.1).1)
 
 -- a label is read back
-pub label_back : (l : Label) (xs : List ℕ) → label_at (label_bytes l ++ xs) ≡ (l, xs)
-unfolding label_at label_bytes
+pub label_back : (l : Label) (xs : List ℕ) → packed_label_at (label_bytes l ++ xs) ≡ (l, xs)
+unfolding packed_label_at label_bytes
 label_back l xs =
     let e : part_at (part_bytes l.name ++ part_bytes l.value ++ xs) ≡ (l.name, part_bytes l.value ++ xs) = ap part_at (append_assoc (part_bytes l.name) (part_bytes l.value) xs) ∙ part_back l.name (part_bytes l.value ++ xs) in
     let f = part_back l.value xs in
@@ -84,8 +84,8 @@ label_back l xs =
     made p e = rw e (rw (part_back l.value xs) refl)
 
 -- labels are read back
-pub labels_back : (ls : List Label) → labels_at (length ls) (flat_map label_bytes ls) ≡ ls
-unfolding labels_at
+pub labels_back : (ls : List Label) → packed_labels_at (length ls) (flat_map label_bytes ls) ≡ ls
+unfolding packed_labels_at
 labels_back [] = refl
 labels_back (l ∷ ls) = rw (label_back l (flat_map label_bytes ls)) (ap (λ (ms : List Label). l ∷ ms) (labels_back ls))
 
@@ -101,22 +101,22 @@ key_back key = rw (part_back key.name (labels_bytes key.labels)) (rw (set_back k
 
 -- ---- equality
 
-pub key_decides : (a b : SampleKey) → Decides (key_eq a b) (a ≡ b)
+pub key_decides : (a b : SampleKey) → Decides (sample_key_eq a b) (a ≡ b)
 key_decides a b =
     let both = Decides-and (bytes_eq a.name b.name) (label_sets_eq a.labels b.labels) (bytes_decides a.name b.name) (sets_decide a.labels b.labels) in
     (λ e i. record { name = (both.0 e).0 i; labels = (both.0 e).1 i }, λ e. both.1 (ap (λ (k : SampleKey). k.name) e, ap (λ (k : SampleKey). k.labels) e))
 
 -- a string that is a key's is the bytes of a key just where it is that key
-pub same_key : (key : SampleKey) (string : List ℕ) → key_bytes (key_at string) ≡ string → bytes_eq (key_bytes key) string ≡ key_eq key (key_at string)
-same_key key string packed = same_tests (bytes_eq (key_bytes key) string) (key_eq key (key_at string))
+pub same_key : (key : SampleKey) (string : List ℕ) → key_bytes (key_at string) ≡ string → bytes_eq (key_bytes key) string ≡ sample_key_eq key (key_at string)
+same_key key string packed = same_tests (bytes_eq (key_bytes key) string) (sample_key_eq key (key_at string))
     (λ t. (key_decides key (key_at string)).1 (sym (key_back key) ∙ ap key_at ((bytes_decides (key_bytes key) string).0 t)))
     (λ t. (bytes_decides (key_bytes key) string).1 (ap key_bytes ((key_decides key (key_at string)).0 t) ∙ packed))
 
 -- a key was seen just where its bytes were
 pub same_seen : (key : SampleKey) (strings : List (List ℕ)) → AllByRecursion (λ string. key_bytes (key_at string) ≡ string) strings
-    → list_any (bytes_eq (key_bytes key)) strings ≡ list_any (key_eq key) (map key_at strings)
+    → list_any (bytes_eq (key_bytes key)) strings ≡ list_any (sample_key_eq key) (map key_at strings)
 same_seen key [] h = refl
-same_seen key (s ∷ ss) h = rw (same_key key s h.0) (ap (λ (b : Bool). key_eq key (key_at s) || b) (same_seen key ss h.1))
+same_seen key (s ∷ ss) h = rw (same_key key s h.0) (ap (λ (b : Bool). sample_key_eq key (key_at s) || b) (same_seen key ss h.1))
 
 -- a string that is a set's is the bytes of a set just where it is that set
 pub same_set : (ls : List Label) (string : List ℕ) → labels_bytes (labels_in string) ≡ string → bytes_eq (labels_bytes ls) string ≡ label_sets_eq ls (labels_in string)

@@ -4,7 +4,7 @@ use Rattle.std.specs.List.{flat_map, All}
 use Rattle.std.proofs.lemmas.List.{nil_from_length, take_min, drop_min, append-nil, length-append, get_or_at}
 use Rattle.std.proofs.lemmas.Bool.Decides.{nat_tests}
 use Rattle.label_sets.specs.declared.label.Label.{Label}
-use Rattle.packed_keys.specs.Packing.{length_code, part_bytes, label_bytes, labels_bytes, length_at, part_at, label_at, labels_at, labels_in}
+use Rattle.packed_keys.specs.Packing.{length_code, part_bytes, label_bytes, labels_bytes, length_at, part_at, packed_label_at, packed_labels_at, labels_in}
 use Rattle.packed_keys.specs.Texts.{IsTextLabel}
 
 -- ---- lengths
@@ -71,10 +71,10 @@ part_is bytes rest front back count n r k fits m f b =
 
 -- ---- labels
 
-length-labels_at : (n : ℕ) (bs : List ℕ) → length (labels_at n bs) ≡ n
-unfolding labels_at
-length-labels_at zero bs = refl
-length-labels_at (suc n) bs = let ih : length (labels_at n (label_at bs).1) ≡ n = length-labels_at n (label_at bs).1 in omega arith
+length-packed_labels_at : (n : ℕ) (bs : List ℕ) → length (packed_labels_at n bs) ≡ n
+unfolding packed_labels_at
+length-packed_labels_at zero bs = refl
+length-packed_labels_at (suc n) bs = let ih : length (packed_labels_at n (packed_label_at bs).1) ≡ n = length-packed_labels_at n (packed_label_at bs).1 in omega arith
 
 some_byte : (l : Label) → 1 ≤ length (label_bytes l)
 unfolding label_bytes part_bytes length_code
@@ -92,8 +92,8 @@ few_labels (l ∷ ls) =
 pub count_within : (bytes : List ℕ) → labels_bytes (labels_in bytes) ≡ bytes → (length_at bytes).0 ≤ length bytes
 unfolding labels_in labels_bytes
 count_within bytes packed =
-    let ls = labels_at (length_at bytes).0 (length_at bytes).1 in
-    let count : length ls ≡ (length_at bytes).0 = length-labels_at (length_at bytes).0 (length_at bytes).1 in
+    let ls = packed_labels_at (length_at bytes).0 (length_at bytes).1 in
+    let count : length ls ≡ (length_at bytes).0 = length-packed_labels_at (length_at bytes).0 (length_at bytes).1 in
     let few : length ls ≤ length (flat_map label_bytes ls) = few_labels ls in
     let both : length (length_code (length ls) ++ flat_map label_bytes ls) ≡ length (length_code (length ls)) + length (flat_map label_bytes ls) = length-append (length_code (length ls)) (flat_map label_bytes ls) in
     let all : length (length_code (length ls) ++ flat_map label_bytes ls) ≡ length bytes = ap length packed in
@@ -102,7 +102,7 @@ count_within bytes packed =
 -- on the way through a set: these labels were read, and so many are left in these bytes
 pub record IsReadTo (bytes : List ℕ) (count : ℕ) (labels : List Label) (left : List ℕ) : Type 0 where
   pub within : length labels ≤ count
-  pub whole : labels ++ labels_at (count - length labels) left ≡ labels_in bytes
+  pub whole : labels ++ packed_labels_at (count - length labels) left ≡ labels_in bytes
 
 pub labels_begin : (bytes left : List ℕ) (count : ℕ) → labels_bytes (labels_in bytes) ≡ bytes → length bytes ≤ 2 ^ 64 - 1 → count ≡ min (length_at bytes).0 (2 ^ 64 - 1) → left ≡ (length_at bytes).1 → IsReadTo bytes count [] left
 unfolding labels_in
@@ -112,39 +112,39 @@ labels_begin bytes left count packed fits k e =
     record { within = omega arith; whole = rw (all, e) refl }
 
 next_label : (bytes left : List ℕ) (count : ℕ) (labels : List Label) → IsReadTo bytes count labels left → length labels < count
-    → labels ++ (label_at left).0 ∷ labels_at (count - (length labels + 1)) (label_at left).1 ≡ labels_in bytes
-unfolding labels_at
+    → labels ++ (packed_label_at left).0 ∷ packed_labels_at (count - (length labels + 1)) (packed_label_at left).1 ≡ labels_in bytes
+unfolding packed_labels_at
 next_label bytes left count labels is lt =
     let more : count - length labels ≡ suc (count - (length labels + 1)) = omega arith in
     rw more at is.whole
 
 -- the label at the front is a text's
-pub next_text : (bytes left : List ℕ) (count : ℕ) (labels : List Label) → IsReadTo bytes count labels left → length labels < count → All IsTextLabel (labels_in bytes) → IsTextLabel (label_at left).0
+pub next_text : (bytes left : List ℕ) (count : ℕ) (labels : List Label) → IsReadTo bytes count labels left → length labels < count → All IsTextLabel (labels_in bytes) → IsTextLabel (packed_label_at left).0
 next_text bytes left count labels is lt texts =
-    let l = (label_at left).0 in
-    let ls = labels ++ l ∷ labels_at (count - (length labels + 1)) (label_at left).1 in
+    let l = (packed_label_at left).0 in
+    let ls = labels ++ l ∷ packed_labels_at (count - (length labels + 1)) (packed_label_at left).1 in
     let all : All IsTextLabel ls = subst (All IsTextLabel) (sym (next_label bytes left count labels is lt)) texts in
-    let long : length ls ≡ length labels + length (l ∷ labels_at (count - (length labels + 1)) (label_at left).1) = length-append labels (l ∷ labels_at (count - (length labels + 1)) (label_at left).1) in
-    subst IsTextLabel (get_or_at labels l (labels_at (count - (length labels + 1)) (label_at left).1) l (length labels) refl) (all (length labels) l (omega arith))
+    let long : length ls ≡ length labels + length (l ∷ packed_labels_at (count - (length labels + 1)) (packed_label_at left).1) = length-append labels (l ∷ packed_labels_at (count - (length labels + 1)) (packed_label_at left).1) in
+    subst IsTextLabel (get_or_at labels l (packed_labels_at (count - (length labels + 1)) (packed_label_at left).1) l (length labels) refl) (all (length labels) l (omega arith))
 
-pub labels_go_on : (bytes left left' : List ℕ) (count : ℕ) (labels labels' : List Label) → IsReadTo bytes count labels left → length labels < count → labels' ≡ labels ++ (label_at left).0 ∷ [] → left' ≡ (label_at left).1
+pub labels_go_on : (bytes left left' : List ℕ) (count : ℕ) (labels labels' : List Label) → IsReadTo bytes count labels left → length labels < count → labels' ≡ labels ++ (packed_label_at left).0 ∷ [] → left' ≡ (packed_label_at left).1
     → IsReadTo bytes count labels' left'
 labels_go_on bytes left left' count labels labels' is lt m e =
-    let long : length (labels ++ (label_at left).0 ∷ []) ≡ length labels + 1 = length-append labels ((label_at left).0 ∷ []) in
+    let long : length (labels ++ (packed_label_at left).0 ∷ []) ≡ length labels + 1 = length-append labels ((packed_label_at left).0 ∷ []) in
     rw (m, e) (record {
       within = omega arith;
-      whole = rw long (append_assoc labels ((label_at left).0 ∷ []) (labels_at (count - (length labels + 1)) (label_at left).1) ∙ next_label bytes left count labels is lt);
+      whole = rw long (append_assoc labels ((packed_label_at left).0 ∷ []) (packed_labels_at (count - (length labels + 1)) (packed_label_at left).1) ∙ next_label bytes left count labels is lt);
     })
 
 pub labels_end : (bytes left : List ℕ) (count : ℕ) (labels : List Label) → IsReadTo bytes count labels left → count ≤ length labels → labels ≡ labels_in bytes
-unfolding labels_at
+unfolding packed_labels_at
 labels_end bytes left count labels is le =
     let none : count - length labels ≡ 0 = omega arith in
-    let whole : labels ++ labels_at 0 left ≡ labels_in bytes = rw none at is.whole in
+    let whole : labels ++ packed_labels_at 0 left ≡ labels_in bytes = rw none at is.whole in
     sym (append-nil labels) ∙ whole
 
 -- the label that two parts make
 pub label_is : (bytes name middle value rest : List ℕ) → name ≡ (part_at bytes).0 → middle ≡ (part_at bytes).1 → value ≡ (part_at middle).0 → rest ≡ (part_at middle).1
-    → (record { name = name; value = value } ≡ (label_at bytes).0) × (rest ≡ (label_at bytes).1)
-unfolding label_at
+    → (record { name = name; value = value } ≡ (packed_label_at bytes).0) × (rest ≡ (packed_label_at bytes).1)
+unfolding packed_label_at
 label_is bytes name middle value rest n m v r = rw (n, v, r, m) (refl, refl)

@@ -12,7 +12,7 @@ use Rattle.label_sets.specs.declared.label.Label.{Label}
 use Rattle.label_sets.specs.Labels.{label_sets_eq}
 use Rattle.byte_table.proofs.Laws.{among, place_new}
 use Rattle.packed_keys.specs.declared.sample_key.SampleKey.{SampleKey}
-use Rattle.packed_keys.specs.Packing.{labels_bytes, labels_in, key_bytes, key_at, key_eq, part_at}
+use Rattle.packed_keys.specs.Packing.{labels_bytes, labels_in, key_bytes, key_at, sample_key_eq, part_at}
 use Rattle.packed_keys.specs.Texts.{IsTextSet, IsTextKey, IsPackedSet, IsPackedKey}
 use Rattle.packed_keys.proofs.Packed.{part_back, key_back, set_back, same_key, same_set}
 
@@ -45,12 +45,12 @@ pub key_packed : (key : SampleKey) → IsTextKey key → IsPackedKey (key_bytes 
 key_packed key text = record { packed = ap key_bytes (key_back key); text = subst IsTextKey (sym (key_back key)) text }
 
 -- a key was seen just where its bytes were
-same_seen : (key : SampleKey) (strings : List (List ℕ)) → AllByRecursion IsPackedKey strings → list_any (bytes_eq (key_bytes key)) strings ≡ list_any (key_eq key) (map key_at strings)
+same_seen : (key : SampleKey) (strings : List (List ℕ)) → AllByRecursion IsPackedKey strings → list_any (bytes_eq (key_bytes key)) strings ≡ list_any (sample_key_eq key) (map key_at strings)
 same_seen key [] h = refl
-same_seen key (s ∷ ss) h = rw (same_key key s h.0.packed) (ap (λ (b : Bool). key_eq key (key_at s) || b) (same_seen key ss h.1))
+same_seen key (s ∷ ss) h = rw (same_key key s h.0.packed) (ap (λ (b : Bool). sample_key_eq key (key_at s) || b) (same_seen key ss h.1))
 
 -- it is new just where no earlier key is equal
-pub is_new : (old new : List (List ℕ)) (key : SampleKey) (found : Option ℕ) → All IsPackedKey old → Put old new (key_bytes key) found → is_none found ≡ not (list_any (key_eq key) (map key_at old))
+pub is_new : (old new : List (List ℕ)) (key : SampleKey) (found : Option ℕ) → All IsPackedKey old → Put old new (key_bytes key) found → is_none found ≡ not (list_any (sample_key_eq key) (map key_at old))
 is_new old new key None is put = ap not (sym put.0 ∙ same_seen key old (recursion_from_All IsPackedKey old is))
 is_new old new key (Some at) is put = ap not (sym (among old (key_bytes key) at put.0) ∙ same_seen key old (recursion_from_All IsPackedKey old is))
 

@@ -7,8 +7,8 @@ use Rattle.label_sets.specs.Labels.{label_sets_eq}
 use Rattle.packed_keys.specs.declared.sample_key.SampleKey.{SampleKey}
 
 -- two samples have one name and one label set
-abbrev pub key_eq : SampleKey → SampleKey → Bool
-key_eq a b = bytes_eq a.name b.name && label_sets_eq a.labels b.labels
+abbrev pub sample_key_eq : SampleKey → SampleKey → Bool
+sample_key_eq a b = bytes_eq a.name b.name && label_sets_eq a.labels b.labels
 
 -- ---- packing
 
@@ -44,17 +44,17 @@ unfoldable pub part_at : List ℕ → List ℕ × List ℕ
 part_at bs = (take (length_at bs).0 (length_at bs).1, drop (length_at bs).0 (length_at bs).1)
 
 -- the label at the front, and what stands behind it
-unfoldable pub label_at : List ℕ → Label × List ℕ
-label_at bs = (record { name = (part_at bs).0; value = (part_at (part_at bs).1).0 }, (part_at (part_at bs).1).1)
+unfoldable pub packed_label_at : List ℕ → Label × List ℕ
+packed_label_at bs = (record { name = (part_at bs).0; value = (part_at (part_at bs).1).0 }, (part_at (part_at bs).1).1)
 
 -- so many labels from the front on
-unfoldable pub labels_at : ℕ → List ℕ → List Label
-labels_at zero bs = []
-labels_at (suc more) bs = (label_at bs).0 ∷ labels_at more (label_at bs).1
+unfoldable pub packed_labels_at : ℕ → List ℕ → List Label
+packed_labels_at zero bs = []
+packed_labels_at (suc more) bs = (packed_label_at bs).0 ∷ packed_labels_at more (packed_label_at bs).1
 
 -- the labels that bytes are
 unfoldable pub labels_in : List ℕ → List Label
-labels_in bs = labels_at (length_at bs).0 (length_at bs).1
+labels_in bs = packed_labels_at (length_at bs).0 (length_at bs).1
 
 -- the key that bytes are
 unfoldable pub key_at : List ℕ → SampleKey

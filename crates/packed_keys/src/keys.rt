@@ -1,3 +1,4 @@
+//! Packed keys, read back one after the other.
 ghost use Rattle.std.specs.Prelude.{◌≡◌, [], ◌∷◌, drop, map, IfOk, OnErr, IsUtf8, MatchOption};
 ghost use Rattle.std.specs.List.{All};
 ghost use Rattle.packed_keys.specs.Packing.{key_at};

@@ -1,6 +1,7 @@
+//! The keys of samples that were seen, each once.
 ghost use Rattle.std.specs.Prelude.{◌≡◌, ◌++◌, [], ◌∷◌, length, not, IfOk, OnErr, if◌then◌else◌};
 ghost use Rattle.std.specs.List.{list_any};
-ghost use Rattle.packed_keys.specs.Packing.{key_eq};
+ghost use Rattle.packed_keys.specs.Packing.{sample_key_eq};
 
 use crate::keys::Keys;
 use crate::packing::put_key;
@@ -52,7 +53,7 @@ impl SeenKeys {
 
     /// Adds a key, and answers whether it is new.
     pub fn insert(&mut self, key: &SampleKey) -> Result<bool, Memory>
-        ensures added { IfOk result (λ added. added ≡ not (list_any (key_eq key.now) self.old)) }
+        ensures added { IfOk result (λ added. added ≡ not (list_any (sample_key_eq key.now) self.old)) }
         ensures keys { IfOk result (λ added. self.new ≡ (if added then self.old ++ key.now ∷ [] else self.old)) }
         ensures err { OnErr result (self.new ≡ self.old) }
     {

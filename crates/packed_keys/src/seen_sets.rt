@@ -1,3 +1,4 @@
+//! The label sets that were seen, each once.
 ghost use Rattle.std.specs.Prelude.{◌≡◌, ◌<◌, ◌++◌, [], ◌∷◌, length, IfOk, OnErr, slice_get, Some, if◌then◌else◌};
 ghost use Rattle.std.specs.List.{list_any};
 ghost use Rattle.label_sets.specs.Labels.{label_sets_eq, without_label};

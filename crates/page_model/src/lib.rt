@@ -7,8 +7,8 @@ mod event;
 mod fault;
 mod format;
 mod item;
-pub mod page_laws;
 mod page;
+pub mod page_laws;
 mod rule;
 
 pub use counts::PageCounts;

@@ -21,7 +21,7 @@ use Rattle.sample_groups.specs.declared.part.Part.{Part}
 use Rattle.sample_groups.specs.declared.part.Part.TheVariants as parts
 use Rattle.sample_groups.specs.Parts.{is_grouped, part_of, entry_of}
 use Rattle.sample_groups.specs.Groups.{Gathered, bucket_in, group_from, parts_in, groups_from, breaks_last, breaks_order, ends_with, is_whole_group}
-use Rattle.sample_groups.specs.Sound.{IsSound, AreSound}
+use Rattle.sample_groups.specs.Sound.{IsSoundSample, AreSound}
 use Rattle.sample_groups.proofs.Members.{when, reverse-cons}
 use Rattle.sample_groups.proofs.Steps.{labels_of, group_at, group_is_kept}
 use Rattle.sample_groups.proofs.Samples.{bucket_part, is_in_group, entries, values_in-entries}
@@ -83,7 +83,7 @@ module _ (st : Setting) (kind : Kind) (family : List ℕ) (histogram : is_histog
       ∙ ap (λ o. buckets_at above labels ++ cons_option (when (is_in_group st kind family labels s) o) []) (bucket_part family s)
 
   -- a sound bucket is above the last of its group
-  above_last : (s : Sample) (above : List Sample) (labels : LabelSet) → AreSound st kind family above → IsSound st kind family above s → sample_group st kind family s ≡ labels → is_bucket family s ≡ true
+  above_last : (s : Sample) (above : List Sample) (labels : LabelSet) → AreSound st kind family above → IsSoundSample st kind family above s → sample_group st kind family s ≡ labels → is_bucket family s ≡ true
       → breaks_last (last_or None (buckets_at above labels)) (bucket_of s) ≡ false
   unfolding group_from
   above_last s above labels sound own group bucket =

@@ -7,7 +7,7 @@ use Rattle.page_model.specs.Written.{Setting}
 use Rattle.page_model.specs.Rules.{has_wrong_suffix, has_bad_value, has_bad_threshold, is_out_of_order}
 
 -- the sample breaks none of them, under the family's samples above it, the nearest first
-pub record IsSound (st : Setting) (kind : Kind) (family : List ℕ) (above : List Sample) (s : Sample) : Type 0 where
+pub record IsSoundSample (st : Setting) (kind : Kind) (family : List ℕ) (above : List Sample) (s : Sample) : Type 0 where
   pub named : has_wrong_suffix st kind family s ≡ false
   pub valued : has_bad_value st.format kind family s ≡ false
   pub placed : has_bad_threshold kind family s ≡ false
@@ -16,4 +16,4 @@ pub record IsSound (st : Setting) (kind : Kind) (family : List ℕ) (above : Lis
 -- none of the samples, the nearest first, breaks one under those above it
 abbrev pub AreSound : Setting → Kind → List ℕ → List Sample → Type 0
 AreSound st kind family [] = ⊤
-AreSound st kind family (s ∷ above) = IsSound st kind family above s × AreSound st kind family above
+AreSound st kind family (s ∷ above) = IsSoundSample st kind family above s × AreSound st kind family above

@@ -1,28 +1,28 @@
 use Rattle.std.proofs.Common.{◌∙◌, ◌+◌, ◌≤◌, ◌<◌, ◌++◌, ◌∷◌, [], ap, sym, subst}
 use Rattle.std.specs.List.{list_any}
 use Rattle.family_rules.specs.Checking.{Checking}
-use Rattle.packed_keys.specs.Packing.{key_eq}
+use Rattle.packed_keys.specs.Packing.{sample_key_eq}
 use Rattle.family_rules.proofs.Taking.{stop_duplicate, stop_broken, stop_many, stop_none, negated, negated_true, put_new_key, sample_added}
 use Rattle.family_rules.proofs.checker.Checker.add_key.Goals as goal
 
 pub returns-then-not-added-clause-broken : goal.returns-then-not-added-clause-broken
 returns-then-not-added-clause-broken c = stop_duplicate c.args.self.now c.args.key c.args.broken
-    (ap (λ (v : Checking). list_any (key_eq c.args.key) v.seen) (sym c.self.view_is) ∙ negated c.in_ok-added.added _ c.in_ok-added.ensures.added c.if-not-added.true)
+    (ap (λ (v : Checking). list_any (sample_key_eq c.args.key) v.seen) (sym c.self.view_is) ∙ negated c.in_ok-added.added _ c.in_ok-added.ensures.added c.if-not-added.true)
 
 pub returns-then-is_some-clause-broken : goal.returns-then-is_some-clause-broken
 returns-then-is_some-clause-broken c = stop_broken c.args.self.now c.args.key c.args.broken
-    (ap (λ (v : Checking). list_any (key_eq c.args.key) v.seen) (sym c.self.view_is) ∙ negated_true c.in_ok-added.added _ c.in_ok-added.ensures.added c.if-not-added.false)
+    (ap (λ (v : Checking). list_any (sample_key_eq c.args.key) v.seen) (sym c.self.view_is) ∙ negated_true c.in_ok-added.added _ c.in_ok-added.ensures.added c.if-not-added.false)
     (sym c.is_some.ensures ∙ c.if-is_some.true)
 
 pub returns-then-self-clause-broken : goal.returns-then-self-clause-broken
 returns-then-self-clause-broken c = stop_many c.args.self.now c.args.key c.args.broken
-    (ap (λ (v : Checking). list_any (key_eq c.args.key) v.seen) (sym c.self.view_is) ∙ negated_true c.in_ok-added.added _ c.in_ok-added.ensures.added c.if-not-added.false)
+    (ap (λ (v : Checking). list_any (sample_key_eq c.args.key) v.seen) (sym c.self.view_is) ∙ negated_true c.in_ok-added.added _ c.in_ok-added.ensures.added c.if-not-added.false)
     (sym c.is_some.ensures ∙ c.if-is_some.false)
     (subst (λ (v : Checking). v.setting.limit ≤ v.samples) c.self.view_is c.if-self.true)
 
 pub returns-clause-broken : goal.returns-clause-broken
 returns-clause-broken c = stop_none c.args.self.now c.args.key c.args.broken
-    (ap (λ (v : Checking). list_any (key_eq c.args.key) v.seen) (sym c.self.view_is) ∙ negated_true c.in_ok-added.added _ c.in_ok-added.ensures.added c.if-not-added.false)
+    (ap (λ (v : Checking). list_any (sample_key_eq c.args.key) v.seen) (sym c.self.view_is) ∙ negated_true c.in_ok-added.added _ c.in_ok-added.ensures.added c.if-not-added.false)
     (sym c.is_some.ensures ∙ c.if-is_some.false)
     (subst (λ (v : Checking). v.samples < v.setting.limit) c.self.view_is c.if-self.false)
 

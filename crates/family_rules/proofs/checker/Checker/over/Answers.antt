@@ -1,10 +1,10 @@
 use Rattle.std.proofs.Common.{refl}
 use Rattle.page_model.specs.Owners.{owned_lines}
-use Rattle.family_rules.specs.Checking.{left_families, current_family, keys_of}
+use Rattle.family_rules.specs.Checking.{left_families, current_family, keys_above}
 use Rattle.family_rules.proofs.checker.Checker.over.Goals as goal
 
 pub returns : goal.returns
-unfolding owned_lines left_families current_family keys_of
+unfolding owned_lines left_families current_family keys_above
 returns c = record {
   setting = refl;
   text = c.requires.text;

@@ -2,7 +2,7 @@ use Rattle.std.proofs.Common.{sym, ap, subst, ◌∙◌, ◌++◌, ◌∷◌, []
 use Rattle.std.specs.Prelude.{is_none}
 use Rattle.std.specs.List.{list_any}
 use Rattle.packed_keys.specs.declared.sample_key.SampleKey.{SampleKey}
-use Rattle.packed_keys.specs.Packing.{key_bytes, key_eq}
+use Rattle.packed_keys.specs.Packing.{key_bytes, sample_key_eq}
 use Rattle.packed_keys.specs.Texts.{IsPackedKey}
 use Rattle.packed_keys.proofs.Seen.{Put, still, key_packed, is_new, keys_are}
 use Rattle.packed_keys.proofs.Steps.{none_test}
@@ -19,7 +19,7 @@ returns-clause-added c =
     let packed : c.as_slice.result.now ≡ key_bytes c.args.key.now = c.as_slice.ensures.value ∙ (c.in_ok-put_key.ensures.added ∙ ap (λ (l : List ℕ). l ++ key_bytes c.args.key.now) c.clear.ensures.items) in
     let put = subst (λ (s : List ℕ). Put c.self.inside.table c.insert.new.self s c.in_ok-found.found) packed (c.in_ok-found.ensures.found, c.in_ok-found.ensures.added) in
     none_test c.in_ok-found.found c.is_none.result c.is_none.ensures
-    ∙ (is_new c.self.inside.table c.insert.new.self c.args.key.now c.in_ok-found.found c.self.invariant put ∙ ap (λ (ks : List SampleKey). not (list_any (key_eq c.args.key.now) ks)) c.self.view_is)
+    ∙ (is_new c.self.inside.table c.insert.new.self c.args.key.now c.in_ok-found.found c.self.invariant put ∙ ap (λ (ks : List SampleKey). not (list_any (sample_key_eq c.args.key.now) ks)) c.self.view_is)
 
 pub returns-clause-keys : goal.returns-clause-keys
 returns-clause-keys c =
