@@ -44,11 +44,11 @@ fn strings(alloc: Global, words: &[&str]) -> Result<Vec<String>, Memory> {
 }
 
 fn failing(alloc: Global, call: Option<u64>) -> Result<List<u64>, Memory> {
-    let mut calls = List::new(alloc);
+    let mut calls = Vec::new(alloc);
     if let Some(call) = call {
         calls.push(call)?;
     }
-    Ok(calls)
+    List::from_vec(calls)
 }
 
 /// The program on these words and this page, of which one read may fail, with room for so many

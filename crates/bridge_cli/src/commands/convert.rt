@@ -28,10 +28,7 @@ fn converted_text(
 {
     let request = event_request(alloc, target, nanos, &Outcome::Page(page))?;
     let mut text = Vec::new(alloc);
-    otlp_json::write(&request, &mut text)?;
-    drop(request);
-    text.reserve_exact(1)?;
-    text.extend_from_slice(b"\n")?;
+    otlp_json::write_line(&request, &mut text)?;
     Ok(text)
 }
 

@@ -8,7 +8,7 @@ loop-page-init g c = (fed_nothing _ _ c.requires, refl)
 
 pub returns-in_err-count-clause-input : goal.returns-in_err-count-clause-input
 returns-in_err-count-clause-input g c =
-    stop_leaves _ _ _ _ _ Read c.from_residual-in_err-count.ensures.1
+    stop_leaves _ _ _ _ _ Read c.from_residual.ensures.1
     (read_failed _ _ _ _ _ _ c.loop-page.taken _ c.loop-page.invariant.0 c.loop-page.invariant.1 c.in_err-count.ensures.bytes c.in_err-count.ensures.cause.failed)
 
 pub returns-then-count-eq0-clause-fed : goal.returns-then-count-eq0-clause-fed

@@ -4,7 +4,7 @@ use Rattle.bridge_cli.proofs.PageLaws.{stop_has, fault_answer}
 use Rattle.bridge_cli.proofs.pages.whole_page.Goals as goal
 
 pub returns-in_err-page-clause-stop : goal.returns-in_err-page-clause-stop
-returns-in_err-page-clause-stop g c = λ text_of. stop_has (StopsAs (IsPageAnswer page_setting text_of) _) _ _ c.from_residual.ensures.1 (c.in_err-page.ensures.stop text_of)
+returns-in_err-page-clause-stop g c = λ text_of. stop_has (StopsAs (IsPageAnswer page_setting text_of) _) _ _ c.from_residual-in_err-page.ensures.1 (c.in_err-page.ensures.stop text_of)
 
 pub returns-in_err-finish-clause-stop : goal.returns-in_err-finish-clause-stop
 returns-in_err-finish-clause-stop g c = λ text_of.
