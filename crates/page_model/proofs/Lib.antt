@@ -1,8 +1,4 @@
-mod Words
-mod TextCases
-mod TextHistogramCases
-mod OpenCases
-mod OpenHistogramCases
+mod FaultCases
 mod PageCases
 pub mod Fronts
 pub mod TokenChars
