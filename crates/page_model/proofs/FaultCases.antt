@@ -37,15 +37,15 @@ abbrev text_pages : List Case
 text_pages =
     -- no bytes
     case ([]) None ∷
-    -- row 3
+    -- the last line without a line feed
     case (codes "x 1") (Some (2, rules.NoNewline)) ∷
-    -- row 5
+    -- labels in another order, and one without a value, are the same set
     case (codes "x{b=\"1\",a=\"2\",} 1\nx{a=\"2\",b=\"1\",c=\"\"} 2\n") (Some (2, rules.Duplicate)) ∷
-    -- row 6
+    -- escapes, and a character of two bytes, in a value
     case (codes "x{a=\"p\\n\\\"\\\\\\q" ++ (195 ∷ 169 ∷ []) ++ codes "\"} 1\n") None ∷
-    -- row 22
+    -- one sample more than the limit
     (record { limit = 1; page = (codes "x 1\ny 2\n"); fault = Some (2, rules.TooMany) }) ∷
-    -- row 25
+    -- a sample apart from its TYPE line
     case (codes "# TYPE x counter\ny 1\nx 2\n") (Some (3, rules.Split)) ∷
     -- a byte that no character has
     case (codes "x{a=\"" ++ (255 ∷ []) ++ codes "\"} 1\n") (Some (1, rules.Utf8)) ∷
@@ -172,13 +172,13 @@ text_pages =
 -- pages of the text format with histograms and summaries
 abbrev text_histograms : List Case
 text_histograms =
-    -- row 7
+    -- a whole histogram
     case (codes "# TYPE h histogram\nh_bucket{le=\"0.1\"} 2\nh_bucket{le=\"1\"} 5\nh_bucket{le=\"+Inf\"} 5\nh_sum 1.5\nh_count 5\n") None ∷
-    -- row 8, without the bucket +Inf
+    -- without the bucket +Inf
     case (codes "# TYPE h histogram\nh_bucket{le=\"0.1\"} 2\nh_bucket{le=\"1\"} 5\nh_sum 1.5\nh_count 5\ny 1\n") (Some (6, rules.Incomplete)) ∷
-    -- row 8, with another count
+    -- with another count
     case (codes "# TYPE h histogram\nh_bucket{le=\"0.1\"} 2\nh_bucket{le=\"1\"} 5\nh_bucket{le=\"+Inf\"} 5\nh_sum 1.5\nh_count 6\ny 1\n") (Some (7, rules.Incomplete)) ∷
-    -- row 9
+    -- one bound twice, in two spellings
     case (codes "# TYPE h histogram\nh_bucket{le=\"0.5\"} 1\nh_bucket{le=\"0.50\"} 1\n") (Some (3, rules.Order)) ∷
     -- a bucket behind +Inf
     case (codes "# TYPE h histogram\nh_bucket{le=\"+Inf\"} 2\nh_bucket{le=\"1\"} 2\n") (Some (3, rules.Order)) ∷
@@ -265,7 +265,7 @@ open_pages =
     case (codes "# EOF") None ∷
     -- an empty line behind the end
     case (codes "# EOF\n\n") (Some (2, rules.Syntax)) ∷
-    -- row 25
+    -- a sample without the suffix of its kind
     case (codes "# TYPE x counter\nx 1\n# EOF\n") (Some (2, rules.Suffix)) ∷
     -- interleaved goes before duplicate
     case (codes "# TYPE x unknown\nx{a=\"1\"} 1\nx{a=\"2\"} 1\nx{a=\"1\"} 2\n# EOF\n") (Some (4, rules.Interleaved)) ∷
@@ -399,6 +399,7 @@ open_pages =
     case (codes "# TYPE h histogram\nh_bucket{le=\"1\"} 1\n") (Some (3, rules.NoEof)) ∷
     []
 
+-- each page has its fault
 faults : HaveFaults (text_setting Scraped) text_pages × HaveFaults (text_setting Scraped) text_histograms × HaveFaults (open_setting Scraped) open_pages
 unfolding lines_of ends_clean text_fault is_integer_token unsigned has_minus mantissa whole_part fraction_part has_exponent exponent_part is_digits is_real is_infinity is_nan_token is_number_token multiplies_by divides_by without_leading_zeros trailing_zeros without_trailing_zeros significant_digits one_form is_within decimal_of is_in_limits is_utf8 digits chars encode_utf8 number_read number_of decimal_cmp less same whole trimmed text.label_at text.labels_at text.middle_from text.middle_at text.stamp_of text.sample_of text.kind_named text.named_at text.marked_of text.trimmed_of text.text_line_of kind_of sample_owner owned_lines samples_of is_after_eof is_without_eof is_late_descriptor is_split is_bad_unit has_forbidden_unit is_bad_exemplar is_interleaved has_wrong_suffix is_duplicate has_bad_value has_forbidden_value has_bad_threshold is_out_of_order is_past_limit buckets_of_group infinite_bucket is_complete_at is_incomplete leaves_incomplete exemplar_characters line_breaks own_fault sample_breaks owned_breaks item_breaks item_fault end_breaks end_fault line_fault fault_from open_text.label_at open_text.more_labels_at open_text.list_at open_text.optional_list_at open_text.value_at open_text.stamp_at open_text.exemplar_of open_text.sample_of open_text.kind_named open_text.named_at open_text.descriptor_of open_text.open_line_of
 faults = (refl, refl, refl)
