@@ -24,17 +24,11 @@ fn text_or_empty(text: Option<Text>) -> Text
 }
 
 /// The reading of a sample.
-fn reading(
-    alloc: Global,
-    kind: Kind,
-    unit: &Text,
-    key: SampleKey,
-    value: Number,
-) -> Result<Reading, Memory>
-    ensures { IfOk result (λ reading. reading ≡ plain_reading kind unit.now key value) }
+#[inline(always)]
+fn reading(alloc: Global, kind: Kind, unit: Text, key: SampleKey, value: Number) -> Reading
+    ensures { result ≡ plain_reading kind unit key value }
 {
-    let unit = unit.copy()?;
-    Ok(Reading {
+    Reading {
         key: SeriesKey {
             name: key.name,
             kind,
@@ -45,7 +39,7 @@ fn reading(
         created: None,
         stamp: None,
         exemplars: List::new(alloc),
-    })
+    }
 }
 
 /// The readings of these values, whose keys come next.
@@ -65,7 +59,8 @@ fn readings(
         let Some(key) = next else {
             break;
         };
-        readings.push(reading(alloc, kind, unit, key, value)?)?;
+        let unit = unit.copy()?;
+        readings.push_reserved(reading(alloc, kind, unit, key, value));
     }
     Ok(readings)
 }
