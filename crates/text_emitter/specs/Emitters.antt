@@ -11,6 +11,7 @@ pub record Appended : Type 0 where
   pub bytes : List ℕ
   pub start : ℕ
 
+-- these bytes, of which so many stood there before
 abbrev pub appended : List ℕ → ℕ → Appended
 appended bytes start = record { bytes = bytes; start = start }
 
