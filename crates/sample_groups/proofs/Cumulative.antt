@@ -10,7 +10,6 @@ use Rattle.label_sets.specs.declared.kind.Kind.TheVariants.{Counter, Gauge, Hist
 use Rattle.label_sets.specs.declared.label_set.LabelSet.{LabelSet}
 use Rattle.label_sets.specs.Labels.{label_sets_eq}
 use Rattle.label_sets.specs.Lists.{first_of_each, some_passes}
-use Rattle.page_model.specs.declared.format.Format.TheVariants.{Text}
 use Rattle.page_model.specs.declared.item.Sample.{Sample}
 use Rattle.page_model.specs.declared.page.Bucket.{Bucket}
 use Rattle.page_model.specs.Written.{Setting}
@@ -62,8 +61,8 @@ bucket_is : (family : List ℕ) (s : Sample) → is_bucket family s ≡ true →
 unfolding part_of
 bucket_is family s e = rw e refl
 
-module _ (st : Setting) (kind : Kind) (family : List ℕ) (histogram : is_histogram kind ≡ true) (text : st.format ≡ Text) where
-  grouped : is_grouped kind ≡ true
+module _ (st : Setting) (kind : Kind) (family : List ℕ) (histogram : is_histogram kind ≡ true) where
+  grouped : is_grouped st.format kind ≡ true
   grouped = rw histogram refl
 
   -- the buckets of a group
@@ -90,7 +89,7 @@ module _ (st : Setting) (kind : Kind) (family : List ℕ) (histogram : is_histog
       let es : List (LabelSet × Part) = entries st kind family (reverse above) in
       let part : part_of family s ≡ parts.Bucket (bucket_of s) = bucket_is family s bucket in
       let kept : is_out_of_order st kind family above s ≡ breaks_order (group_at es (sample_group st kind family s)) (part_of family s) =
-      order_kept st kind family above s grouped text sound own.named own.valued own.placed ∙ ap (λ g. breaks_order g (part_of family s)) (group_is_kept es (sample_group st kind family s)) in
+      order_kept st kind family above s grouped sound own.named own.valued own.placed ∙ ap (λ g. breaks_order g (part_of family s)) (group_is_kept es (sample_group st kind family s)) in
       sym (kept ∙ (λ i. breaks_order (group_at es (group i)) (part i))) ∙ own.ordered
 
   -- the buckets of a group rise

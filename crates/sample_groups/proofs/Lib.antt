@@ -5,6 +5,7 @@ pub mod Orders
 pub mod Whole
 pub mod Made
 pub mod Cumulative
+pub mod LabelNames
 pub mod Finds
 pub mod Adding
 pub mod Grown
