@@ -1,7 +1,7 @@
 -- How the part of a sample is found: what its name and its rules come to.
 use Rattle.std.proofs.Common.{◌≡◌, ℕ, Bool, true, false, cond, not, ◌&&◌, ◌||◌, List, ◌++◌, Result, Ok, Err, refl, ◌∙◌, codes, if◌then◌else◌}
 use Rattle.label_sets.specs.declared.kind.Kind.{Kind}
-use Rattle.label_sets.specs.declared.kind.Kind.TheVariants.{Counter, Gauge, Histogram, GaugeHistogram, StateSet, Info, Summary, Unknown}
+use Rattle.label_sets.specs.declared.kind.Kind.TheVariants.{Counter, Histogram, GaugeHistogram, Summary}
 use Rattle.label_sets.specs.Labels.{has_name}
 use Rattle.page_model.specs.declared.item.Sample.{Sample}
 use Rattle.page_model.specs.declared.rule.Rule.{Rule}
@@ -18,6 +18,7 @@ use Rattle.sample_groups.specs.declared.part.Part.{Part}
 use Rattle.sample_groups.specs.declared.part.Part.TheVariants as parts
 use Rattle.sample_groups.specs.Parts.{is_grouped, quantile_part, part_of}
 use Rattle.sample_groups.specs.Finding.{found}
+use Rattle.sample_groups.proofs.KindCases.{of_grouped}
 use Rattle.sample_groups.proofs.Samples.{by_name, count_of}
 
 or_none : (a : Bool) → (a || false) ≡ true → a ≡ true
@@ -74,43 +75,58 @@ module _ (st : Setting) (family : List ℕ) (s : Sample) (suffix : Suffix) (only
   abbrev IsTold : Kind → Type 0
   IsTold kind = found kind s suffix ≡ (if has_bad_value st.format kind family s then Err rules_of.Value else if has_bad_threshold kind family s then Err rules_of.Threshold else Ok (part_of family s))
 
-  found_is : (kind : Kind) → is_grouped st.format kind ≡ true → has_wrong_suffix st kind family s ≡ false → IsTold kind
+  -- the format is OpenMetrics, and the value is finite
+  abbrev in_open : Bool
+  in_open = is_open_metrics st.format
+
+  abbrev finite : Bool
+  finite = is_finite s.value
+
+  counter_told : is_grouped st.format Counter ≡ true → has_wrong_suffix st Counter family s ≡ false → IsTold Counter
   unfolding has_bad_value has_forbidden_value has_bad_threshold part_of
-  found_is Counter grouped named = by_name st Counter family s grouped named (IsTold Counter) (
-    λ h. rw (only Total h.name_is, h.behind) (with_total (parts.Total s.value) (is_open_metrics st.format) (is_finite s.value) (is_not_a_number s.value || less s.value (number_of 0))),
-    (λ h. rw (only Created h.name_is, h.behind) (with_time (parts.Created s.value) (is_open_metrics st.format) (is_finite s.value) false (or_none _ h.may)), tt),
+  counter_told grouped named = by_name st Counter family s grouped named (IsTold Counter) (
+    λ h. rw (only Total h.name_is, h.behind) (with_total (parts.Total s.value) in_open finite (is_not_a_number s.value || less s.value (number_of 0))),
+    (λ h. rw (only Created h.name_is, h.behind) (with_time (parts.Created s.value) in_open finite false (or_none _ h.may)), tt),
   )
-  found_is Histogram grouped named = by_name st Histogram family s grouped named (IsTold Histogram) (
-    λ h. rw (only Bucket h.name_is, h.behind) (with_bound (parts.Bucket (bucket_of s)) (is_open_metrics st.format) (is_finite s.value) (is_whole s.value) (is_bound (threshold s))),
+
+  histogram_told : has_wrong_suffix st Histogram family s ≡ false → IsTold Histogram
+  unfolding has_bad_value has_forbidden_value has_bad_threshold part_of
+  histogram_told named = by_name st Histogram family s refl named (IsTold Histogram) (
+    λ h. rw (only Bucket h.name_is, h.behind) (with_bound (parts.Bucket (bucket_of s)) in_open finite (is_whole s.value) (is_bound (threshold s))),
     (
-      λ h. rw (only Count h.name_is, h.behind) (with_whole (parts.Count (count_of s)) (is_open_metrics st.format) (is_finite s.value) (is_whole s.value) (has_name s.labels (codes "le"))),
+      λ h. rw (only Count h.name_is, h.behind) (with_whole (parts.Count (count_of s)) in_open finite (is_whole s.value) (has_name s.labels (codes "le"))),
       (
-        λ h. rw (only Sum h.name_is, h.behind) (with_any (parts.Sum s.value) (is_open_metrics st.format) (is_finite s.value) (has_name s.labels (codes "le"))),
-        (λ h. rw (only Created h.name_is, h.behind) (with_time (parts.Created s.value) (is_open_metrics st.format) (is_finite s.value) (has_name s.labels (codes "le")) (or_none _ h.may)), tt),
+        λ h. rw (only Sum h.name_is, h.behind) (with_any (parts.Sum s.value) in_open finite (has_name s.labels (codes "le"))),
+        (λ h. rw (only Created h.name_is, h.behind) (with_time (parts.Created s.value) in_open finite (has_name s.labels (codes "le")) (or_none _ h.may)), tt),
       ),
     ),
   )
-  found_is GaugeHistogram grouped named = by_name st GaugeHistogram family s grouped named (IsTold GaugeHistogram) (
-    λ h. rw (only Bucket h.name_is, h.behind) (with_bound (parts.Bucket (bucket_of s)) (is_open_metrics st.format) (is_finite s.value) (is_whole s.value) (is_bound (threshold s))),
+
+  gauge_told : has_wrong_suffix st GaugeHistogram family s ≡ false → IsTold GaugeHistogram
+  unfolding has_bad_value has_forbidden_value has_bad_threshold part_of
+  gauge_told named = by_name st GaugeHistogram family s refl named (IsTold GaugeHistogram) (
+    λ h. rw (only Bucket h.name_is, h.behind) (with_bound (parts.Bucket (bucket_of s)) in_open finite (is_whole s.value) (is_bound (threshold s))),
     (
-      λ h. rw (only GaugeCount h.name_is, h.behind) (with_whole (parts.Count (count_of s)) (is_open_metrics st.format) (is_finite s.value) (is_whole s.value) (has_name s.labels (codes "le"))),
-      (λ h. rw (only GaugeSum h.name_is, h.behind) (with_any (parts.Sum s.value) (is_open_metrics st.format) (is_finite s.value) (has_name s.labels (codes "le"))), tt),
+      λ h. rw (only GaugeCount h.name_is, h.behind) (with_whole (parts.Count (count_of s)) in_open finite (is_whole s.value) (has_name s.labels (codes "le"))),
+      (λ h. rw (only GaugeSum h.name_is, h.behind) (with_any (parts.Sum s.value) in_open finite (has_name s.labels (codes "le"))), tt),
     ),
   )
-  found_is Summary grouped named = by_name st Summary family s grouped named (IsTold Summary) (
-    λ h. rw (only Own h.name_is, h.behind) (with_place (quantile_part (quantile_of s) s.value) (is_open_metrics st.format) (is_finite s.value) (is_finite (quantile_at s))),
+
+  summary_told : has_wrong_suffix st Summary family s ≡ false → IsTold Summary
+  unfolding has_bad_value has_forbidden_value has_bad_threshold part_of
+  summary_told named = by_name st Summary family s refl named (IsTold Summary) (
+    λ h. rw (only Own h.name_is, h.behind) (with_place (quantile_part (quantile_of s) s.value) in_open finite (is_finite (quantile_at s))),
     (
-      λ h. rw (only Count h.name_is, h.behind) (with_whole (parts.Count (count_of s)) (is_open_metrics st.format) (is_finite s.value) (is_whole s.value) (has_name s.labels (codes "quantile"))),
+      λ h. rw (only Count h.name_is, h.behind) (with_whole (parts.Count (count_of s)) in_open finite (is_whole s.value) (has_name s.labels (codes "quantile"))),
       (
-        λ h. rw (only Sum h.name_is, h.behind) (with_any (parts.Sum s.value) (is_open_metrics st.format) (is_finite s.value) (has_name s.labels (codes "quantile"))),
-        (λ h. rw (only Created h.name_is, h.behind) (with_time (parts.Created s.value) (is_open_metrics st.format) (is_finite s.value) (has_name s.labels (codes "quantile")) (or_none _ h.may)), tt),
+        λ h. rw (only Sum h.name_is, h.behind) (with_any (parts.Sum s.value) in_open finite (has_name s.labels (codes "quantile"))),
+        (λ h. rw (only Created h.name_is, h.behind) (with_time (parts.Created s.value) in_open finite (has_name s.labels (codes "quantile")) (or_none _ h.may)), tt),
       ),
     ),
   )
-  found_is Gauge grouped named = absurd (let no : false ≡ true = grouped in cc)
-  found_is StateSet grouped named = absurd (let no : false ≡ true = grouped in cc)
-  found_is Info grouped named = absurd (let no : false ≡ true = grouped in cc)
-  found_is Unknown grouped named = absurd (let no : false ≡ true = grouped in cc)
+
+  found_is : (kind : Kind) → is_grouped st.format kind ≡ true → has_wrong_suffix st kind family s ≡ false → IsTold kind
+  found_is = of_grouped st.format (λ k. has_wrong_suffix st k family s ≡ false → IsTold k) (record { histogram = histogram_told; gauge = gauge_told; summary = summary_told; counter = counter_told })
 
 -- the same of a sample with this suffix
 pub found_by : (kind : Kind) (family : List ℕ) (s : Sample) (suffix : Suffix) (part : Result Part Rule) → ((x : Suffix) → s.name ≡ family ++ suffix_bytes x → suffix ≡ x) → part ≡ found kind s suffix

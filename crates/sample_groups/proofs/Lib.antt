@@ -1,4 +1,5 @@
 pub mod Members
+pub mod KindCases
 pub mod Steps
 pub mod Samples
 pub mod Orders

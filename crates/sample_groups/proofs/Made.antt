@@ -4,7 +4,7 @@ use Rattle.std.proofs.lemmas.Bool.Decides.{nat_tests}
 use Rattle.std.specs.List.{list_any, cons_option}
 use Rattle.std.specs.Option.{option_or}
 use Rattle.label_sets.specs.declared.kind.Kind.{Kind}
-use Rattle.label_sets.specs.declared.kind.Kind.TheVariants.{Counter, Gauge, Histogram, GaugeHistogram, StateSet, Info, Summary, Unknown}
+use Rattle.label_sets.specs.declared.kind.Kind.TheVariants.{Counter, Histogram, GaugeHistogram, Summary}
 use Rattle.label_sets.specs.declared.label_set.LabelSet.{LabelSet}
 use Rattle.label_sets.specs.Labels.{label_sets_eq}
 use Rattle.label_sets.specs.Lists.{first_of_each, first_some}
@@ -21,6 +21,7 @@ use Rattle.sample_groups.specs.declared.part.Part.{Part}
 use Rattle.sample_groups.specs.Parts.{is_grouped, part_of, entry_of}
 use Rattle.sample_groups.specs.Groups.{Gathered, bucket_in, quantile_in, sum_in, count_in, total_in, created_in, group_from, parts_in, groups_from, is_measured_group, reading_from}
 use Rattle.sample_groups.specs.Sound.{AreSound}
+use Rattle.sample_groups.proofs.KindCases.{of_grouped}
 use Rattle.sample_groups.proofs.Members.{when, filter_map-map, filter_map-filter, filter_map-agree, filter_map-when, first_some-map, first_some-when, list_any-agree, find-none, find-member, member-filter, member-reverse}
 use Rattle.sample_groups.proofs.Steps.{labels_of, group_at, groups_are_keyed}
 use Rattle.sample_groups.proofs.Samples.{IsFair, fair_at, count_of, is_measured_part, bucket_part, count_part, quantile_part_is, whole_in_summary, created_is, counter_total, histogram_gsum, histogram_sum, gauge_no_sum, gauge_sum, summary_gsum, summary_count, summary_sum, summary_measured, is_in_group, entries, labels_of-entries, parts_in-entries}
@@ -143,6 +144,9 @@ module _ (st : Setting) (family : List ℕ) (samples : List Sample) (labels : La
     unfolding group_from
     own_created grouped = own_value family (own kind) created_in (codes "_created") (λ s m. created_is kind st family s grouped (own_fair s m)) ∙ in_kept kind (first_some created_in)
 
+  kept_buckets : (kind : Kind) → buckets_of family (own kind) ≡ filter_map bucket_in (parts_in labels (entries st kind family samples))
+  kept_buckets kind = own_buckets family (own kind) ∙ in_kept kind (filter_map bucket_in)
+
   module _ (unit : List ℕ) where
     counter_reading : (fair : (s : Sample) → Member s samples → IsFair st Counter family s) → is_grouped st.format Counter ≡ true
         → reading_of st Counter family unit samples labels ≡ reading_from st.format Counter family unit (labels, kept Counter)
@@ -154,16 +158,14 @@ module _ (st : Setting) (family : List ℕ) (samples : List Sample) (labels : La
     histogram_reading : (fair : (s : Sample) → Member s samples → IsFair st Histogram family s) → reading_of st Histogram family unit samples labels ≡ reading_from st.format Histogram family unit (labels, kept Histogram)
     unfolding reading_of stamp_of exemplars_of value_of group_from
     histogram_reading fair =
-        let buckets = own_buckets family (own Histogram) ∙ in_kept Histogram (filter_map bucket_in) in
-        let sum = own_sum family (own Histogram) (λ s m. histogram_sum st family s (own_fair Histogram fair s m)) (λ s m. histogram_gsum st family s (own_fair Histogram fair s m)) ∙ in_kept Histogram (first_some sum_in) in
-        rw (buckets, sum, own_created Histogram fair refl) refl
+        let sum = own_sum family (own Histogram) (λ s m. histogram_sum st family s (own_fair Histogram fair s m)) (λ s m. histogram_gsum st family s (own_fair Histogram fair s m)) in
+        rw (kept_buckets Histogram, sum ∙ in_kept Histogram (first_some sum_in), own_created Histogram fair refl) refl
 
     gauge_reading : (fair : (s : Sample) → Member s samples → IsFair st GaugeHistogram family s) → reading_of st GaugeHistogram family unit samples labels ≡ reading_from st.format GaugeHistogram family unit (labels, kept GaugeHistogram)
     unfolding reading_of stamp_of exemplars_of value_of group_from
     gauge_reading fair =
-        let buckets = own_buckets family (own GaugeHistogram) ∙ in_kept GaugeHistogram (filter_map bucket_in) in
-        let sum = own_gsum family (own GaugeHistogram) (λ s m. gauge_sum st family s (own_fair GaugeHistogram fair s m)) (λ s m. gauge_no_sum st family s (own_fair GaugeHistogram fair s m)) ∙ in_kept GaugeHistogram (first_some sum_in) in
-        rw (buckets, sum, own_created GaugeHistogram fair refl) refl
+        let sum = own_gsum family (own GaugeHistogram) (λ s m. gauge_sum st family s (own_fair GaugeHistogram fair s m)) (λ s m. gauge_no_sum st family s (own_fair GaugeHistogram fair s m)) in
+        rw (kept_buckets GaugeHistogram, sum ∙ in_kept GaugeHistogram (first_some sum_in), own_created GaugeHistogram fair refl) refl
 
     summary_reading : (fair : (s : Sample) → Member s samples → IsFair st Summary family s) → reading_of st Summary family unit samples labels ≡ reading_from st.format Summary family unit (labels, kept Summary)
     unfolding reading_of stamp_of exemplars_of value_of group_from parts_in
@@ -197,15 +199,10 @@ module _ (st : Setting) (kind : Kind) (family unit : List ℕ) (samples : List S
 pub readings_made : (st : Setting) (kind : Kind) (family unit : List ℕ) (above : List Sample) → is_grouped st.format kind ≡ true → AreSound st kind family above
     → readings_of st kind family unit (reverse above) ≡ filter_map (reading_from st.format kind family unit) (groups_from (map (entry_of st kind family) (reverse above)))
 unfolding readings_of
-readings_made st kind family unit above grouped sound = by kind grouped (λ s m. fair_at above st kind family sound s (member-reverse above s m))
-  where
-    by : (k : Kind) → is_grouped st.format k ≡ true → ((s : Sample) → Member s (reverse above) → IsFair st k family s)
-        → readings_of st k family unit (reverse above) ≡ filter_map (reading_from st.format k family unit) (groups_from (map (entry_of st k family) (reverse above)))
-    by Counter g fair = each_reading st Counter family unit (reverse above) (λ labels. counter_reading st family (reverse above) labels unit fair g)
-    by Histogram g fair = each_reading st Histogram family unit (reverse above) (λ labels. histogram_reading st family (reverse above) labels unit fair)
-    by GaugeHistogram g fair = each_reading st GaugeHistogram family unit (reverse above) (λ labels. gauge_reading st family (reverse above) labels unit fair)
-    by Summary g fair = each_reading st Summary family unit (reverse above) (λ labels. summary_reading st family (reverse above) labels unit fair)
-    by Gauge g fair = absurd (let no : false ≡ true = g in cc)
-    by StateSet g fair = absurd (let no : false ≡ true = g in cc)
-    by Info g fair = absurd (let no : false ≡ true = g in cc)
-    by Unknown g fair = absurd (let no : false ≡ true = g in cc)
+readings_made st kind family unit above grouped sound =
+    of_grouped st.format (λ k. ((s : Sample) → Member s (reverse above) → IsFair st k family s) → readings_of st k family unit (reverse above) ≡ filter_map (reading_from st.format k family unit) (groups_from (entries st k family (reverse above)))) (record {
+      histogram = λ fair. each_reading st Histogram family unit (reverse above) (λ labels. histogram_reading st family (reverse above) labels unit fair);
+      gauge = λ fair. each_reading st GaugeHistogram family unit (reverse above) (λ labels. gauge_reading st family (reverse above) labels unit fair);
+      summary = λ fair. each_reading st Summary family unit (reverse above) (λ labels. summary_reading st family (reverse above) labels unit fair);
+      counter = λ is fair. each_reading st Counter family unit (reverse above) (λ labels. counter_reading st family (reverse above) labels unit fair is);
+    }) kind grouped (λ s m. fair_at above st kind family sound s (member-reverse above s m))

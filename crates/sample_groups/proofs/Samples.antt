@@ -7,7 +7,7 @@ use Rattle.std.specs.List.{list_any}
 use Rattle.std.specs.Str.{bytes_eq}
 use Rattle.std.specs.Cmp.Lexicographic.{bytes_decides}
 use Rattle.label_sets.specs.declared.kind.Kind.{Kind}
-use Rattle.label_sets.specs.declared.kind.Kind.TheVariants.{Counter, Gauge, Histogram, GaugeHistogram, StateSet, Info, Summary, Unknown}
+use Rattle.label_sets.specs.declared.kind.Kind.TheVariants.{Counter, Histogram, GaugeHistogram, Summary}
 use Rattle.label_sets.specs.declared.label_set.LabelSet.{LabelSet}
 use Rattle.label_sets.specs.Labels.{label_sets_eq}
 use Rattle.exact_decimal.specs.Decimals.{DecimalValue}
@@ -28,6 +28,7 @@ use Rattle.sample_groups.specs.declared.part.Part.TheVariants as parts
 use Rattle.sample_groups.specs.Parts.{is_grouped, quantile_part, part_of, entry_of}
 use Rattle.sample_groups.specs.Groups.{bucket_in, quantile_in, sum_in, count_in, total_in, created_in, parts_in, groups_from, with_part}
 use Rattle.sample_groups.specs.Sound.{AreSound}
+use Rattle.sample_groups.proofs.KindCases.{of_histograms, of_grouped}
 use Rattle.sample_groups.proofs.Members.{when, reverse-cons, map-map, filter-map, filter_map-map, filter_map-filter}
 use Rattle.sample_groups.proofs.Steps.{labels_of, one_part_more}
 
@@ -62,14 +63,12 @@ among_four false false false d h = absurd (let no : false ≡ true = h in cc)
 -- a suffix that a grouped kind has in a format is one that it has in OpenMetrics, and a created time only there
 in_open_metrics : (f : Format) (kind : Kind) (p : List ℕ → Bool) → is_grouped f kind ≡ true → list_any p (suffixes f kind) ≡ true → list_any (λ x. may_have f x && p x) (suffixes OpenMetrics kind) ≡ true
 in_open_metrics OpenMetrics kind p grouped h = h
-in_open_metrics Text GaugeHistogram p grouped h = h
-in_open_metrics Text Histogram p grouped h = among_four (p (codes "_bucket")) (p (codes "_sum")) (p (codes "_count")) false h
-in_open_metrics Text Summary p grouped h = among_four (p []) (p (codes "_sum")) (p (codes "_count")) false h
-in_open_metrics Text Counter p grouped h = absurd (let no : false ≡ true = grouped in cc)
-in_open_metrics Text Gauge p grouped h = absurd (let no : false ≡ true = grouped in cc)
-in_open_metrics Text StateSet p grouped h = absurd (let no : false ≡ true = grouped in cc)
-in_open_metrics Text Info p grouped h = absurd (let no : false ≡ true = grouped in cc)
-in_open_metrics Text Unknown p grouped h = absurd (let no : false ≡ true = grouped in cc)
+in_open_metrics Text kind p grouped h = of_grouped Text (λ k. list_any p (suffixes Text k) ≡ true → list_any (λ x. may_have Text x && p x) (suffixes OpenMetrics k) ≡ true) (record {
+  histogram = among_four (p (codes "_bucket")) (p (codes "_sum")) (p (codes "_count")) false;
+  gauge = λ e. e;
+  summary = among_four (p []) (p (codes "_sum")) (p (codes "_count")) false;
+  counter = λ is. absurd (let no : false ≡ true = is in cc);
+}) kind grouped h
 
 -- what is so for each of some suffixes
 abbrev pub Each : (List ℕ → Type 0) → List (List ℕ) → Type 0
@@ -223,14 +222,9 @@ forbids_none false c h e = absurd cc
 -- a bucket and a count of a histogram have whole numbers
 pub whole_in_histogram : (kind : Kind) (st : Setting) (family : List ℕ) (s : Sample) → is_histogram kind ≡ true → IsFair st kind family s → (is_bucket family s || is_count family s) ≡ true → whole s.value ≡ Some (count_of s)
 unfolding has_bad_value has_forbidden_value
-whole_in_histogram Histogram st family s grouped fair e = has_whole s.value (forbids_none (is_bucket family s || is_count family s) (is_whole s.value) (or_parts (has_forbidden_value Histogram family s) _ fair.valued).0 e)
-whole_in_histogram GaugeHistogram st family s grouped fair e = has_whole s.value (forbids_none (is_bucket family s || is_count family s) (is_whole s.value) (or_parts (has_forbidden_value GaugeHistogram family s) _ fair.valued).0 e)
-whole_in_histogram Counter st family s grouped fair e = absurd cc
-whole_in_histogram Gauge st family s grouped fair e = absurd cc
-whole_in_histogram Summary st family s grouped fair e = absurd cc
-whole_in_histogram StateSet st family s grouped fair e = absurd cc
-whole_in_histogram Info st family s grouped fair e = absurd cc
-whole_in_histogram Unknown st family s grouped fair e = absurd cc
+whole_in_histogram kind st family s histogram fair e =
+    has_whole s.value (forbids_none (is_bucket family s || is_count family s) (is_whole s.value) (of_histograms (λ k. has_bad_value st.format k family s ≡ false → ((is_bucket family s || is_count family s) && not (is_whole s.value)) ≡ false)
+    (λ valued. (or_parts (has_forbidden_value Histogram family s) _ valued).0) (λ valued. (or_parts (has_forbidden_value GaugeHistogram family s) _ valued).0) kind histogram fair.valued) e)
 
 -- a count of a summary has one
 pub whole_in_summary : (st : Setting) (family : List ℕ) (s : Sample) → IsFair st Summary family s → is_count family s ≡ true → whole s.value ≡ Some (count_of s)
@@ -312,17 +306,16 @@ module _ (st : Setting) (family : List ℕ) (s : Sample) where
 
 -- a created time has this suffix
 pub created_is : (kind : Kind) (st : Setting) (family : List ℕ) (s : Sample) → is_grouped st.format kind ≡ true → IsFair st kind family s → created_in (part_of family s) ≡ when (has_suffix family (codes "_created") s) (Some s.value)
-created_is kind st family s grouped fair = ap created_in (part_is family s) ∙ by kind grouped fair.named
+created_is kind st family s grouped fair = ap created_in (part_is family s) ∙ of_grouped st.format
+    (λ k. has_wrong_suffix st k family s ≡ false → created_in (part_by (suffix_of family s.name) s) ≡ when (has_suffix family (codes "_created") s) (Some s.value)) (record {
+      histogram = λ named. by_suffix st Histogram family s refl named has_time (refl, (refl, (refl, (refl, tt))));
+      gauge = λ named. by_suffix st GaugeHistogram family s refl named has_time (refl, (refl, (refl, tt)));
+      summary = λ named. by_suffix st Summary family s refl named has_time (own_created (quantile_of s) s.value, (refl, (refl, (refl, tt))));
+      counter = λ is named. by_suffix st Counter family s is named has_time (refl, (refl, tt));
+    }) kind grouped fair.named
   where
-    by : (k : Kind) → is_grouped st.format k ≡ true → has_wrong_suffix st k family s ≡ false → created_in (part_by (suffix_of family s.name) s) ≡ when (has_suffix family (codes "_created") s) (Some s.value)
-    by Histogram g n = by_suffix st Histogram family s refl n (λ x. created_in (part_by x s) ≡ when (bytes_eq x (codes "_created")) (Some s.value)) (refl, (refl, (refl, (refl, tt))))
-    by GaugeHistogram g n = by_suffix st GaugeHistogram family s refl n (λ x. created_in (part_by x s) ≡ when (bytes_eq x (codes "_created")) (Some s.value)) (refl, (refl, (refl, tt)))
-    by Summary g n = by_suffix st Summary family s refl n (λ x. created_in (part_by x s) ≡ when (bytes_eq x (codes "_created")) (Some s.value)) (own_created (quantile_of s) s.value, (refl, (refl, (refl, tt))))
-    by Counter g n = by_suffix st Counter family s g n (λ x. created_in (part_by x s) ≡ when (bytes_eq x (codes "_created")) (Some s.value)) (refl, (refl, tt))
-    by Gauge g n = absurd (let no : false ≡ true = g in cc)
-    by StateSet g n = absurd (let no : false ≡ true = g in cc)
-    by Info g n = absurd (let no : false ≡ true = g in cc)
-    by Unknown g n = absurd (let no : false ≡ true = g in cc)
+    has_time : List ℕ → Type 0
+    has_time x = created_in (part_by x s) ≡ when (bytes_eq x (codes "_created")) (Some s.value)
 
 -- ---- the parts of samples
 

@@ -6,7 +6,6 @@ use Rattle.std.proofs.lemmas.List.Folds.{list_all-append}
 use Rattle.std.specs.List.{list_all, cons_option}
 use Rattle.std.specs.Option.{option_or}
 use Rattle.label_sets.specs.declared.kind.Kind.{Kind}
-use Rattle.label_sets.specs.declared.kind.Kind.TheVariants.{Counter, Gauge, Histogram, GaugeHistogram, StateSet, Info, Summary, Unknown}
 use Rattle.label_sets.specs.declared.label_set.LabelSet.{LabelSet}
 use Rattle.label_sets.specs.Labels.{label_sets_eq}
 use Rattle.label_sets.specs.Lists.{first_of_each, first_some, some_passes}
@@ -18,20 +17,15 @@ use Rattle.page_model.proofs.Laws.{label_sets_decide}
 use Rattle.sample_groups.specs.declared.part.Part.{Part}
 use Rattle.sample_groups.specs.Parts.{is_grouped}
 use Rattle.sample_groups.specs.Groups.{Gathered, bucket_in, quantile_in, sum_in, count_in, total_in, created_in, are_one, are_one_count, group_from, shared_labels, parts_in, groups_from, with_one, known_group, or_empty, put_group, with_part}
+use Rattle.sample_groups.proofs.KindCases.{of_grouped}
 use Rattle.sample_groups.proofs.Members.{when, head_of, has_key, has_key-first, eq_swap, keyed, lookup-keyed, with_key, first_of_each-snoc, AreApart, first_apart, keyed_agree, first_some-head, and_true}
 
 -- ---- the labels of a group
 
 -- the labels that the samples of a group share are those of the sample's group
 pub shared_group : (st : Setting) (kind : Kind) (family : List ℕ) (s : Sample) → is_grouped st.format kind ≡ true → sample_group st kind family s ≡ shared_labels kind (kept_labels st.treatment s.labels)
-shared_group st Histogram family s e = refl
-shared_group st GaugeHistogram family s e = refl
-shared_group st Summary family s e = refl
-shared_group st Counter family s e = refl
-shared_group st Gauge family s e = absurd cc
-shared_group st StateSet family s e = absurd cc
-shared_group st Info family s e = absurd cc
-shared_group st Unknown family s e = absurd cc
+shared_group st kind family s grouped =
+    of_grouped st.format (λ k. sample_group st k family s ≡ shared_labels k (kept_labels st.treatment s.labels)) (record { histogram = refl; gauge = refl; summary = refl; counter = λ _. refl }) kind grouped
 
 -- ---- one part more in its group
 
