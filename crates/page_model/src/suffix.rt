@@ -85,7 +85,7 @@ fn is(bytes: &[u8], suffix: &[u8]) -> bool
 
 /// The suffix that these bytes are. Those that most samples have come first.
 #[tactic(auto, unfolding(crate::specs::SuffixNames::suffix_named))]
-fn named(bytes: &[u8]) -> Option<Suffix>
+fn suffix_named(bytes: &[u8]) -> Option<Suffix>
     ensures { result ≡ suffix_named bytes.now }
 {
     if bytes.is_empty() {
@@ -124,7 +124,7 @@ pub fn sample_suffix(family: &Name, name: &Name) -> Option<Suffix>
     ensures only { (suffix : AnySuffix) → name.now ≡ family.now ++ suffix_bytes suffix → result ≡ Some suffix }
 {
     match name.as_bytes().strip_prefix(family.as_bytes()) {
-        Some(rest) => named(rest),
+        Some(rest) => suffix_named(rest),
         None => None,
     }
 }

@@ -195,7 +195,7 @@ impl Group {
 
     /// When its counts began.
     #[tactic(auto, unfolding(crate::specs::Groups::group_from))]
-    pub(crate) fn created(&self) -> Option<Number>
+    pub(crate) fn created_time(&self) -> Option<Number>
         ensures { result ≡ self.now.created }
     {
         parts::first_created(self.parts.as_slice())

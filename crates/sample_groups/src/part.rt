@@ -83,7 +83,7 @@ impl Part {
     }
 
     /// The created time that it is.
-    pub(crate) fn created(&self) -> Option<Number>
+    pub(crate) fn created_time(&self) -> Option<Number>
         ensures { result ≡ created_in self.now }
     {
         match self {
@@ -172,7 +172,7 @@ fn total(sample: &Sample) -> Result<Part, Rule>
 }
 
 /// A created time, or the rule that it breaks.
-fn created(kind: Kind, sample: &Sample) -> Result<Part, Rule>
+fn created_time(kind: Kind, sample: &Sample) -> Result<Part, Rule>
     ensures { result ≡ created_found kind sample.now }
 {
     match sample.value {
@@ -190,7 +190,7 @@ fn part_with(kind: Kind, sample: &Sample, suffix: Suffix) -> Result<Part, Rule>
         Suffix::Bucket => bucket(sample),
         Suffix::Count | Suffix::GaugeCount => count(kind, sample),
         Suffix::Total => total(sample),
-        Suffix::Created => created(kind, sample),
+        Suffix::Created => created_time(kind, sample),
         Suffix::Sum | Suffix::GaugeSum | Suffix::Info => {
             unplaced(kind, sample, Part::Sum(sample.value))
         }

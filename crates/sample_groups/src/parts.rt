@@ -73,7 +73,7 @@ pub(crate) fn first_created(parts: &[Part]) -> Option<Number>
     ensures { result ≡ first_some created_in parts.now }
 {
     for part in parts {
-        let created = part.created();
+        let created = part.created_time();
         if created.is_some() {
             return created;
         }

@@ -11,7 +11,7 @@ use page_model::{Format, Reading, Suffix};
 use std::alloc::Global;
 
 /// The family's name and a suffix.
-fn suffixed(alloc: Global, family: &Name, suffix: Suffix) -> Result<Name, Memory>
+fn with_suffix(alloc: Global, family: &Name, suffix: Suffix) -> Result<Name, Memory>
     ensures { IfOk result (λ name. name ≡ family.now ++ suffix_bytes suffix) }
 {
     let mut name = String::from_str(alloc, family.as_str())?;
@@ -31,9 +31,9 @@ pub(crate) fn key_name(
     match kind {
         Kind::Counter => match format {
             Format::Text => family.copy(),
-            Format::OpenMetrics => suffixed(alloc, family, Suffix::Total),
+            Format::OpenMetrics => with_suffix(alloc, family, Suffix::Total),
         },
-        Kind::Info => suffixed(alloc, family, Suffix::Info),
+        Kind::Info => with_suffix(alloc, family, Suffix::Info),
         _ => family.copy(),
     }
 }
@@ -50,7 +50,7 @@ pub(crate) fn put_reading(
 ) -> Result<(), Memory>
     ensures { OnOk result (readings.new.items ≡ readings.old.items ++ cons_option (reading_named kind name.now unit.now (labels, group)) []) }
 {
-    let created = group.created();
+    let created = group.created_time();
     let value = group.into_value(alloc, kind)?;
     let Some(value) = value else {
         return Ok(());
