@@ -1,5 +1,5 @@
 -- The place of a group among the groups, and the group with one part more.
-use Rattle.std.proofs.Common.{◌≡◌, ℕ, zero, suc, ◌+◌, ◌<◌, Bool, true, false, cond, ◌&&◌, ◌||◌, ◌==◌, List, [], ◌∷◌, ◌++◌, map, filter_map, length, drop, append_assoc, slice_get, slice_set, get_or, Option, Some, None, refl, sym, ap, subst, ◌∙◌, arith}
+use Rattle.std.proofs.Common.{◌≡◌, ℕ, zero, suc, ◌+◌, ◌<◌, Bool, true, false, cond, not, ◌&&◌, ◌||◌, ◌==◌, List, [], ◌∷◌, ◌++◌, map, filter_map, length, drop, append_assoc, slice_get, slice_set, get_or, Option, Some, None, refl, sym, ap, subst, ◌∙◌, arith}
 use Rattle.std.specs.List.{list_any, list_all, zip, cons_option}
 use Rattle.std.proofs.lemmas.Bool.{eqb-true, eqb-false}
 use Rattle.label_sets.specs.declared.label_set.LabelSet.{LabelSet}
@@ -8,7 +8,7 @@ use Rattle.label_sets.proofs.Laws.{sets_decide}
 use Rattle.label_sets.specs.Labels.{label_sets_eq}
 use Rattle.page_model.specs.declared.page.Reading.{Reading}
 use Rattle.sample_groups.specs.declared.part.Part.{Part}
-use Rattle.sample_groups.specs.Groups.{Gathered, empty_group, known_group, or_empty, with_one, put_group, with_part, is_whole_group, reading_named}
+use Rattle.sample_groups.specs.Groups.{Gathered, empty_group, known_group, or_empty, with_one, put_group, with_part, breaks_order, shared_labels, AddsPart, is_whole_group, reading_named}
 use Rattle.sample_groups.specs.Beside.{AreBeside}
 use Rattle.sample_groups.specs.Placing.{HasPlace, with_group_at, with_set}
 use Rattle.sample_groups.proofs.BesideLaws.{taken_off, one_more, zip-snoc, beside_more, found_beside, missing_beside, suc_same, first_apart_from, distinct_rest}
@@ -175,17 +175,32 @@ known_first labels first g es own = ap (λ b. or_empty (cond b (Some g) (known_g
 known_other : (labels first : LabelSet) (g : Gathered) (es : List (LabelSet × Gathered)) → label_sets_eq labels first ≡ false → known_group es labels ≡ known_group ((first, g) ∷ es) labels
 known_other labels first g es other = ap (λ b. cond b (Some g) (known_group es labels)) (sym other)
 
-pub with_first : (labels first : LabelSet) (g : Gathered) (es : List (LabelSet × Gathered)) (part : Part) → label_sets_eq labels first ≡ true → (first, with_one g part) ∷ es ≡ with_part ((first, g) ∷ es) labels part
+with_first : (labels first : LabelSet) (g : Gathered) (es : List (LabelSet × Gathered)) (part : Part) → label_sets_eq labels first ≡ true → (first, with_one g part) ∷ es ≡ with_part ((first, g) ∷ es) labels part
 unfolding with_part
 with_first labels first g es part own =
     ap (λ h. (first, with_one h part) ∷ es) (known_first labels first g es own)
     ∙ ap (λ b. cond b ((first, with_one (or_empty (known_group ((first, g) ∷ es) labels)) part) ∷ es) ((first, g) ∷ put_group es labels (with_one (or_empty (known_group ((first, g) ∷ es) labels)) part))) (sym own)
 
-pub with_other : (labels first : LabelSet) (g : Gathered) (es : List (LabelSet × Gathered)) (part : Part) → label_sets_eq labels first ≡ false → (first, g) ∷ with_part es labels part ≡ with_part ((first, g) ∷ es) labels part
+with_other : (labels first : LabelSet) (g : Gathered) (es : List (LabelSet × Gathered)) (part : Part) → label_sets_eq labels first ≡ false → (first, g) ∷ with_part es labels part ≡ with_part ((first, g) ∷ es) labels part
 unfolding with_part
 with_other labels first g es part other =
     ap (λ k. (first, g) ∷ put_group es labels (with_one (or_empty k) part)) (known_other labels first g es other)
     ∙ ap (λ b. cond b ((first, with_one (or_empty (known_group ((first, g) ∷ es) labels)) part) ∷ es) ((first, g) ∷ put_group es labels (with_one (or_empty (known_group ((first, g) ∷ es) labels)) part))) (sym other)
+
+-- a part added to the first group, or to one of the others
+module _ (kind : Kind) (labels : LabelSet) (part : Part) (first : LabelSet) (g : Gathered) (es : List (LabelSet × Gathered)) (is_added : Bool) where
+  pub adds_first : (grown : Gathered) → label_sets_eq (shared_labels kind labels) first ≡ true → is_added ≡ not (breaks_order g part) → (is_added ≡ true → grown ≡ with_one g part)
+      → AddsPart kind labels part ((first, g) ∷ es) ((first, grown) ∷ es) is_added
+  adds_first grown own answer added = record {
+    answer = answer ∙ ap (λ h. not (breaks_order h part)) (known_first (shared_labels kind labels) first g es own);
+    added = λ e. ap (λ h. (first, h) ∷ es) (added e) ∙ with_first (shared_labels kind labels) first g es part own;
+  }
+
+  pub adds_other : (new : List (LabelSet × Gathered)) → label_sets_eq (shared_labels kind labels) first ≡ false → AddsPart kind labels part es new is_added → AddsPart kind labels part ((first, g) ∷ es) ((first, g) ∷ new) is_added
+  adds_other new other adds = record {
+    answer = adds.answer ∙ ap (λ k. not (breaks_order (or_empty k) part)) (known_other (shared_labels kind labels) first g es other);
+    added = λ e. ap (λ l. (first, g) ∷ l) (adds.added e) ∙ with_other (shared_labels kind labels) first g es part other;
+  }
 
 -- the first part of a family
 pub with_only : (labels : LabelSet) (part : Part) → with_part ((labels, empty_group) ∷ []) labels part ≡ with_part [] labels part

@@ -1,6 +1,6 @@
 -- The groups of a family whose readings have several samples: the samples that share their labels, but for those that tell buckets and quantiles apart.
 -- OpenMetrics 1.0, "Metric" and "MetricPoint" of "Counter", "Histogram", "GaugeHistogram" and "Summary".
-use Rattle.std.specs.Prelude.{ℕ, Bool, true, false, not, ◌&&◌, ◌||◌, ◌==◌, List, [], ◌∷◌, ◌++◌, map, filter, filter_map, length, codes, Option, Some, None, option_map, is_some, nat_le, if◌then◌else◌}
+use Rattle.std.specs.Prelude.{◌≡◌, ℕ, Bool, true, false, not, ◌&&◌, ◌||◌, ◌==◌, List, [], ◌∷◌, ◌++◌, map, filter, filter_map, length, codes, Option, Some, None, option_map, is_some, nat_le, if◌then◌else◌}
 use Rattle.std.specs.List.{list_all, last_or, cons_option}
 use Rattle.std.specs.Map.{lookup}
 use Rattle.std.specs.Option.{option_or}
@@ -174,6 +174,11 @@ ends_with (Some b) g = is_up b.le && g.counts_agree && not (some_passes (λ n. n
 -- a histogram's group with a bucket `+Inf` and no other count than that bucket's
 abbrev pub is_whole_group : Gathered → Bool
 is_whole_group g = ends_with (last_or None g.buckets) g
+
+-- the answer to a part of a sample with these labels: it is added to its group, unless it breaks the order there
+pub record AddsPart (kind : Kind) (labels : LabelSet) (part : Part) (old new : List (LabelSet × Gathered)) (is_added : Bool) : Type 0 where
+  pub answer : is_added ≡ not (breaks_order (or_empty (known_group old (shared_labels kind labels))) part)
+  pub added : is_added ≡ true → new ≡ with_part old (shared_labels kind labels) part
 
 -- ---- readings
 

@@ -1,11 +1,11 @@
 //! The groups of a family behind its first one, found by their labels.
-ghost use Rattle.std.specs.Prelude.{◌≡◌, ◌<◌, [], ◌∷◌, ◌++◌, length, slice_get, vec_len, true, not, filter_map, Some, IfOk, OnOk, OnErr, IfSome};
+ghost use Rattle.std.specs.Prelude.{◌≡◌, ◌<◌, [], ◌∷◌, ◌++◌, length, slice_get, vec_len, filter_map, Some, IfOk, OnOk, OnErr, IfSome};
 ghost use Rattle.std.specs.List.{list_all, zip};
 ghost use Rattle.std.specs.Vec.{vec_capacity};
 ghost use Rattle.label_sets.specs.declared.label_set.LabelSet.{LabelSet as Labels};
 ghost use Rattle.label_sets.specs.Labels.{label_sets_eq};
 ghost use Rattle.sample_groups.specs.Beside.{AreBeside};
-ghost use Rattle.sample_groups.specs.Groups.{Gathered, empty_group, with_part, known_group, or_empty, breaks_order, is_whole_group, reading_named, shared_labels};
+ghost use Rattle.sample_groups.specs.Groups.{Gathered, empty_group, AddsPart, is_whole_group, reading_named, shared_labels};
 ghost use Rattle.sample_groups.specs.Placing.{HasPlace};
 
 use crate::group::Group;
@@ -177,8 +177,7 @@ impl Others {
         labels: &LabelSet,
         part: Part,
     ) -> Result<bool, Memory>
-        ensures answer { IfOk result (λ added. added ≡ not (breaks_order (or_empty (known_group self.old (shared_labels kind labels.now))) part)) }
-        ensures added { IfOk result (λ added. added ≡ true → self.new ≡ with_part self.old (shared_labels kind labels.now) part) }
+        ensures { IfOk result (AddsPart kind labels.now part self.old self.new) }
     {
         let place = self.place_from(alloc, kind, labels)?;
         let added = self.groups[place].add(alloc, part)?;

@@ -1,8 +1,8 @@
 //! The groups of a family that has some, in the order of their first lines.
-ghost use Rattle.std.specs.Prelude.{◌≡◌, [], ◌∷◌, true, not, filter_map, IfOk};
+ghost use Rattle.std.specs.Prelude.{◌≡◌, [], ◌∷◌, filter_map, IfOk};
 ghost use Rattle.std.specs.List.{list_all};
 ghost use Rattle.label_sets.specs.declared.label_set.LabelSet.{LabelSet as Labels};
-ghost use Rattle.sample_groups.specs.Groups.{Gathered, empty_group, with_part, known_group, or_empty, breaks_order, is_whole_group, reading_named, shared_labels};
+ghost use Rattle.sample_groups.specs.Groups.{Gathered, empty_group, AddsPart, is_whole_group, reading_named};
 ghost use Rattle.sample_groups.specs.Tables.{others_in};
 
 use crate::group::Group;
@@ -45,8 +45,7 @@ fn add_other(
     labels: &LabelSet,
     part: Part,
 ) -> Result<bool, Memory>
-    ensures answer { IfOk result (λ added. added ≡ not (breaks_order (or_empty (known_group (others_in others.old) (shared_labels kind labels.now))) part)) }
-    ensures added { IfOk result (λ added. added ≡ true → others_in others.new ≡ with_part (others_in others.old) (shared_labels kind labels.now) part) }
+    ensures { IfOk result (AddsPart kind labels.now part (others_in others.old) (others_in others.new)) }
 {
     match others {
         Some(others) => {
@@ -83,8 +82,7 @@ impl Table {
         labels: &LabelSet,
         part: Part,
     ) -> Result<bool, Memory>
-        ensures answer { IfOk result (λ added. added ≡ not (breaks_order (or_empty (known_group self.old (shared_labels kind labels.now))) part)) }
-        ensures added { IfOk result (λ added. added ≡ true → self.new ≡ with_part self.old (shared_labels kind labels.now) part) }
+        ensures { IfOk result (AddsPart kind labels.now part self.old self.new) }
     {
         if are_shared(kind, labels, &self.first_labels) {
             let added = self.first.add(alloc, part)?;

@@ -212,55 +212,59 @@ fn tells_a_whole_gauge_histogram(rt: HostRuntime) -> Result<(), Memory> {
     Ok(())
 }
 
+/// Whether the row breaks the rule behind a first row of its family.
+fn breaks(alloc: Global, kind: Kind, row: Row<'_>, rule: Rule) -> Result<bool, Memory> {
+    let first = match kind {
+        Kind::Summary => "h",
+        Kind::Counter => "h_total",
+        _ => "h_bucket",
+    };
+    let rows = [(first, "", "1", "3"), row];
+    let mut groups = Groups::new(alloc);
+    Ok(gather(alloc, kind, &rows, &mut groups)? == Some(rule))
+}
+
 #[test]
-fn names_the_broken_rule(rt: HostRuntime) -> Result<(), Memory> {
-    let alloc = rt.alloc();
+fn names_the_broken_rule_of_a_histogram(rt: HostRuntime) -> Result<(), Memory> {
     let cases = [
-        (Kind::Histogram, ("h_bucket", "", "", "1"), Rule::Threshold),
-        (
-            Kind::Histogram,
-            ("h_bucket", "", "-Inf", "1"),
-            Rule::Threshold,
-        ),
-        (Kind::Histogram, ("h_bucket", "", "x", "1.5"), Rule::Value),
-        (Kind::Histogram, ("h_count", "", "1", "1"), Rule::Threshold),
-        (Kind::Histogram, ("h_count", "", "", "-1"), Rule::Value),
-        (Kind::Histogram, ("h_bucket", "", "1.0", "3"), Rule::Order),
-        (Kind::Histogram, ("h_bucket", "", "2", "2"), Rule::Order),
-        (
-            Kind::GaugeHistogram,
-            ("h_gcount", "", "", "0.5"),
-            Rule::Value,
-        ),
-        (
-            Kind::GaugeHistogram,
-            ("h_gsum", "", "1", "1"),
-            Rule::Threshold,
-        ),
-        (Kind::Summary, ("h", "", "+Inf", "1"), Rule::Threshold),
-        (Kind::Summary, ("h_sum", "", "1", "1"), Rule::Threshold),
-        (Kind::Summary, ("h_count", "", "", "NaN"), Rule::Value),
-        (Kind::Summary, ("h", "", "1.00", "1"), Rule::Order),
-        (Kind::Summary, ("h_created", "", "1", "5"), Rule::Threshold),
-        (Kind::Histogram, ("h_created", "", "", "NaN"), Rule::Value),
-        (Kind::Counter, ("h_total", "", "", "-1"), Rule::Value),
-        (Kind::Counter, ("h_total", "", "", "NaN"), Rule::Value),
-        (Kind::Counter, ("h_created", "", "", "+Inf"), Rule::Value),
+        (("h_bucket", "", "", "1"), Rule::Threshold),
+        (("h_bucket", "", "-Inf", "1"), Rule::Threshold),
+        (("h_bucket", "", "x", "1.5"), Rule::Value),
+        (("h_count", "", "1", "1"), Rule::Threshold),
+        (("h_count", "", "", "-1"), Rule::Value),
+        (("h_created", "", "", "NaN"), Rule::Value),
+        (("h_bucket", "", "1.0", "3"), Rule::Order),
+        (("h_bucket", "", "2", "2"), Rule::Order),
     ];
-    for (kind, row, rule) in cases {
-        let first = match kind {
-            Kind::Summary => "h",
-            Kind::Counter => "h_total",
-            _ => "h_bucket",
-        };
-        let rows = [(first, "", "1", "3"), row];
-        let mut groups = Groups::new(alloc);
-        let broken = gather(alloc, kind, &rows, &mut groups)?;
+    assert!(rt; is_grouped(Format::Text, Kind::Histogram));
+    for (row, rule) in cases {
         assert!(rt;
-            is_grouped(Format::OpenMetrics, kind) && broken == Some(rule),
+            breaks(rt.alloc(), Kind::Histogram, row, rule)?,
             "{}",
             row.0
         );
+    }
+    Ok(())
+}
+
+#[test]
+fn names_the_broken_rule_of_other_kinds(rt: HostRuntime) -> Result<(), Memory> {
+    use Kind::{Counter, GaugeHistogram, Summary};
+    let cases = [
+        (GaugeHistogram, ("h_gcount", "", "", "0.5"), Rule::Value),
+        (GaugeHistogram, ("h_gsum", "", "1", "1"), Rule::Threshold),
+        (Summary, ("h", "", "+Inf", "1"), Rule::Threshold),
+        (Summary, ("h_sum", "", "1", "1"), Rule::Threshold),
+        (Summary, ("h_count", "", "", "NaN"), Rule::Value),
+        (Summary, ("h_created", "", "1", "5"), Rule::Threshold),
+        (Summary, ("h", "", "1.00", "1"), Rule::Order),
+        (Counter, ("h_total", "", "", "-1"), Rule::Value),
+        (Counter, ("h_total", "", "", "NaN"), Rule::Value),
+        (Counter, ("h_created", "", "", "+Inf"), Rule::Value),
+    ];
+    for (kind, row, rule) in cases {
+        assert!(rt; is_grouped(Format::OpenMetrics, kind));
+        assert!(rt; breaks(rt.alloc(), kind, row, rule)?, "{}", row.0);
     }
     Ok(())
 }
