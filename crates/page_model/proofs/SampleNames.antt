@@ -1,5 +1,5 @@
 -- The suffix of a sample's name, as one of the suffixes by its bytes.
-use Rattle.std.proofs.Common.{◌≡◌, ℕ, Bool, true, false, ◌&&◌, ◌||◌, List, [], ◌∷◌, ◌++◌, take, drop, length, Option, None, Some, IfSome, refl, sym, ap, ◌∙◌, if◌then◌else◌}
+use Rattle.std.proofs.Common.{find, ◌≡◌, ℕ, Bool, true, false, ◌&&◌, ◌||◌, List, [], ◌∷◌, ◌++◌, take, drop, length, Option, None, Some, IfSome, refl, sym, ap, ◌∙◌, if◌then◌else◌}
 use Rattle.std.specs.Prelude.{◌==◌}
 use Rattle.std.specs.List.{list_any}
 use Rattle.std.specs.Str.{bytes_eq}
@@ -11,20 +11,22 @@ use Rattle.page_model.specs.declared.format.Format.TheVariants.{Text, OpenMetric
 use Rattle.page_model.specs.declared.suffix.Suffix.{Suffix}
 use Rattle.page_model.specs.declared.suffix.Suffix.TheVariants.{Own, Bucket, Count, GaugeCount, Sum, GaugeSum, Total, Created, Info}
 use Rattle.page_model.specs.Suffixes.{is_sample_name}
-use Rattle.page_model.specs.SuffixNames.{suffix_bytes, suffix_named}
+use Rattle.page_model.specs.SuffixNames.{suffix_bytes, all_suffixes, suffix_named}
 
 -- ---- a suffix and its bytes
 
+named_among : (bytes : List ℕ) (xs : List Suffix) → IfSome (find (λ suffix. bytes_eq bytes (suffix_bytes suffix)) xs) (λ suffix. bytes ≡ suffix_bytes suffix)
+named_among bytes [] = tt
+named_among bytes (x ∷ xs) = by (bytes_eq bytes (suffix_bytes x)) (bytes_decides bytes (suffix_bytes x)).0 (named_among bytes xs)
+  where
+    by : (b : Bool) → (b ≡ true → bytes ≡ suffix_bytes x) → IfSome (find (λ suffix. bytes_eq bytes (suffix_bytes suffix)) xs) (λ suffix. bytes ≡ suffix_bytes suffix)
+        → IfSome (if b then Some x else find (λ suffix. bytes_eq bytes (suffix_bytes suffix)) xs) (λ suffix. bytes ≡ suffix_bytes suffix)
+    by true same more = same refl
+    by false same more = more
+
 named_is : (bytes : List ℕ) → IfSome (suffix_named bytes) (λ suffix. bytes ≡ suffix_bytes suffix)
 unfolding suffix_named
-named_is bytes = or_else Own _ (or_else Bucket _ (or_else Count _ (or_else Sum _ (or_else Total _ (or_else Created _ (or_else GaugeCount _ (or_else GaugeSum _ (or_else Info None tt))))))))
-  where
-    or_else : (suffix : Suffix) (rest : Option Suffix) → IfSome rest (λ s. bytes ≡ suffix_bytes s) → IfSome (if bytes_eq bytes (suffix_bytes suffix) then Some suffix else rest) (λ s. bytes ≡ suffix_bytes s)
-    or_else suffix rest more = by (bytes_eq bytes (suffix_bytes suffix)) (bytes_decides bytes (suffix_bytes suffix)).0
-      where
-        by : (b : Bool) → (b ≡ true → bytes ≡ suffix_bytes suffix) → IfSome (if b then Some suffix else rest) (λ s. bytes ≡ suffix_bytes s)
-        by true same = same refl
-        by false same = more
+named_is bytes = named_among bytes all_suffixes
 
 named_back : (suffix : Suffix) → suffix_named (suffix_bytes suffix) ≡ Some suffix
 unfolding suffix_named
