@@ -32,92 +32,14 @@ use Rattle.sample_groups.specs.Groups.{groups_from, reading_from}
 use Rattle.sample_groups.specs.Parts.{is_grouped, entry_of}
 use Rattle.sample_groups.specs.Sound.{AreSound}
 use Rattle.sample_groups.proofs.Laws.{readings_made}
-use Rattle.family_rules.specs.Checking.{has_sort, has_samples, groups_so_far, so_far, left_before, key_of, keys_above, Checking, Stands, left_families, current_family}
+use Rattle.family_rules.specs.Checking.{groups_so_far, so_far, left_before, key_of, keys_above, Checking, Stands, left_families, current_family}
 use Rattle.family_rules.specs.Steps.{left_stop, page_at, with_left, plain_reading, readings_at, readings_in, family_at, families_at}
-use Rattle.family_rules.proofs.Lists.{bytes_same, reverse-cons, first_of_each-snoc, first_some-append, list_any-map, list_any-reverse, pairs, lookup-map, insert_entry-last}
-use Rattle.family_rules.proofs.Standing.{label_sets_swap, left_at_end}
+use Rattle.family_rules.proofs.Lists.{bytes_same, label_sets_swap, reverse-cons, first_of_each-snoc, first_some-append, list_any-map, list_any-reverse, pairs, lookup-map, insert_entry-last}
+use Rattle.family_rules.proofs.Standing.{left_at_end}
 use Rattle.std.specs.Map.{lookup}
 use Rattle.family_rules.proofs.Faults.{fit_lines, or_parts, is_plain, plain_or_grouped, plain_name, text_family, sound_samples, left_fault, AreFit, drop_all}
-use Rattle.family_rules.proofs.Kept.{fresh, families_of-reverse, samples_of-reverse, reversed_samples, own_samples, none_of_other, late_known}
-
--- ---- one descriptor of a sort
-
-none_of_some : {A : Type 0} (o : Option A) → is_some o ≡ false → o ≡ None
-none_of_some None h = refl
-none_of_some (Some x) h = absurd (let f : true ≡ false = h in cc)
-
--- a late descriptor would have one before it
-no_earlier : (st : Setting) (above : List Owned) (o : Owned) → is_descriptor o.item ≡ true → is_late_descriptor above o ≡ false → has_sort o.item (so_far st above o.family) ≡ false
-no_earlier st above o d h = (or_parts (has_sort o.item (so_far st above o.family)) (has_samples (so_far st above o.family)) (sym (late_known st above o.family o.item d) ∙ h)).0
-
--- what one line says of a family is said by no earlier line
-module _ {A : Type 0} (of_line : Item → Option A) where
-  abbrev said : List ℕ → Owned → Option A
-  said F o = cond (is_of F o) (of_line o.item) None
-
-  abbrev Once : List Owned → Type 0
-  Once [] = Unit {0}
-  Once (o ∷ above) = ((x : A) → of_line o.item ≡ Some x → first_some (said o.family) above ≡ None) × Once above
-
-  join : (b : Bool) (o : Option A) (rest : Option A) → ((x : A) → b ≡ true → o ≡ Some x → rest ≡ None) → option_or rest (option_or (cond b o None) None) ≡ option_or (cond b o None) rest
-  join false o None h = refl
-  join false o (Some y) h = refl
-  join true None None h = refl
-  join true None (Some y) h = refl
-  join true (Some x) rest h = ap (λ r. option_or r (Some x)) (h x refl refl) ∙ sym (ap (λ r. option_or (Some x) r) (h x refl refl))
-
-  once_reverse : (above : List Owned) (F : List ℕ) → Once above → first_some (said F) (reverse above) ≡ first_some (said F) above
-  once_reverse [] F h = refl
-  once_reverse (o ∷ above) F h =
-      ap (first_some (said F)) (reverse-cons o above) ∙ first_some-append (said F) (reverse above) (o ∷ [])
-      ∙ ap (λ r. option_or r (option_or (said F o) None)) (once_reverse above F h.1)
-      ∙ join (is_of F o) (of_line o.item) (first_some (said F) above) (λ x own says.
-      subst (λ G. first_some (said G) above ≡ None) ((bytes_decides o.family F).0 own) (h.0 x says))
-
-help_first : (st : Setting) (above : List Owned) (F : List ℕ) (item : Item) (x : List ℕ) → is_late_descriptor above (record { family = F; item = item }) ≡ false → help_of_line item ≡ Some x
-    → first_some (said help_of_line F) above ≡ None
-unfolding so_far
-help_first st above F (items.Help n t) x late says = none_of_some (first_some (said help_of_line F) above) (no_earlier st above (record { family = F; item = items.Help n t }) refl late)
-help_first st above F items.Blank x late says = absurd (let f : None ≡ Some x = says in cc)
-help_first st above F items.Comment x late says = absurd (let f : None ≡ Some x = says in cc)
-help_first st above F items.Eof x late says = absurd (let f : None ≡ Some x = says in cc)
-help_first st above F (items.KindOf n k) x late says = absurd (let f : None ≡ Some x = says in cc)
-help_first st above F (items.Unit n u) x late says = absurd (let f : None ≡ Some x = says in cc)
-help_first st above F (items.Sample s) x late says = absurd (let f : None ≡ Some x = says in cc)
-
-kind_first : (st : Setting) (above : List Owned) (F : List ℕ) (item : Item) (x : Kind) → is_late_descriptor above (record { family = F; item = item }) ≡ false → kind_of_line item ≡ Some x
-    → first_some (said kind_of_line F) above ≡ None
-unfolding so_far
-kind_first st above F (items.KindOf n k) x late says = none_of_some (first_some (said kind_of_line F) above) (no_earlier st above (record { family = F; item = items.KindOf n k }) refl late)
-kind_first st above F items.Blank x late says = absurd (let f : None ≡ Some x = says in cc)
-kind_first st above F items.Comment x late says = absurd (let f : None ≡ Some x = says in cc)
-kind_first st above F items.Eof x late says = absurd (let f : None ≡ Some x = says in cc)
-kind_first st above F (items.Help n t) x late says = absurd (let f : None ≡ Some x = says in cc)
-kind_first st above F (items.Unit n u) x late says = absurd (let f : None ≡ Some x = says in cc)
-kind_first st above F (items.Sample s) x late says = absurd (let f : None ≡ Some x = says in cc)
-
-unit_first : (st : Setting) (above : List Owned) (F : List ℕ) (item : Item) (x : List ℕ) → is_late_descriptor above (record { family = F; item = item }) ≡ false → unit_of_line item ≡ Some x
-    → first_some (said unit_of_line F) above ≡ None
-unfolding so_far
-unit_first st above F (items.Unit n u) x late says = none_of_some (first_some (said unit_of_line F) above) (no_earlier st above (record { family = F; item = items.Unit n u }) refl late)
-unit_first st above F items.Blank x late says = absurd (let f : None ≡ Some x = says in cc)
-unit_first st above F items.Comment x late says = absurd (let f : None ≡ Some x = says in cc)
-unit_first st above F items.Eof x late says = absurd (let f : None ≡ Some x = says in cc)
-unit_first st above F (items.Help n t) x late says = absurd (let f : None ≡ Some x = says in cc)
-unit_first st above F (items.KindOf n k) x late says = absurd (let f : None ≡ Some x = says in cc)
-unit_first st above F (items.Sample s) x late says = absurd (let f : None ≡ Some x = says in cc)
-
-help_once : (st : Setting) (above : List Owned) → AreFit st above → Once help_of_line above
-help_once st [] fit = tt
-help_once st (o ∷ above) fit = (λ x says. help_first st above o.family o.item x fit.0.descriptor says, help_once st above fit.1)
-
-kind_once : (st : Setting) (above : List Owned) → AreFit st above → Once kind_of_line above
-kind_once st [] fit = tt
-kind_once st (o ∷ above) fit = (λ x says. kind_first st above o.family o.item x fit.0.descriptor says, kind_once st above fit.1)
-
-unit_once : (st : Setting) (above : List Owned) → AreFit st above → Once unit_of_line above
-unit_once st [] fit = tt
-unit_once st (o ∷ above) fit = (λ x says. unit_first st above o.family o.item x fit.0.descriptor says, unit_once st above fit.1)
+use Rattle.family_rules.proofs.Once.{help_sort, kind_sort, unit_sort, said_once}
+use Rattle.family_rules.proofs.Kept.{fresh, families_of-reverse, samples_of-reverse, reversed_samples, own_samples, none_of_other}
 
 -- ---- lists
 
@@ -409,9 +331,9 @@ one_family : (st : Setting) (above : List Owned) (F : List ℕ) (more : List Sam
     → family_at F (so_far st above F) (keys_in st above F ++ more) ≡ family_of st (reverse above) F
 unfolding family_of so_far kind_of
 one_family st above F more text fit =
-    let help : first_some (help_in F) above ≡ first_some (help_in F) (reverse above) = sym (once_reverse help_of_line above F (help_once st above fit)) in
-    let kinds : first_some (declared_kind F) above ≡ first_some (declared_kind F) (reverse above) = sym (once_reverse kind_of_line above F (kind_once st above fit)) in
-    let units : first_some (unit_in F) above ≡ first_some (unit_in F) (reverse above) = sym (once_reverse unit_of_line above F (unit_once st above fit)) in
+    let help : first_some (help_in F) above ≡ first_some (help_in F) (reverse above) = sym (said_once help_of_line help_sort st above F fit) in
+    let kinds : first_some (declared_kind F) above ≡ first_some (declared_kind F) (reverse above) = sym (said_once kind_of_line kind_sort st above F fit) in
+    let units : first_some (unit_in F) above ≡ first_some (unit_in F) (reverse above) = sym (said_once unit_of_line unit_sort st above F fit) in
     let rs = made_readings st above F more text fit in
     (λ i. record { name = F; kind = kind_of above F; help = unwrap_or (first_some (help_in F) above) []; unit = unwrap_or (first_some (unit_in F) above) []; readings = rs i })
     ∙ (λ i. record {

@@ -1,7 +1,9 @@
 pub mod Lists
 pub mod Named
 pub mod Faults
+pub mod Once
 pub mod Kept
+pub mod Seen
 pub mod Standing
 pub mod Endings
 pub mod Taking

@@ -13,17 +13,19 @@ use Rattle.indexmap.specs.IndexMap.{insert_entry}
 use Rattle.label_sets.specs.declared.kind.Kind.{Kind}
 use Rattle.label_sets.specs.declared.label_set.LabelSet.{LabelSet}
 use Rattle.label_sets.specs.Labels.{label_sets_eq}
-use Rattle.label_sets.specs.Lists.{some_passes}
+use Rattle.label_sets.specs.Lists.{first_some, some_passes}
 use Rattle.page_model.specs.declared.format.Format.TheVariants.{Text}
 use Rattle.page_model.specs.declared.item.Item.{Item}
 use Rattle.page_model.specs.declared.item.Item.TheVariants as items
 use Rattle.page_model.specs.declared.item.Sample.{Sample}
 use Rattle.page_model.specs.Written.{Setting}
 use Rattle.page_model.specs.declared.rule.Rule.TheVariants as rules
-use Rattle.page_model.specs.Items.{is_sample, sample_of_line, is_descriptor}
+use Rattle.page_model.specs.Items.{is_sample, sample_of_line, unit_of_line, is_descriptor}
+use Rattle.page_model.specs.Readings.{unit_in}
+use Rattle.std.specs.Option.{option_or}
 use Rattle.page_model.specs.Suffixes.{is_sample_name}
 use Rattle.page_model.specs.Owners.{Owned, is_of, kind_of, sample_owner, owner_of, with_owner, owned_lines, samples_of, kept_labels}
-use Rattle.page_model.specs.Rules.{is_histogram, is_late_descriptor, is_split, is_same_series, is_duplicate, is_complete_at, is_incomplete, leaves_incomplete, sample_group}
+use Rattle.page_model.specs.Rules.{is_histogram, is_info_or_state_set, is_unit, is_foreign_unit, gives_unit, has_forbidden_unit, is_bad_unit, is_late_descriptor, is_split, is_same_series, is_duplicate, is_complete_at, is_incomplete, leaves_incomplete, sample_group}
 use Rattle.page_model.specs.Faults.{item_fault}
 use Rattle.sample_groups.specs.declared.part.Part.{Part}
 use Rattle.sample_groups.specs.Groups.{Gathered, groups_from, shared_labels, with_part, is_whole_group}
@@ -34,19 +36,15 @@ use Rattle.family_rules.specs.declared.family.Current.{Current}
 use Rattle.family_rules.specs.declared.family.Descriptor.{Descriptor}
 use Rattle.family_rules.specs.declared.family.Descriptor.TheVariants as sorts
 use Rattle.family_rules.specs.declared.family.FamilySoFar.{FamilySoFar}
-use Rattle.family_rules.specs.Checking.{Checking, no_lines, has_samples, has_sort, groups_so_far, so_far, left_before, left_families, current_family, key_of, keys_above, IsTextItem, Stands}
-use Rattle.family_rules.specs.Steps.{is_of_sort, is_late_in, current_kind, is_current_family, known_in, is_current_sample, has_incomplete, left_stop, place_stop, with_left, begun, reached, current_with, with_current, with_part_in, with_sample, IsReady}
+use Rattle.family_rules.specs.Checking.{Checking, no_lines, has_samples, groups_so_far, so_far, left_before, left_families, current_family, key_of, keys_above, IsTextItem, Stands}
+use Rattle.family_rules.specs.Steps.{has, line_of, is_bad_unit_in, unit_stop, family_with, family_with_value, with_descriptor, is_late_in, current_kind, is_current_family, known_in, is_current_sample, has_incomplete, left_stop, place_stop, with_left, begun, reached, current_with, with_current, with_part_in, with_sample, IsReady}
 use Rattle.packed_keys.specs.Packing.{sample_key_eq}
 use Rattle.family_rules.proofs.Lists.{or_false, bytes_same, bytes_swap, pairs, lookup-map, map-pairs, insert_entry-last}
-use Rattle.family_rules.proofs.Faults.{AreFit, fit_lines, sound_samples, none_above, left_fault, place_fault}
-use Rattle.family_rules.proofs.Kept.{known_lines, fresh, reversed_samples, grown, so_far-other, so_far-help, so_far-kind, so_far-unit, so_far-sample, so_far-none, late_known}
+use Rattle.family_rules.proofs.Faults.{AreFit, fit_lines, sound_samples, none_above, no_forbidden, left_fault, place_fault, unit_fault}
+use Rattle.family_rules.proofs.Once.{unit_sort, said_first}
+use Rattle.family_rules.proofs.Kept.{known_lines, fresh, reversed_samples, grown, is_one, so_far-other, so_far-descriptor, so_far-sample, so_far-none, late_known}
 
 -- ---- what is known
-
--- late, by what is known
-abbrev pub is_late : Item → Option FamilySoFar → Bool
-is_late item None = false
-is_late item (Some f) = has_sort item f || has_samples f
 
 module _ (st : Setting) where
   -- the pairs of the left families
@@ -85,22 +83,18 @@ module _ (st : Setting) where
           sym (ap is_some (lookup-map (so_far st (n ∷ above)) F (left_before n.family above)) ∙ some_cond (list_any (bytes_eq F) (left_before n.family above)) (so_far st (n ∷ above) F)
           ∙ sym (or_false (list_any (bytes_eq F) (left_before n.family above))) ∙ known)
 
-  late_above : (above : List Owned) (F : List ℕ) (item : Item) → is_descriptor item ≡ true
-      → is_late_descriptor above (record { family = F; item = item }) ≡ is_late item (known_in (left_pairs above) (current_family st above) F)
-  late_above above F item h = late_known st above F item h ∙ by (list_any (is_of F) above) refl ∙ sym (ap (is_late item) (known_above above F))
+  late_above : (above : List Owned) (F : List ℕ) (d : Descriptor)
+      → is_late_descriptor above (record { family = F; item = line_of F d }) ≡ is_late_in d (known_in (left_pairs above) (current_family st above) F)
+  late_above above F d = late_known st above F d ∙ by (list_any (is_of F) above) refl ∙ sym (ap (is_late_in d) (known_above above F))
     where
-      nothing : (item : Item) → (has_sort item no_lines || has_samples no_lines) ≡ false
-      nothing items.Blank = refl
-      nothing items.Comment = refl
-      nothing items.Eof = refl
-      nothing (items.Help n t) = refl
-      nothing (items.KindOf n k) = refl
-      nothing (items.Unit n u) = refl
-      nothing (items.Sample s) = refl
+      nothing : (d : Descriptor) → (has d no_lines || has_samples no_lines) ≡ false
+      nothing (sorts.Help t) = refl
+      nothing (sorts.Type k) = refl
+      nothing (sorts.Unit u) = refl
 
-      by : (b : Bool) → list_any (is_of F) above ≡ b → (has_sort item (so_far st above F) || has_samples (so_far st above F)) ≡ is_late item (cond b (Some (so_far st above F)) None)
+      by : (b : Bool) → list_any (is_of F) above ≡ b → (has d (so_far st above F) || has_samples (so_far st above F)) ≡ is_late_in d (cond b (Some (so_far st above F)) None)
       by true e = refl
-      by false e = ap (λ f. has_sort item f || has_samples f) (so_far-none st above F e) ∙ nothing item
+      by false e = ap (λ f. has d f || has_samples f) (so_far-none st above F e) ∙ nothing d
 
   -- ---- a family that is left
 
@@ -138,6 +132,58 @@ module _ (st : Setting) where
   unfolding leaves_incomplete current_family
   left_own [] F h = refl
   left_own (n ∷ above) F h = rw h refl
+
+-- ---- units
+
+-- whether lines give a family a unit that isn't empty, by the unit that is kept
+given_unit : (st : Setting) (above : List Owned) (F : List ℕ) → AreFit st above → list_any (gives_unit F) above ≡ some_passes is_unit (first_some (unit_in F) above)
+given_unit st [] F fit = refl
+given_unit st (o ∷ above) F fit = by (bytes_eq o.family F) (unit_of_line o.item) refl refl (given_unit st above F fit.1)
+  where
+    by : (b : Bool) (u : Option (List ℕ)) → bytes_eq o.family F ≡ b → unit_of_line o.item ≡ u → list_any (gives_unit F) above ≡ some_passes is_unit (first_some (unit_in F) above)
+        → ((b && some_passes is_unit u) || list_any (gives_unit F) above) ≡ some_passes is_unit (option_or (cond b u None) (first_some (unit_in F) above))
+    by false u e says ih = ih
+    by true None e says ih = ih
+    by true (Some unit) e says ih =
+        let first : first_some (unit_in o.family) above ≡ None = said_first unit_of_line unit_sort above o (ap is_some says) fit.0.descriptor in
+        let none : first_some (unit_in F) above ≡ None = subst (λ G. first_some (unit_in G) above ≡ None) ((bytes_decides o.family F).0 e) first in
+        ap (λ b. is_unit unit || b) (ih ∙ ap (some_passes is_unit) none) ∙ or_false (is_unit unit)
+
+-- Unit, by what is known of the family
+bad_unit_above : (st : Setting) (above : List Owned) (F : List ℕ) (d : Descriptor) → AreFit st above
+    → is_bad_unit_in (record { name = F; family = so_far st above F }) d ≡ is_bad_unit above (record { family = F; item = line_of F d })
+unfolding is_bad_unit is_bad_unit_in has_forbidden_unit so_far kind_of
+bad_unit_above st above F d fit = by d (no_forbidden st above F fit) (given_unit st above F fit)
+  where
+    known : Bool
+    known = list_any (gives_unit F) above
+
+    kept : (g : Bool) → g ≡ false → false ≡ (g && not g)
+    kept true h = absurd (let f : true ≡ false = h in cc)
+    kept false h = refl
+
+    forbidden : (k g h : Bool) → h ≡ false → g ≡ known → (k && g) ≡ ((k && known) && not h)
+    forbidden true true true e f = absurd (let f : true ≡ false = e in cc)
+    forbidden k g true e f = absurd (let f : true ≡ false = e in cc)
+    forbidden true g false e f = f ∙ both known
+      where
+        both : (b : Bool) → b ≡ (b && true)
+        both true = refl
+        both false = refl
+    forbidden false g false e f = refl
+
+    given : (a k u g : Bool) → (k && g) ≡ false → (a || (k && u)) ≡ (a || ((k && (u || g)) && not (k && g)))
+    given true k u g h = refl
+    given false false u g h = refl
+    given false true true false h = refl
+    given false true false false h = refl
+    given false true u true h = absurd (let f : true ≡ false = h in cc)
+
+    by : (d : Descriptor) → has_forbidden_unit above F ≡ false → list_any (gives_unit F) above ≡ some_passes is_unit (first_some (unit_in F) above)
+        → is_bad_unit_in (record { name = F; family = so_far st above F }) d ≡ is_bad_unit above (record { family = F; item = line_of F d })
+    by (sorts.Help t) none unit = rw (bytes_same F) (kept (has_forbidden_unit above F) none)
+    by (sorts.Type k) none unit = rw (bytes_same F) (forbidden (is_info_or_state_set k) (some_passes is_unit (first_some (unit_in F) above)) (has_forbidden_unit above F) none (sym unit))
+    by (sorts.Unit u) none unit = rw (bytes_same F) (given (is_foreign_unit F u) (is_info_or_state_set (kind_of above F)) (is_unit u) known none)
 
 -- ---- ready for a line
 
@@ -192,8 +238,8 @@ module _ (st : Setting) (c : Checking) (earlier : List Item) (s : Stands st c ea
   split_own F item h = sym (split_kept F item) ∙ ap (λ b. not b && is_some (lookup (bytes_eq F) c.left)) h
 
   -- Descriptor, by what is kept
-  late_kept : (F : List ℕ) (item : Item) → is_descriptor item ≡ true → is_late item (known_in c.left c.current F) ≡ is_late_descriptor lines (record { family = F; item = item })
-  late_kept F item h = sym (rw (s.left, s.current) (late_above st lines F item h))
+  late_kept : (F : List ℕ) (d : Descriptor) → is_late_in d (known_in c.left c.current F) ≡ is_late_descriptor lines (record { family = F; item = line_of F d })
+  late_kept F d = sym (rw (s.left, s.current) (late_above st lines F d))
 
   -- Incomplete, by what is kept
   pub left_kept : (F : List ℕ) → is_current_family c.current F ≡ false → left_stop c.current ≡ left_fault st lines (Some F)
@@ -216,30 +262,25 @@ module _ (st : Setting) (c : Checking) (earlier : List Item) (s : Stands st c ea
       current : cond (is_current_family c.current F) c.current (first_line F) ≡ Some (record { name = F; family = so_far st lines F })
       current = rw s.current (ready_current st F item lines h)
 
+      -- the same checker but for its families
+      ready_for : (d : Checking) → d.setting ≡ c.setting → d.seen ≡ c.seen → d.samples ≡ c.samples → d.stopped ≡ c.stopped
+          → d.left ≡ cond (is_current_family c.current F) c.left (with_left c.left c.current) → d.current ≡ cond (is_current_family c.current F) c.current (first_line F) → IsReady st d earlier F
+      ready_for d setting seen samples stopped left_is current_is = record {
+        setting = setting ∙ s.setting;
+        text = s.text;
+        left = left_is ∙ left;
+        current = current_is ∙ current;
+        seen = seen ∙ s.seen;
+        samples = samples ∙ s.samples;
+        working = stopped ∙ s.working;
+        text_items = s.text_items;
+        faultless = s.faultless;
+      }
+
       by : (b : Bool) → is_current_family c.current F ≡ b
           → IsReady st (cond b c (begun c F)) earlier F
-      by true e = record {
-        setting = s.setting;
-        text = s.text;
-        left = ap (λ b. cond b c.left (with_left c.left c.current)) (sym e) ∙ left;
-        current = ap (λ b. cond b c.current (first_line F)) (sym e) ∙ current;
-        seen = s.seen;
-        samples = s.samples;
-        working = s.working;
-        text_items = s.text_items;
-        faultless = s.faultless;
-      }
-      by false e = record {
-        setting = s.setting;
-        text = s.text;
-        left = ap (λ b. cond b c.left (with_left c.left c.current)) (sym e) ∙ left;
-        current = ap (λ b. cond b c.current (first_line F)) (sym e) ∙ current;
-        seen = s.seen;
-        samples = s.samples;
-        working = s.working;
-        text_items = s.text_items;
-        faultless = s.faultless;
-      }
+      by true e = ready_for c refl refl refl refl (ap (λ b. cond b c.left (with_left c.left c.current)) (sym e)) (ap (λ b. cond b c.current (first_line F)) (sym e))
+      by false e = ready_for (begun c F) refl refl refl refl (ap (λ b. cond b c.left (with_left c.left c.current)) (sym e)) (ap (λ b. cond b c.current (first_line F)) (sym e))
 
 -- ---- a line more
 
@@ -281,27 +322,36 @@ module _ (st : Setting) (c : Checking) (earlier : List Item) (F : List ℕ) (r :
   unfolding so_far kind_of
   ready_kind = ap current_kind r.current
 
-  pub stands_help : (text : List ℕ) → item_fault st earlier (items.Help F text) ≡ None
-      → Stands st (with_current c (current_with (λ f. record f { help = Some text }) c.current)) (items.Help F text ∷ earlier)
-  stands_help text none = stands_with (items.Help F text) tt none refl (with_current c (current_with (λ f. record f { help = Some text }) c.current)) refl refl
-      (changed (λ f. record f { help = Some text }) (so_far st (record { family = F; item = items.Help F text } ∷ owned_lines st.format earlier) F) (so_far-help st F text (owned_lines st.format earlier)))
-      (unseen (items.Help F text) refl) r.samples refl
-
-  pub stands_kind : (kind : Kind) → IsTextItem (items.KindOf F kind) → item_fault st earlier (items.KindOf F kind) ≡ None
-      → is_late_descriptor (owned_lines st.format earlier) (record { family = F; item = items.KindOf F kind }) ≡ false
-      → Stands st (with_current c (current_with (λ f. record f { kind = Some kind }) c.current)) (items.KindOf F kind ∷ earlier)
-  stands_kind kind text none late =
+  -- a descriptor more
+  pub stands_described : (d : Descriptor) → IsTextItem (line_of F d) → item_fault st earlier (line_of F d) ≡ None
+      → is_late_descriptor (owned_lines st.format earlier) (record { family = F; item = line_of F d }) ≡ false
+      → Stands st (with_descriptor c d) (line_of F d ∷ earlier)
+  stands_described d text none late =
       let above : List Owned = owned_lines st.format earlier in
-      let first : samples_of (reverse above) F ≡ [] = reversed_samples above F ∙ ap reverse (none_above above F (items.KindOf F kind) refl late) in
-      stands_with (items.KindOf F kind) text none refl (with_current c (current_with (λ f. record f { kind = Some kind }) c.current)) refl refl
-      (changed (λ f. record f { kind = Some kind }) (so_far st (record { family = F; item = items.KindOf F kind } ∷ above) F) (so_far-kind st F kind above first))
-      (unseen (items.KindOf F kind) refl) r.samples refl
+      let first : samples_of (reverse above) F ≡ [] = reversed_samples above F ∙ ap reverse (none_above above F (line_of F d) (is_one F d) late) in
+      stands_with (line_of F d) text none (owner d) (with_descriptor c d) refl refl
+      (changed (family_with d) (so_far st (record { family = F; item = line_of F d } ∷ above) F) (so_far-descriptor st F d above first))
+      (unseen (line_of F d) (no_sample d)) (r.samples ∙ uncounted d) refl
+    where
+      owner : (d : Descriptor) → owner_of st.format (owned_lines st.format earlier) (line_of F d) ≡ Some F
+      owner (sorts.Help t) = refl
+      owner (sorts.Type k) = refl
+      owner (sorts.Unit u) = refl
 
-  pub stands_unit : (unit : List ℕ) → item_fault st earlier (items.Unit F unit) ≡ None
-      → Stands st (with_current c (current_with (λ f. record f { unit = Some unit }) c.current)) (items.Unit F unit ∷ earlier)
-  stands_unit unit none = stands_with (items.Unit F unit) tt none refl (with_current c (current_with (λ f. record f { unit = Some unit }) c.current)) refl refl
-      (changed (λ f. record f { unit = Some unit }) (so_far st (record { family = F; item = items.Unit F unit } ∷ owned_lines st.format earlier) F) (so_far-unit st F unit (owned_lines st.format earlier)))
-      (unseen (items.Unit F unit) refl) r.samples refl
+      no_sample : (d : Descriptor) → sample_of_line (line_of F d) ≡ None
+      no_sample (sorts.Help t) = refl
+      no_sample (sorts.Type k) = refl
+      no_sample (sorts.Unit u) = refl
+
+      uncounted : (d : Descriptor) → count_by is_sample earlier ≡ count_by is_sample (line_of F d ∷ earlier)
+      uncounted (sorts.Help t) = refl
+      uncounted (sorts.Type k) = refl
+      uncounted (sorts.Unit u) = refl
+
+  -- Unit, by what is kept
+  pub unit_kept : (d : Descriptor) → unit_stop c.current d ≡ unit_fault (owned_lines st.format earlier) (record { family = F; item = line_of F d })
+  unit_kept d = ap (λ k. unit_stop k d) r.current
+      ∙ ap (λ b. cond b (Some rules.Unit) None) (bad_unit_above st (owned_lines st.format earlier) F d (fit_lines st earlier r.text r.text_items r.faultless))
 
   -- a sample more, whose groups are these
   sampled : (s : Sample) (groups : List (LabelSet × Gathered)) → s.exemplar ≡ None → sample_owner st.format (owned_lines st.format earlier) s.name ≡ F → item_fault st earlier (items.Sample s) ≡ None
@@ -316,12 +366,12 @@ module _ (st : Setting) (c : Checking) (earlier : List Item) (F : List ℕ) (r :
       let more : count_by is_sample (items.Sample s ∷ earlier) ≡ 1 + count_by is_sample earlier = sum_by-cons (λ x. cond (is_sample x) 1 0) (items.Sample s) earlier in
       let counted : c.samples ≡ count_by is_sample earlier = r.samples in
       stands_with (items.Sample s) text none (ap Some owner) (with_sample d (key_of st s) s.value) setting left
-      (ap (current_with (λ f. record f { values = f.values ++ s.value ∷ [] })) current ∙ twice c.current
+      (ap (current_with (family_with_value s.value)) current ∙ twice c.current
       ∙ changed change (so_far st (record { family = F; item = items.Sample s } ∷ above) F)
       (so_far-sample st F s above ∙ ap (λ g. record (so_far st above F) { values = (so_far st above F).values ++ s.value ∷ []; groups = g }) (sym groups_are)))
       (ap (λ l. l ++ key_of st s ∷ []) (seen ∙ r.seen)) (omega (arith, samples, counted, more)) stopped
     where
-      twice : (k : Option Current) → current_with (λ f. record f { values = f.values ++ s.value ∷ [] }) (current_with (λ f. record f { groups = groups }) k)
+      twice : (k : Option Current) → current_with (family_with_value s.value) (current_with (λ f. record f { groups = groups }) k)
           ≡ current_with (λ f. record f { values = f.values ++ s.value ∷ []; groups = groups }) k
       twice None = refl
       twice (Some k) = refl
@@ -356,41 +406,20 @@ module _ (st : Setting) (c : Checking) (earlier : List Item) (F : List ℕ) (r :
 
 -- ---- the place of a descriptor
 
-sort_of_item : (sort : Descriptor) (item : Item) → is_of_sort sort item ≡ true → (is_descriptor item ≡ true) × ((o : Option FamilySoFar) → is_late_in sort o ≡ is_late item o)
-sort_of_item sorts.Help (items.Help n t) h = (refl, by)
-  where
-    by : (o : Option FamilySoFar) → is_late_in sorts.Help o ≡ is_late (items.Help n t) o
-    by None = refl
-    by (Some f) = refl
-sort_of_item sorts.Type (items.KindOf n t) h = (refl, by)
-  where
-    by : (o : Option FamilySoFar) → is_late_in sorts.Type o ≡ is_late (items.KindOf n t) o
-    by None = refl
-    by (Some f) = refl
-sort_of_item sorts.Unit (items.Unit n t) h = (refl, by)
-  where
-    by : (o : Option FamilySoFar) → is_late_in sorts.Unit o ≡ is_late (items.Unit n t) o
-    by None = refl
-    by (Some f) = refl
-sort_of_item _ _ h = absurd (let f : false ≡ true = h in cc)
-
 -- Descriptor, Split or Incomplete, by what is kept
-pub place_kept : (st : Setting) (c : Checking) (earlier : List Item) → Stands st c earlier → (F : List ℕ) (sort : Descriptor) (item : Item) → is_of_sort sort item ≡ true
-    → place_stop c F sort ≡ place_fault st (owned_lines st.format earlier) (record { family = F; item = item })
+pub place_kept : (st : Setting) (c : Checking) (earlier : List Item) → Stands st c earlier → (F : List ℕ) (d : Descriptor)
+    → place_stop c F d ≡ place_fault st (owned_lines st.format earlier) (record { family = F; item = line_of F d })
 unfolding place_stop
-place_kept st c earlier s F sort item h =
-    let above : List Owned = owned_lines st.format earlier in
-    let line : Owned = record { family = F; item = item } in
-    let fits = sort_of_item sort item h in
-    let late : is_late_in sort (known_in c.left c.current F) ≡ is_late_descriptor above line = fits.1 (known_in c.left c.current F) ∙ late_kept st c earlier s F item fits.0 in
-    ap (λ b. cond b (Some rules.Descriptor) (cond (is_current_family c.current F) None (cond (is_some (lookup (bytes_eq F) c.left)) (Some rules.Split) (left_stop c.current)))) late
-    ∙ ap (cond (is_late_descriptor above line) (Some rules.Descriptor)) (by (is_current_family c.current F) refl)
+place_kept st c earlier s F d =
+    let line : Owned = record { family = F; item = line_of F d } in
+    ap (λ b. cond b (Some rules.Descriptor) (cond (is_current_family c.current F) None (cond (is_some (lookup (bytes_eq F) c.left)) (Some rules.Split) (left_stop c.current)))) (late_kept st c earlier s F d)
+    ∙ ap (cond (is_late_descriptor (owned_lines st.format earlier) line) (Some rules.Descriptor)) (by (is_current_family c.current F) refl)
   where
     by : (b : Bool) → is_current_family c.current F ≡ b
         → cond b None (cond (is_some (lookup (bytes_eq F) c.left)) (Some rules.Split) (left_stop c.current))
-        ≡ cond (is_split (owned_lines st.format earlier) (record { family = F; item = item })) (Some rules.Split) (left_fault st (owned_lines st.format earlier) (Some F))
-    by true e = sym (rw (split_own st c earlier s F item e, stays st c earlier s F e) refl)
-    by false e = λ i. cond (split_left st c earlier s F item e i) (Some rules.Split) (left_kept st c earlier s F e i)
+        ≡ cond (is_split (owned_lines st.format earlier) (record { family = F; item = line_of F d })) (Some rules.Split) (left_fault st (owned_lines st.format earlier) (Some F))
+    by true e = sym (rw (split_own st c earlier s F (line_of F d) e, stays st c earlier s F e) refl)
+    by false e = λ i. cond (split_left st c earlier s F (line_of F d) e i) (Some rules.Split) (left_kept st c earlier s F e i)
 
 -- ---- the owner of a sample
 
@@ -416,40 +445,6 @@ owner_own : (st : Setting) (above : List Owned) (name : List ℕ) → is_current
 unfolding current_family sample_owner so_far kind_of
 owner_own st [] name h = refl
 owner_own st (n ∷ above) name h = ap (λ b. cond b n.family name) h
-
--- ---- duplicates
-
-pub label_sets_swap : (a b : LabelSet) → label_sets_eq a b ≡ label_sets_eq b a
-label_sets_swap [] [] = refl
-label_sets_swap [] (y ∷ ys) = refl
-label_sets_swap (x ∷ xs) [] = refl
-label_sets_swap (x ∷ xs) (y ∷ ys) = ap (λ b. (b && bytes_eq x.value y.value) && label_sets_eq xs ys) (bytes_swap x.name y.name)
-    ∙ ap (λ b. (bytes_eq y.name x.name && b) && label_sets_eq xs ys) (bytes_swap x.value y.value)
-    ∙ ap (λ b. (bytes_eq y.name x.name && bytes_eq y.value x.value) && b) (label_sets_swap xs ys)
-
-key_same : (st : Setting) (s t : Sample) → sample_key_eq (key_of st s) (key_of st t) ≡ is_same_series st s t
-key_same st s t = ap (λ b. b && label_sets_eq (kept_labels st.treatment s.labels) (kept_labels st.treatment t.labels)) (bytes_swap s.name t.name)
-    ∙ ap (λ b. bytes_eq t.name s.name && b) (label_sets_swap (kept_labels st.treatment s.labels) (kept_labels st.treatment t.labels))
-
-or_comm : (a b : Bool) → (a || b) ≡ (b || a)
-or_comm true true = refl
-or_comm true false = refl
-or_comm false true = refl
-or_comm false false = refl
-
--- Duplicate, by the keys
-pub duplicate_keys : (st : Setting) (above : List Owned) (s : Sample) → list_any (sample_key_eq (key_of st s)) (keys_above st above) ≡ is_duplicate st above s
-unfolding keys_above is_duplicate
-duplicate_keys st [] s = refl
-duplicate_keys st (o ∷ above) s =
-    list_any-append (sample_key_eq (key_of st s)) (keys_above st above) (option_to_list (option_map (key_of st) (sample_of_line o.item)))
-    ∙ or_comm (list_any (sample_key_eq (key_of st s)) (keys_above st above)) (list_any (sample_key_eq (key_of st s)) (option_to_list (option_map (key_of st) (sample_of_line o.item))))
-    ∙ ap (λ b. b || list_any (sample_key_eq (key_of st s)) (keys_above st above)) (by (sample_of_line o.item))
-    ∙ ap (λ b. some_passes (is_same_series st s) (sample_of_line o.item) || b) (duplicate_keys st above s)
-  where
-    by : (t : Option Sample) → list_any (sample_key_eq (key_of st s)) (option_to_list (option_map (key_of st) t)) ≡ some_passes (is_same_series st s) t
-    by None = refl
-    by (Some t) = or_false (sample_key_eq (key_of st s) (key_of st t)) ∙ key_same st s t
 
 -- ---- a sample by its name
 

@@ -29,15 +29,15 @@ use Rattle.sample_groups.specs.Groups.{groups_from, known_group, or_empty, break
 use Rattle.sample_groups.specs.Parts.{is_grouped, entry_of, part_of}
 use Rattle.sample_groups.proofs.Laws.{shared_group, order_kept}
 use Rattle.family_rules.specs.declared.family.Descriptor.{Descriptor}
-use Rattle.family_rules.specs.declared.family.Descriptor.TheVariants as sorts
 use Rattle.packed_keys.specs.declared.sample_key.SampleKey.{SampleKey}
 use Rattle.family_rules.specs.Checking.{Checking, groups_so_far, so_far, left_families, current_family, keys_above, key_of, IsTextItem, Stands}
-use Rattle.family_rules.specs.Steps.{is_current_family, current_kind, is_of_sort, begun, reached, current_with, with_current, with_part_in, with_sample, left_stop, place_stop, fits_order, order_stop, sample_stop, is_current_sample, part_or_rule, TellsPart, Takes, IsReady}
+use Rattle.family_rules.specs.Steps.{line_of, is_current_family, current_kind, begun, reached, current_with, with_current, with_descriptor, with_value, family_with_value, with_part_in, with_part_at, with_grouped, with_sample, left_stop, place_stop, unit_stop, fits_order, order_stop, group_stop, sample_stop, is_current_sample, part_or_rule, TellsPart, Takes, IsReady}
 use Rattle.packed_keys.specs.Packing.{sample_key_eq}
 use Rattle.family_rules.proofs.Lists.{bytes_same, pairs}
-use Rattle.family_rules.proofs.Faults.{AreFit, fit_lines, text_family, plain_or_grouped, plain_name, plain_measure, sound_samples, described, described_fault, unit_fault, left_fault, measure_fault, rest_fault, sample_fault, blank_fault, comment_fault, eof_fault}
+use Rattle.family_rules.proofs.Faults.{AreFit, fit_lines, text_family, plain_or_grouped, plain_name, plain_measure, sound_samples, not_behind_end, described_fault, unit_fault, left_fault, measure_fault, rest_fault, sample_fault, blank_fault, comment_fault, eof_fault}
 use Rattle.family_rules.proofs.Kept.{reversed_samples}
-use Rattle.family_rules.proofs.Standing.{ready_reached, ready_kind, stands_help, stands_kind, stands_unit, stands_sample, stands_grouped, place_kept, split_left, split_own, left_kept, left_at_end, stays, own_owner, current_owner, ready_current_owner, duplicate_keys}
+use Rattle.family_rules.proofs.Standing.{ready_reached, ready_kind, stands_described, unit_kept, stands_sample, stands_grouped, place_kept, split_left, split_own, left_kept, left_at_end, stays, own_owner, current_owner, ready_current_owner}
+use Rattle.family_rules.proofs.Seen.{duplicate_keys}
 
 pub on_ok : {T E : Type 0} (P Q : Type 0) (r : Result T E) → (P → Q) → OnOk r P → OnOk r Q
 on_ok P Q (Ok x) f h = f h
@@ -67,8 +67,16 @@ reached_other c d F e h = rw e h
 
 -- ---- descriptors
 
-some_first : (a rest : Option Rule) (rule : Rule) → Some rule ≡ a → Some rule ≡ option_or a rest
-some_first a rest rule h = ap (λ o. option_or o rest) h
+-- a rule that is broken goes before the others
+some_first : (a rest broken : Option Rule) → is_some broken ≡ true → broken ≡ a → broken ≡ option_or a rest
+some_first a rest None some h = absurd (let f : false ≡ true = some in cc)
+some_first a rest (Some rule) some h = ap (λ o. option_or o rest) h
+
+-- what a line is refused with
+answered : (item : Item) (c d : Checking) (broken : Option Rule) → is_some broken ≡ true
+    → ((st : Setting) (earlier : List Item) → Stands st c earlier → IsTextItem item → broken ≡ item_fault st earlier item) → Takes item c d broken
+answered item c d None some h = absurd (let f : false ≡ true = some in cc)
+answered item c d (Some rule) some h = refused item c d rule h
 
 -- a place without a fault
 placed : (late split : Bool) (left : Option Rule) → None ≡ cond late (Some rules.Descriptor) (cond split (Some rules.Split) left) → (late ≡ false) × (split ≡ false)
@@ -76,60 +84,41 @@ placed true split left h = absurd (let e : None ≡ Some rules.Descriptor = h in
 placed false true left h = absurd (let e : None ≡ Some rules.Split = h in cc)
 placed false false left h = (refl, refl)
 
-module _ (c : Checking) (item : Item) (sort : Descriptor) (sorted : is_of_sort sort item ≡ true) (descriptor : is_descriptor item ≡ true) where
+module _ (c : Checking) (F : List ℕ) (d : Descriptor) (after : Checking) where
+  abbrev line : Owned
+  line = record { family = F; item = line_of F d }
+
   -- the rule of its place goes first
-  place_first : (st : Setting) (earlier : List Item) → Stands st c earlier → IsTextItem item → item_fault st earlier item ≡ option_or (place_stop c (described item) sort) (unit_fault item)
-  place_first st earlier s t = described_fault st earlier s.text (fits st c earlier s) item descriptor t
-      ∙ ap (λ o. option_or o (unit_fault item)) (sym (place_kept st c earlier s (described item) sort item sorted))
+  place_first : (st : Setting) (earlier : List Item) → Stands st c earlier → item_fault st earlier (line_of F d) ≡ option_or (place_stop c F d) (unit_fault (owned_lines st.format earlier) line)
+  place_first st earlier s = described_fault st earlier (not_behind_end st earlier s.text) F d
+      ∙ ap (λ o. option_or o (unit_fault (owned_lines st.format earlier) line)) (sym (place_kept st c earlier s F d))
 
-  pub place_refused : (d : Checking) (rule : Rule) → Some rule ≡ place_stop c (described item) sort → Takes item c d (Some rule)
-  place_refused d rule told = refused item c d rule (λ st earlier s t. some_first (place_stop c (described item) sort) (unit_fault item) rule told ∙ sym (place_first st earlier s t))
+  pub place_refused : (broken : Option Rule) → is_some broken ≡ true → broken ≡ place_stop c F d → Takes (line_of F d) c after broken
+  place_refused broken some told = answered (line_of F d) c after broken some (λ st earlier s t.
+      some_first (place_stop c F d) (unit_fault (owned_lines st.format earlier) line) broken some told ∙ sym (place_first st earlier s))
 
-  -- what is left of the rules behind those of its place
-  behind_place : None ≡ place_stop c (described item) sort → (st : Setting) (earlier : List Item) → Stands st c earlier → IsTextItem item → item_fault st earlier item ≡ unit_fault item
-  behind_place told st earlier s t = place_first st earlier s t ∙ ap (λ o. option_or o (unit_fault item)) (sym told)
+  module _ (free : None ≡ place_stop c F d) where
+    fits_place : (st : Setting) (earlier : List Item) → Stands st c earlier → (is_late_descriptor (owned_lines st.format earlier) line ≡ false) × (is_split (owned_lines st.format earlier) line ≡ false)
+    fits_place st earlier s = let above : List Owned = owned_lines st.format earlier in
+        placed (is_late_descriptor above line) (is_split above line) (left_fault st above (Some F)) (free ∙ place_kept st c earlier s F d)
 
-  place_taken : (d : Checking) → None ≡ place_stop c (described item) sort → unit_fault item ≡ None
-      → ((st : Setting) (earlier : List Item) → IsTextItem item → IsReady st (reached c (described item)) earlier (described item) → item_fault st earlier item ≡ None
-      → is_late_descriptor (owned_lines st.format earlier) (record { family = described item; item = item }) ≡ false → Stands st d (item ∷ earlier))
-      → Takes item c d None
-  place_taken d told unit more = record {
-    broken_is = λ st earlier s t. sym (behind_place told st earlier s t ∙ unit);
-    stands = λ st earlier s t none.
-        let above : List Owned = owned_lines st.format earlier in
-        let line : Owned = record { family = described item; item = item } in
-        let place = placed (is_late_descriptor above line) (is_split above line) (left_fault st above (Some (described item))) (told ∙ place_kept st c earlier s (described item) sort item sorted) in
-        more st earlier t (ready_reached st c earlier s (described item) item place.1) (behind_place told st earlier s t ∙ unit) place.0;
-  }
+    ready_here : (st : Setting) (earlier : List Item) → Stands st c earlier → IsReady st (reached c F) earlier F
+    ready_here st earlier s = ready_reached st c earlier s F (line_of F d) (fits_place st earlier s).1
 
-module _ (c : Checking) (F : List ℕ) (d : Checking) where
-  pub help_refused : (text : List ℕ) (rule : Rule) → Some rule ≡ place_stop c F sorts.Help → Takes (items.Help F text) c d (Some rule)
-  help_refused text rule told = place_refused c (items.Help F text) sorts.Help refl refl d rule told
+    -- what is left of the rules behind those of its place
+    unit_first : (st : Setting) (earlier : List Item) → Stands st c earlier → unit_stop (reached c F).current d ≡ item_fault st earlier (line_of F d)
+    unit_first st earlier s = unit_kept st (reached c F) earlier F (ready_here st earlier s) d
+        ∙ ap (λ o. option_or o (unit_fault (owned_lines st.format earlier) line)) free ∙ sym (place_first st earlier s)
 
-  pub help_taken : (text : List ℕ) → None ≡ place_stop c F sorts.Help
-      → d ≡ with_current (reached c F) (current_with (λ f. record f { help = Some text }) (reached c F).current) → Takes (items.Help F text) c d None
-  help_taken text told step = place_taken c (items.Help F text) sorts.Help refl refl d told refl (λ st earlier t ready none late.
-      subst (λ e. Stands st e (items.Help F text ∷ earlier)) (sym step) (stands_help st (reached c F) earlier F ready text none))
+    pub unit_refused : (broken : Option Rule) → is_some broken ≡ true → broken ≡ unit_stop (reached c F).current d → Takes (line_of F d) c after broken
+    unit_refused broken some told = answered (line_of F d) c after broken some (λ st earlier s t. told ∙ unit_first st earlier s)
 
-  pub kind_refused : (kind : Kind) (rule : Rule) → Some rule ≡ place_stop c F sorts.Type → Takes (items.KindOf F kind) c d (Some rule)
-  kind_refused kind rule told = place_refused c (items.KindOf F kind) sorts.Type refl refl d rule told
-
-  pub kind_taken : (kind : Kind) → None ≡ place_stop c F sorts.Type
-      → d ≡ with_current (reached c F) (current_with (λ f. record f { kind = Some kind }) (reached c F).current) → Takes (items.KindOf F kind) c d None
-  kind_taken kind told step = place_taken c (items.KindOf F kind) sorts.Type refl refl d told refl (λ st earlier t ready none late.
-      subst (λ e. Stands st e (items.KindOf F kind ∷ earlier)) (sym step) (stands_kind st (reached c F) earlier F ready kind t none late))
-
-  pub unit_refused : (unit : List ℕ) (rule : Rule) → Some rule ≡ place_stop c F sorts.Unit → Takes (items.Unit F unit) c d (Some rule)
-  unit_refused unit rule told = place_refused c (items.Unit F unit) sorts.Unit refl refl d rule told
-
-  pub unit_foreign : (unit : List ℕ) → None ≡ place_stop c F sorts.Unit → is_foreign_unit F unit ≡ true → Takes (items.Unit F unit) c d (Some rules.Unit)
-  unit_foreign unit told h = refused (items.Unit F unit) c d rules.Unit (λ st earlier s t.
-      sym (behind_place c (items.Unit F unit) sorts.Unit refl refl told st earlier s t ∙ ap (λ b. cond b (Some rules.Unit) None) h))
-
-  pub unit_taken : (unit : List ℕ) → None ≡ place_stop c F sorts.Unit → is_foreign_unit F unit ≡ false
-      → d ≡ with_current (reached c F) (current_with (λ f. record f { unit = Some unit }) (reached c F).current) → Takes (items.Unit F unit) c d None
-  unit_taken unit told h step = place_taken c (items.Unit F unit) sorts.Unit refl refl d told (ap (λ b. cond b (Some rules.Unit) None) h) (λ st earlier t ready none late.
-      subst (λ e. Stands st e (items.Unit F unit ∷ earlier)) (sym step) (stands_unit st (reached c F) earlier F ready unit none))
+    pub descriptor_taken : None ≡ unit_stop (reached c F).current d → after ≡ with_descriptor (reached c F) d → Takes (line_of F d) c after None
+    descriptor_taken told step = record {
+      broken_is = λ st earlier s t. told ∙ unit_first st earlier s;
+      stands = λ st earlier s t none. subst (λ e. Stands st e (line_of F d ∷ earlier)) (sym step)
+          (stands_described st (reached c F) earlier F (ready_here st earlier s) d t (sym (told ∙ unit_first st earlier s)) (fits_place st earlier s).0);
+    }
 
 -- ---- samples
 
@@ -178,7 +167,7 @@ module _ (s : Sample) (c : Checking) (d : Checking) (own : is_current_sample c.s
   -- no rule on places and names is broken
   own_fault : (st : Setting) (earlier : List Item) → Stands st c earlier → s.exemplar ≡ None → item_fault st earlier (items.Sample s) ≡ rest_fault st earlier (owner st earlier) s
   own_fault st earlier stands t =
-      sample_fault st earlier stands.text (fits st c earlier stands) s (owner st earlier) t refl
+      sample_fault st earlier (not_behind_end st earlier stands.text) stands.text s (owner st earlier) t refl
       ∙ (λ i. cond ((current_owner st c earlier stands s.name own).together (items.Sample s) i) (Some rules.Split) (cond (own_named st earlier stands i) (Some rules.Suffix) (rest_fault st earlier (owner st earlier) s)))
 
   -- what the kind forbids
@@ -350,7 +339,7 @@ module _ (s : Sample) (c : Checking) (d : Checking) (other : is_current_sample c
       → has_wrong_suffix st (kind_of (owned_lines st.format earlier) s.name) s.name s ≡ wrong
       → item_fault st earlier (items.Sample s) ≡ cond split (Some rules.Split) (cond wrong (Some rules.Suffix) (rest_fault st earlier s.name s))
   other_fault st earlier stands t split wrong h k =
-      sample_fault st earlier stands.text (fits st c earlier stands) s s.name t (other_owner st earlier stands)
+      sample_fault st earlier (not_behind_end st earlier stands.text) stands.text s s.name t (other_owner st earlier stands)
       ∙ (λ i. cond (h i) (Some rules.Split) (cond (k i) (Some rules.Suffix) (rest_fault st earlier s.name s)))
 
   -- the family of its name is the current one, whose kind doesn't allow the name
@@ -463,15 +452,15 @@ module _ (c : Checking) where
   blank_taken : Takes items.Blank c c None
   unfolding owned_lines
   blank_taken = record {
-    broken_is = λ st earlier s t. sym (blank_fault st earlier s.text (fits st c earlier s));
-    stands = λ st earlier s t none. same_lines items.Blank st earlier s refl refl tt (blank_fault st earlier s.text (fits st c earlier s));
+    broken_is = λ st earlier s t. sym (blank_fault st earlier (not_behind_end st earlier s.text));
+    stands = λ st earlier s t none. same_lines items.Blank st earlier s refl refl tt (blank_fault st earlier (not_behind_end st earlier s.text));
   }
 
   comment_taken : Takes items.Comment c c None
   unfolding owned_lines
   comment_taken = record {
-    broken_is = λ st earlier s t. sym (comment_fault st earlier s.text (fits st c earlier s));
-    stands = λ st earlier s t none. same_lines items.Comment st earlier s refl refl tt (comment_fault st earlier s.text (fits st c earlier s));
+    broken_is = λ st earlier s t. sym (comment_fault st earlier (not_behind_end st earlier s.text));
+    stands = λ st earlier s t none. same_lines items.Comment st earlier s refl refl tt (comment_fault st earlier (not_behind_end st earlier s.text));
   }
 
   pub quiet_taken : (item : Item) → (item ≡ items.Blank) ⊎ (item ≡ items.Comment) → Takes item c c None
@@ -482,9 +471,9 @@ module _ (c : Checking) where
   pub end_taken : (item : Item) → item ≡ items.Eof → (broken : Option Rule) → broken ≡ left_stop c.current → Takes item c c broken
   unfolding owned_lines
   end_taken item is broken told = subst (λ i. Takes i c c broken) (sym is) (record {
-    broken_is = λ st earlier s t. told ∙ left_at_end st c earlier s ∙ sym (eof_fault st earlier s.text (fits st c earlier s));
+    broken_is = λ st earlier s t. told ∙ left_at_end st c earlier s ∙ sym (eof_fault st earlier (not_behind_end st earlier s.text));
     stands = λ st earlier s t none. same_lines items.Eof st earlier s refl refl tt
-        (eof_fault st earlier s.text (fits st c earlier s) ∙ sym (left_at_end st c earlier s) ∙ sym told ∙ none);
+        (eof_fault st earlier (not_behind_end st earlier s.text) ∙ sym (left_at_end st c earlier s) ∙ sym told ∙ none);
   })
 
 -- a key that was added stands behind the others
@@ -503,8 +492,7 @@ is_no_rule (Some rule) h = absurd (let f : true ≡ false = h in cc)
 
 -- the sample is added where it breaks no rule
 pub sample_added : (c d e : Checking) (key : SampleKey) (value : Number) (seen : List SampleKey) → d ≡ record c { seen = seen; samples = c.samples + 1 } → seen ≡ c.seen ++ key ∷ []
-    → e ≡ with_current d (current_with (λ f. record f { values = f.values ++ value ∷ [] }) d.current) → e ≡ with_sample c key value
+    → e ≡ with_value d value → e ≡ with_sample c key value
 unfolding with_sample
 sample_added c d e key value seen step new pushed =
-    pushed ∙ ap (λ x. with_current x (current_with (λ f. record f { values = f.values ++ value ∷ [] }) x.current)) step
-    ∙ ap (λ l. with_current (record c { seen = l; samples = c.samples + 1 }) (current_with (λ f. record f { values = f.values ++ value ∷ [] }) c.current)) new
+    pushed ∙ ap (λ x. with_value x value) step ∙ ap (λ l. with_value (record c { seen = l; samples = c.samples + 1 }) value) new

@@ -48,13 +48,6 @@ kind_in f = unwrap_or f.kind Unknown
 abbrev pub has_samples : FamilySoFar → Bool
 has_samples f = not (length f.values == 0)
 
--- the family has a descriptor of the sort of this item
-abbrev pub has_sort : Item → FamilySoFar → Bool
-has_sort (items.Help name text) f = is_some f.help
-has_sort (items.KindOf name kind) f = is_some f.kind
-has_sort (items.Unit name unit) f = is_some f.unit
-has_sort _ f = false
-
 -- ---- what the lines above come to
 
 -- the groups of samples, where their kind has groups

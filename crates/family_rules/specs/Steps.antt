@@ -9,6 +9,7 @@ use Rattle.exact_decimal.specs.declared.number.Number.{Number}
 use Rattle.label_sets.specs.declared.kind.Kind.{Kind}
 use Rattle.label_sets.specs.declared.kind.Kind.TheVariants.{Unknown}
 use Rattle.label_sets.specs.declared.label_set.LabelSet.{LabelSet}
+use Rattle.label_sets.specs.Lists.{some_passes}
 use Rattle.page_model.specs.declared.format.Format.{Format}
 use Rattle.page_model.specs.declared.format.Format.TheVariants.{Text}
 use Rattle.page_model.specs.declared.item.Item.{Item}
@@ -23,8 +24,8 @@ use Rattle.page_model.specs.Written.{Setting}
 use Rattle.page_model.specs.Items.{is_sample}
 use Rattle.page_model.specs.Suffixes.{is_sample_name}
 use Rattle.page_model.specs.declared.item.Sample.{Sample}
-use Rattle.page_model.specs.Owners.{owned_lines}
-use Rattle.page_model.specs.Rules.{is_histogram, has_wrong_suffix, has_bad_value, has_bad_threshold}
+use Rattle.page_model.specs.Owners.{owned_lines, kept_labels}
+use Rattle.page_model.specs.Rules.{is_histogram, is_info_or_state_set, is_unit, is_foreign_unit, has_wrong_suffix, has_bad_value, has_bad_threshold}
 use Rattle.page_model.specs.Faults.{item_fault}
 use Rattle.page_model.specs.Pages.{AreFaultless}
 use Rattle.sample_groups.specs.declared.part.Part.{Part}
@@ -36,22 +37,21 @@ use Rattle.family_rules.specs.declared.family.Descriptor.TheVariants as sorts
 use Rattle.family_rules.specs.declared.family.FamilySoFar.{FamilySoFar}
 use Rattle.packed_keys.specs.declared.sample_key.SampleKey.{SampleKey}
 use Rattle.packed_keys.specs.Packing.{sample_key_eq}
-use Rattle.family_rules.specs.Checking.{Checking, no_lines, has_samples, kind_in, so_far, left_before, keys_above, IsTextItem, AreTextItems, Stands}
+use Rattle.family_rules.specs.Checking.{Checking, no_lines, has_samples, kind_in, so_far, left_before, keys_above, key_of, IsTextItem, AreTextItems, Stands}
 
 -- ---- reading
 
--- a family has a descriptor of this sort
+-- a family has a descriptor of the sort of this one
 abbrev pub has : Descriptor → FamilySoFar → Bool
-has sorts.Help f = is_some f.help
-has sorts.Type f = is_some f.kind
-has sorts.Unit f = is_some f.unit
+has (sorts.Help text) f = is_some f.help
+has (sorts.Type kind) f = is_some f.kind
+has (sorts.Unit unit) f = is_some f.unit
 
--- the item is a descriptor of this sort
-abbrev pub is_of_sort : Descriptor → Item → Bool
-is_of_sort sorts.Help (items.Help name text) = true
-is_of_sort sorts.Type (items.KindOf name kind) = true
-is_of_sort sorts.Unit (items.Unit name unit) = true
-is_of_sort _ _ = false
+-- the line that gives a family this descriptor
+abbrev pub line_of : List ℕ → Descriptor → Item
+line_of family (sorts.Help text) = items.Help family text
+line_of family (sorts.Type kind) = items.KindOf family kind
+line_of family (sorts.Unit unit) = items.Unit family unit
 
 -- this is the current family
 abbrev pub is_current_family : Option Current → List ℕ → Bool
@@ -65,8 +65,8 @@ known_in left (Some k) family = if bytes_eq k.name family then Some k.family els
 
 -- late, by what is known of the family: it has a descriptor of this sort, or a sample
 abbrev pub is_late_in : Descriptor → Option FamilySoFar → Bool
-is_late_in sort None = false
-is_late_in sort (Some f) = has sort f || has_samples f
+is_late_in d None = false
+is_late_in d (Some f) = has d f || has_samples f
 
 -- the kind of the current family
 abbrev pub current_kind : Option Current → Kind
@@ -89,11 +89,22 @@ left_stop (Some k) = if has_incomplete k.family then Some rules.Incomplete else 
 
 -- Descriptor, Split or Incomplete, by the place of a descriptor
 unfoldable pub place_stop : Checking → List ℕ → Descriptor → Option Rule
-place_stop c family sort =
-    if is_late_in sort (known_in c.left c.current family) then Some rules.Descriptor
+place_stop c family d =
+    if is_late_in d (known_in c.left c.current family) then Some rules.Descriptor
     else if is_current_family c.current family then None
     else if is_some (lookup (bytes_eq family) c.left) then Some rules.Split
     else left_stop c.current
+
+-- with this line the family has a unit that its name lacks, or a unit and a kind that forbids one
+unfoldable pub is_bad_unit_in : Current → Descriptor → Bool
+is_bad_unit_in k (sorts.Help text) = false
+is_bad_unit_in k (sorts.Type kind) = is_info_or_state_set kind && some_passes is_unit k.family.unit
+is_bad_unit_in k (sorts.Unit unit) = is_foreign_unit k.name unit || (is_info_or_state_set (kind_in k.family) && is_unit unit)
+
+-- Unit
+abbrev pub unit_stop : Option Current → Descriptor → Option Rule
+unit_stop None d = None
+unit_stop (Some k) d = if is_bad_unit_in k d then Some rules.Unit else None
 
 -- ---- changes
 
@@ -119,10 +130,28 @@ current_with change (Some k) = Some (record { name = k.name; family = change k.f
 abbrev pub with_current : Checking → Option Current → Checking
 with_current c current = record c { current = current }
 
+-- a family with a descriptor more
+abbrev pub family_with : Descriptor → FamilySoFar → FamilySoFar
+family_with (sorts.Help text) f = record f { help = Some text }
+family_with (sorts.Type kind) f = record f { kind = Some kind }
+family_with (sorts.Unit unit) f = record f { unit = Some unit }
+
+-- the current family has a descriptor more
+abbrev pub with_descriptor : Checking → Descriptor → Checking
+with_descriptor c d = with_current c (current_with (family_with d) c.current)
+
+-- a family with the value of a sample more
+abbrev pub family_with_value : Number → FamilySoFar → FamilySoFar
+family_with_value value f = record f { values = f.values ++ value ∷ [] }
+
+-- the current family has the value of a sample more
+abbrev pub with_value : Checking → Number → Checking
+with_value c value = with_current c (current_with (family_with_value value) c.current)
+
 -- one sample more, of the current family
 unfoldable pub with_sample : Checking → SampleKey → Number → Checking
 with_sample c key value = record c {
-  current = current_with (λ f. record f { values = f.values ++ value ∷ [] }) c.current;
+  current = current_with (family_with_value value) c.current;
   seen = c.seen ++ key ∷ [];
   samples = c.samples + 1;
 }
@@ -130,6 +159,10 @@ with_sample c key value = record c {
 -- a family with a part more in its groups
 abbrev pub with_part_in : Kind → LabelSet → Part → FamilySoFar → FamilySoFar
 with_part_in kind labels part f = record f { groups = with_part f.groups (shared_labels kind labels) part }
+
+-- the current family has a part more in its groups
+abbrev pub with_part_at : Checking → Kind → LabelSet → Part → Checking
+with_part_at c kind labels part = with_current c (current_with (with_part_in kind labels part) c.current)
 
 -- the part keeps the order of its group in the current family
 abbrev pub fits_order : Kind → LabelSet → Part → Option Current → Bool
@@ -145,6 +178,14 @@ unfoldable pub sample_stop : Checking → SampleKey → Option Rule → Option R
 sample_stop c key broken =
     if list_any (sample_key_eq key) c.seen then Some rules.Duplicate
     else option_or broken (if nat_le c.setting.limit c.samples then Some rules.TooMany else None)
+
+-- Duplicate, then Order, then TooMany, for a sample that is this part of its group
+abbrev pub group_stop : Checking → Kind → Sample → Part → Option Rule
+group_stop c kind s part = sample_stop c (key_of c.setting s) (order_stop kind (kept_labels c.setting.treatment s.labels) part c.current)
+
+-- one sample more, of the current family, which is this part of its group
+abbrev pub with_grouped : Checking → Kind → Sample → Part → Checking
+with_grouped c kind s part = with_sample (with_part_at c kind (kept_labels c.setting.treatment s.labels) part) (key_of c.setting s) s.value
 
 -- Value or Threshold, or else the part of a sample
 abbrev pub part_or_rule : Setting → Kind → List ℕ → Sample → Result Part Rule

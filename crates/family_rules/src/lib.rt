@@ -12,6 +12,7 @@ mod rare_text;
 mod suffix;
 #[cfg(test)]
 mod tests;
+mod unit;
 
 pub use checker::Checker;
 pub use page_model::{

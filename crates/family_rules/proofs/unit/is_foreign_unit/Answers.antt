@@ -2,7 +2,7 @@ use Rattle.std.proofs.Common.{◌∙◌, sym, Some, None}
 use Rattle.std.proofs.lemmas.Slice.Eq.{strip_suffix_is}
 use Rattle.std.proofs.lemmas.Bool.Decides.{Decides-eqb}
 use Rattle.family_rules.proofs.Endings.{foreign_front, foreign_other}
-use Rattle.family_rules.proofs.checker.is_foreign_unit.Goals as goal
+use Rattle.family_rules.proofs.unit.is_foreign_unit.Goals as goal
 
 pub returns-in-Some : goal.returns-in-Some
 returns-in-Some c = foreign_front c.args.family.now c.args.unit.now c.in-Some.front.now c.ends_with.result (sym c.is_empty.ensures ∙ c.if-is_empty.false)
