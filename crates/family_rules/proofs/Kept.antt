@@ -204,6 +204,16 @@ module _ (st : Setting) where
       by true e h ih = absurd (let f : true ≡ false = h in cc)
       by false e h ih = so_far-other o above F e ∙ ih h
 
+-- a family without lines has no samples
+pub no_samples : (above : List Owned) (F : List ℕ) → list_any (is_of F) above ≡ false → samples_of above F ≡ []
+unfolding samples_of
+no_samples [] F none = refl
+no_samples (o ∷ above) F none = by (bytes_eq o.family F) none (no_samples above F)
+  where
+    by : (b : Bool) → (b || list_any (is_of F) above) ≡ false → (list_any (is_of F) above ≡ false → samples_of above F ≡ []) → cons_option (cond b (sample_of_line o.item) None) (samples_of above F) ≡ []
+    by true h more = absurd (let f : true ≡ false = h in cc)
+    by false h more = more h
+
 -- ---- descriptors
 
 suc_zero : (n : ℕ) → (suc n == 0) ≡ false

@@ -64,6 +64,24 @@ first_of_each-snoc {A = A} eq (x ∷ xs) y =
     by false false e = ap (λ l. x ∷ l) (filter-append (λ z. not (eq x z)) (first_of_each eq xs) (y ∷ [])
         ∙ ap (λ b. filter (λ z. not (eq x z)) (first_of_each eq xs) ++ cond (not b) (y ∷ []) []) e)
 
+-- what is alike to one that fails a test fails it too
+others_any : {A : Type 0} (eq : A → A → Bool) (p : A → Bool) → ((x y : A) → eq x y ≡ true → p x ≡ p y) → (x : A) (ys : List A) → p x ≡ false → list_any p (filter (λ y. not (eq x y)) ys) ≡ list_any p ys
+others_any eq p alike x [] e = refl
+others_any {A = A} eq p alike x (y ∷ ys) e = step (eq x y) refl (others_any eq p alike x ys e)
+  where
+    step : (c : Bool) → eq x y ≡ c → list_any p (filter (λ z. not (eq x z)) ys) ≡ list_any p ys → list_any p (cond (not c) (y ∷ filter (λ z. not (eq x z)) ys) (filter (λ z. not (eq x z)) ys)) ≡ (p y || list_any p ys)
+    step false f ih = ap (λ b. p y || b) ih
+    step true f ih = ih ∙ ap (λ b. b || list_any p ys) (sym (sym (alike x y f) ∙ e))
+
+-- a test that what is alike passes alike finds the same among the first of each
+pub any_firsts : {A : Type 0} (eq : A → A → Bool) (p : A → Bool) → ((x y : A) → eq x y ≡ true → p x ≡ p y) → (xs : List A) → list_any p (first_of_each eq xs) ≡ list_any p xs
+any_firsts eq p alike [] = refl
+any_firsts {A = A} eq p alike (x ∷ xs) = by (p x) refl (any_firsts eq p alike xs)
+  where
+    by : (b : Bool) → p x ≡ b → list_any p (first_of_each eq xs) ≡ list_any p xs → (p x || list_any p (filter (λ y. not (eq x y)) (first_of_each eq xs))) ≡ (p x || list_any p xs)
+    by true e ih = rw e refl
+    by false e ih = ap (λ b. p x || b) (others_any eq p alike x (first_of_each eq xs) e ∙ ih)
+
 pub list_any-map : {A B : Type 0} (p : B → Bool) (f : A → B) (xs : List A) → list_any p (map f xs) ≡ list_any (λ x. p (f x)) xs
 list_any-map p f [] = refl
 list_any-map p f (x ∷ xs) = ap (λ b. p (f x) || b) (list_any-map p f xs)

@@ -1,7 +1,7 @@
 -- What a checker keeps answers the rules, and each step keeps what it stands for.
-use Rattle.std.proofs.Common.{◌≡◌, ℕ, ◌+◌, arith, Bool, true, false, cond, not, ◌&&◌, ◌||◌, List, [], ◌∷◌, ◌++◌, map, reverse, Option, Some, None, refl, sym, ap, subst, ◌∙◌, is_some, count_by}
+use Rattle.std.proofs.Common.{◌≡◌, ℕ, ◌+◌, arith, Bool, true, false, cond, not, ◌&&◌, ◌||◌, List, [], ◌∷◌, ◌++◌, map, reverse, Option, Some, None, refl, sym, ap, subst, ◌∙◌, is_some, count_by, Ok}
 use Rattle.std.specs.Prelude.{option_map}
-use Rattle.std.specs.List.{list_any, list_all}
+use Rattle.std.specs.List.{list_any, list_all, cons_option}
 use Rattle.std.specs.Option.{option_to_list}
 use Rattle.std.specs.Str.{bytes_eq}
 use Rattle.std.specs.Map.{lookup}
@@ -20,7 +20,7 @@ use Rattle.page_model.specs.declared.item.Item.TheVariants as items
 use Rattle.page_model.specs.declared.item.Sample.{Sample}
 use Rattle.page_model.specs.Written.{Setting}
 use Rattle.page_model.specs.declared.rule.Rule.TheVariants as rules
-use Rattle.page_model.specs.Items.{is_sample, sample_of_line, unit_of_line, is_descriptor}
+use Rattle.page_model.specs.Items.{is_eof, is_sample, sample_of_line, unit_of_line, is_descriptor}
 use Rattle.page_model.specs.Readings.{unit_in}
 use Rattle.std.specs.Option.{option_or}
 use Rattle.page_model.specs.Suffixes.{is_sample_name}
@@ -36,13 +36,16 @@ use Rattle.family_rules.specs.declared.family.Current.{Current}
 use Rattle.family_rules.specs.declared.family.Descriptor.{Descriptor}
 use Rattle.family_rules.specs.declared.family.Descriptor.TheVariants as sorts
 use Rattle.family_rules.specs.declared.family.FamilySoFar.{FamilySoFar}
-use Rattle.family_rules.specs.Checking.{Checking, no_lines, has_samples, groups_so_far, so_far, left_before, left_families, current_family, key_of, keys_above, IsTextItem, Stands}
-use Rattle.family_rules.specs.Steps.{has, line_of, is_bad_unit_in, unit_stop, family_with, family_with_value, with_descriptor, is_late_in, current_kind, is_current_family, known_in, is_current_sample, has_incomplete, left_stop, place_stop, with_left, begun, reached, current_with, with_current, with_part_in, with_sample, IsReady}
+use Rattle.family_rules.specs.Checking.{Checking, no_lines, has_samples, groups_so_far, so_far, left_before, left_families, current_family, key_of, keys_above, Stands}
+use Rattle.family_rules.specs.Steps.{has, line_of, is_bad_unit_in, unit_stop, family_with, with_descriptor, is_late_in, current_kind, is_current_family, known_in, has_incomplete, left_stop, place_stop, with_left, begun, reached, current_with, with_current, IsReady}
+use Rattle.family_rules.specs.Samples.{is_current_sample, family_with_value, with_part_in, with_part_at, with_told, runs_with, entered_by, with_sample}
+use Rattle.family_rules.specs.GroupRuns.{no_runs, runs_of, nearest_runs}
+use Rattle.family_rules.proofs.RunLaws.{no_samples_no_runs, runs_sample}
 use Rattle.packed_keys.specs.Packing.{sample_key_eq}
 use Rattle.family_rules.proofs.Lists.{or_false, bytes_same, bytes_swap, pairs, lookup-map, map-pairs, insert_entry-last}
 use Rattle.family_rules.proofs.Faults.{AreFit, fit_lines, sound_samples, none_above, no_forbidden, left_fault, place_fault, unit_fault}
 use Rattle.family_rules.proofs.Once.{unit_sort, said_first}
-use Rattle.family_rules.proofs.Kept.{known_lines, fresh, reversed_samples, grown, is_one, so_far-other, so_far-descriptor, so_far-sample, so_far-none, late_known}
+use Rattle.family_rules.proofs.Kept.{known_lines, fresh, reversed_samples, grown, is_one, so_far-other, so_far-descriptor, so_far-sample, so_far-none, no_samples, late_known}
 
 -- ---- what is known
 
@@ -220,12 +223,22 @@ ready_current st F item (n ∷ above) h = by (bytes_eq n.family F) refl h
     by true e none = ap (λ G. Some (record { name = G; family = so_far st (n ∷ above) G })) ((bytes_decides n.family F).0 e)
     by false e none = ap (λ f. Some (record { name = F; family = f })) (sym (so_far-none st (n ∷ above) F (rw e none)))
 
+ready_runs : (st : Setting) (F : List ℕ) (item : Item) (above : List Owned) → is_split above (record { family = F; item = item }) ≡ false
+    → cond (is_current_family (current_family st above) F) (nearest_runs st above) no_runs ≡ runs_of st above F
+unfolding is_split current_family nearest_runs
+ready_runs st F item [] h = sym (no_samples_no_runs st [] F (no_samples [] F refl))
+ready_runs st F item (n ∷ above) h = by (bytes_eq n.family F) refl h
+  where
+    by : (b : Bool) → bytes_eq n.family F ≡ b → (not b && list_any (is_of F) above) ≡ false → cond b (runs_of st (n ∷ above) n.family) no_runs ≡ runs_of st (n ∷ above) F
+    by true e none = ap (runs_of st (n ∷ above)) ((bytes_decides n.family F).0 e)
+    by false e none = sym (no_samples_no_runs st (n ∷ above) F (no_samples (n ∷ above) F (rw e none)))
+
 module _ (st : Setting) (c : Checking) (earlier : List Item) (s : Stands st c earlier) where
   abbrev lines : List Owned
   lines = owned_lines st.format earlier
 
   fit : AreFit st lines
-  fit = fit_lines st earlier s.text s.text_items s.faultless
+  fit = fit_lines st earlier s.faultless
 
   -- Split, by what is kept
   split_kept : (F : List ℕ) (item : Item) → (not (is_current_family c.current F) && is_some (lookup (bytes_eq F) c.left)) ≡ is_split lines (record { family = F; item = item })
@@ -262,40 +275,45 @@ module _ (st : Setting) (c : Checking) (earlier : List Item) (s : Stands st c ea
       current : cond (is_current_family c.current F) c.current (first_line F) ≡ Some (record { name = F; family = so_far st lines F })
       current = rw s.current (ready_current st F item lines h)
 
+      runs : cond (is_current_family c.current F) c.runs no_runs ≡ runs_of st lines F
+      runs = rw (s.runs, s.current) (ready_runs st F item lines h)
+
       -- the same checker but for its families
-      ready_for : (d : Checking) → d.setting ≡ c.setting → d.seen ≡ c.seen → d.samples ≡ c.samples → d.stopped ≡ c.stopped
-          → d.left ≡ cond (is_current_family c.current F) c.left (with_left c.left c.current) → d.current ≡ cond (is_current_family c.current F) c.current (first_line F) → IsReady st d earlier F
-      ready_for d setting seen samples stopped left_is current_is = record {
+      ready_for : (d : Checking) → d.setting ≡ c.setting → d.seen ≡ c.seen → d.samples ≡ c.samples → d.ended ≡ c.ended → d.stopped ≡ c.stopped
+          → d.runs ≡ cond (is_current_family c.current F) c.runs no_runs → d.left ≡ cond (is_current_family c.current F) c.left (with_left c.left c.current) → d.current ≡ cond (is_current_family c.current F) c.current (first_line F) → IsReady st d earlier F
+      ready_for d setting seen samples ended stopped runs_is left_is current_is = record {
         setting = setting ∙ s.setting;
         text = s.text;
         left = left_is ∙ left;
         current = current_is ∙ current;
+        runs = runs_is ∙ runs;
         seen = seen ∙ s.seen;
         samples = samples ∙ s.samples;
+        ended = ended ∙ s.ended;
         working = stopped ∙ s.working;
-        text_items = s.text_items;
         faultless = s.faultless;
       }
 
       by : (b : Bool) → is_current_family c.current F ≡ b
           → IsReady st (cond b c (begun c F)) earlier F
-      by true e = ready_for c refl refl refl refl (ap (λ b. cond b c.left (with_left c.left c.current)) (sym e)) (ap (λ b. cond b c.current (first_line F)) (sym e))
-      by false e = ready_for (begun c F) refl refl refl refl (ap (λ b. cond b c.left (with_left c.left c.current)) (sym e)) (ap (λ b. cond b c.current (first_line F)) (sym e))
+      by true e = ready_for c refl refl refl refl refl (ap (λ b. cond b c.runs no_runs) (sym e)) (ap (λ b. cond b c.left (with_left c.left c.current)) (sym e)) (ap (λ b. cond b c.current (first_line F)) (sym e))
+      by false e = ready_for (begun c F) refl refl refl refl refl (ap (λ b. cond b c.runs no_runs) (sym e)) (ap (λ b. cond b c.left (with_left c.left c.current)) (sym e)) (ap (λ b. cond b c.current (first_line F)) (sym e))
 
 -- ---- a line more
 
 module _ (st : Setting) (c : Checking) (earlier : List Item) (F : List ℕ) (r : IsReady st c earlier F) where
   -- another checker, in which only the current family, the seen samples and their number have changed
-  stands_with : (item : Item) → IsTextItem item → item_fault st earlier item ≡ None → owner_of st.format (owned_lines st.format earlier) item ≡ Some F
+  stands_with : (item : Item) → item_fault st earlier item ≡ None → is_eof item ≡ false → owner_of st.format (owned_lines st.format earlier) item ≡ Some F
       → (d : Checking) → d.setting ≡ c.setting → d.left ≡ c.left → d.current ≡ Some (record { name = F; family = so_far st (record { family = F; item = item } ∷ owned_lines st.format earlier) F })
-      → d.seen ≡ keys_above st (record { family = F; item = item } ∷ owned_lines st.format earlier) → d.samples ≡ count_by is_sample (item ∷ earlier) → d.stopped ≡ c.stopped
+      → d.runs ≡ runs_of st (record { family = F; item = item } ∷ owned_lines st.format earlier) F
+      → d.seen ≡ keys_above st (record { family = F; item = item } ∷ owned_lines st.format earlier) → d.samples ≡ count_by is_sample (item ∷ earlier) → d.ended ≡ c.ended → d.stopped ≡ c.stopped
       → Stands st d (item ∷ earlier)
-  unfolding left_families current_family owned_lines
-  stands_with item text none owner d setting left current seen samples stopped =
+  unfolding left_families current_family nearest_runs owned_lines
+  stands_with item none more owner d setting left current runs seen samples ended stopped =
       let above : List Owned = owned_lines st.format earlier in
       let o : Owned = record { family = F; item = item } in
       let lines : owned_lines st.format (item ∷ earlier) ≡ o ∷ above = ap (λ w. with_owner w item above) owner in
-      let fit : AreFit st (o ∷ above) = subst (AreFit st) lines (fit_lines st (item ∷ earlier) r.text (text, r.text_items) (none, r.faultless)) in
+      let fit : AreFit st (o ∷ above) = subst (AreFit st) lines (fit_lines st (item ∷ earlier) (none, r.faultless)) in
       let pairs_same : pairs (so_far st above) (left_before F above) ≡ pairs (so_far st (o ∷ above)) (left_before F above) =
       map-pairs (so_far st above) (so_far st (o ∷ above)) F (left_before F above) (fresh st F item above fit.1 fit.0.together) (λ name e. sym (so_far-other st o above name e)) in
       let placed : Stands st d (item ∷ earlier) = record {
@@ -303,10 +321,11 @@ module _ (st : Setting) (c : Checking) (earlier : List Item) (F : List ℕ) (r :
         text = r.text;
         left = left ∙ r.left ∙ pairs_same ∙ ap (λ l. pairs (so_far st l) (left_families l)) (sym lines);
         current = current ∙ ap (current_family st) (sym lines);
+        runs = runs ∙ ap (nearest_runs st) (sym lines);
         seen = seen ∙ ap (keys_above st) (sym lines);
         samples = samples;
+        ended = ended ∙ r.ended ∙ ap (λ b. b || list_any is_eof earlier) (sym more);
         working = stopped ∙ r.working;
-        text_items = (text, r.text_items);
         faultless = (none, r.faultless);
       } in placed
 
@@ -323,20 +342,30 @@ module _ (st : Setting) (c : Checking) (earlier : List Item) (F : List ℕ) (r :
   ready_kind = ap current_kind r.current
 
   -- a descriptor more
-  pub stands_described : (d : Descriptor) → IsTextItem (line_of F d) → item_fault st earlier (line_of F d) ≡ None
+  pub stands_described : (d : Descriptor) → item_fault st earlier (line_of F d) ≡ None
       → is_late_descriptor (owned_lines st.format earlier) (record { family = F; item = line_of F d }) ≡ false
       → Stands st (with_descriptor c d) (line_of F d ∷ earlier)
-  stands_described d text none late =
+  unfolding samples_of
+  stands_described d none late =
       let above : List Owned = owned_lines st.format earlier in
-      let first : samples_of (reverse above) F ≡ [] = reversed_samples above F ∙ ap reverse (none_above above F (line_of F d) (is_one F d) late) in
-      stands_with (line_of F d) text none (owner d) (with_descriptor c d) refl refl
-      (changed (family_with d) (so_far st (record { family = F; item = line_of F d } ∷ above) F) (so_far-descriptor st F d above first))
-      (unseen (line_of F d) (no_sample d)) (r.samples ∙ uncounted d) refl
+      let o : Owned = record { family = F; item = line_of F d } in
+      let unsampled : samples_of above F ≡ [] = none_above above F (line_of F d) (is_one F d) late in
+      let first : samples_of (reverse above) F ≡ [] = reversed_samples above F ∙ ap reverse unsampled in
+      let still : samples_of (o ∷ above) F ≡ [] = (λ i. cons_option (cond (bytes_same F i) (no_sample d i) None) (samples_of above F)) ∙ unsampled in
+      let runs : runs_of st above F ≡ runs_of st (o ∷ above) F = no_samples_no_runs st above F unsampled ∙ sym (no_samples_no_runs st (o ∷ above) F still) in
+      stands_with (line_of F d) none (more d) (owner d) (with_descriptor c d) refl refl
+      (changed (family_with d) (so_far st (o ∷ above) F) (so_far-descriptor st F d above first))
+      (r.runs ∙ runs) (unseen (line_of F d) (no_sample d)) (r.samples ∙ uncounted d) refl refl
     where
       owner : (d : Descriptor) → owner_of st.format (owned_lines st.format earlier) (line_of F d) ≡ Some F
       owner (sorts.Help t) = refl
       owner (sorts.Type k) = refl
       owner (sorts.Unit u) = refl
+
+      more : (d : Descriptor) → is_eof (line_of F d) ≡ false
+      more (sorts.Help t) = refl
+      more (sorts.Type k) = refl
+      more (sorts.Unit u) = refl
 
       no_sample : (d : Descriptor) → sample_of_line (line_of F d) ≡ None
       no_sample (sorts.Help t) = refl
@@ -351,58 +380,62 @@ module _ (st : Setting) (c : Checking) (earlier : List Item) (F : List ℕ) (r :
   -- Unit, by what is kept
   pub unit_kept : (d : Descriptor) → unit_stop c.current d ≡ unit_fault (owned_lines st.format earlier) (record { family = F; item = line_of F d })
   unit_kept d = ap (λ k. unit_stop k d) r.current
-      ∙ ap (λ b. cond b (Some rules.Unit) None) (bad_unit_above st (owned_lines st.format earlier) F d (fit_lines st earlier r.text r.text_items r.faultless))
+      ∙ ap (λ b. cond b (Some rules.Unit) None) (bad_unit_above st (owned_lines st.format earlier) F d (fit_lines st earlier r.faultless))
 
   -- a sample more, whose groups are these
-  sampled : (s : Sample) (groups : List (LabelSet × Gathered)) → s.exemplar ≡ None → sample_owner st.format (owned_lines st.format earlier) s.name ≡ F → item_fault st earlier (items.Sample s) ≡ None
-      → (d : Checking) → d.setting ≡ c.setting → d.left ≡ c.left → d.seen ≡ c.seen → d.samples ≡ c.samples → d.stopped ≡ c.stopped
+  sampled : (s : Sample) (groups : List (LabelSet × Gathered)) → sample_owner st.format (owned_lines st.format earlier) s.name ≡ F → item_fault st earlier (items.Sample s) ≡ None
+      → (d : Checking) → d.setting ≡ c.setting → d.left ≡ c.left → d.seen ≡ c.seen → d.samples ≡ c.samples → d.ended ≡ c.ended → d.stopped ≡ c.stopped
+      → d.runs ≡ runs_of st (record { family = F; item = items.Sample s } ∷ owned_lines st.format earlier) F
       → d.current ≡ current_with (λ f. record f { groups = groups }) c.current
       → groups ≡ grown st (kind_of (owned_lines st.format earlier) F) F s (so_far st (owned_lines st.format earlier) F).groups
       → Stands st (with_sample d (key_of st s) s.value) (items.Sample s ∷ earlier)
   unfolding with_sample keys_above
-  sampled s groups text owner none d setting left seen samples stopped current groups_are =
+  sampled s groups owner none d setting left seen samples ended stopped runs current groups_are =
       let above : List Owned = owned_lines st.format earlier in
       let change : FamilySoFar → FamilySoFar = λ f. record f { values = f.values ++ s.value ∷ []; groups = groups } in
       let more : count_by is_sample (items.Sample s ∷ earlier) ≡ 1 + count_by is_sample earlier = sum_by-cons (λ x. cond (is_sample x) 1 0) (items.Sample s) earlier in
       let counted : c.samples ≡ count_by is_sample earlier = r.samples in
-      stands_with (items.Sample s) text none (ap Some owner) (with_sample d (key_of st s) s.value) setting left
+      stands_with (items.Sample s) none refl (ap Some owner) (with_sample d (key_of st s) s.value) setting left
       (ap (current_with (family_with_value s.value)) current ∙ twice c.current
       ∙ changed change (so_far st (record { family = F; item = items.Sample s } ∷ above) F)
       (so_far-sample st F s above ∙ ap (λ g. record (so_far st above F) { values = (so_far st above F).values ++ s.value ∷ []; groups = g }) (sym groups_are)))
-      (ap (λ l. l ++ key_of st s ∷ []) (seen ∙ r.seen)) (omega (arith, samples, counted, more)) stopped
+      runs (ap (λ l. l ++ key_of st s ∷ []) (seen ∙ r.seen)) (omega (arith, samples, counted, more)) ended stopped
     where
       twice : (k : Option Current) → current_with (family_with_value s.value) (current_with (λ f. record f { groups = groups }) k)
           ≡ current_with (λ f. record f { values = f.values ++ s.value ∷ []; groups = groups }) k
       twice None = refl
       twice (Some k) = refl
 
-  -- a sample of a kind without groups
-  pub stands_sample : (s : Sample) → s.exemplar ≡ None → sample_owner st.format (owned_lines st.format earlier) s.name ≡ F → item_fault st earlier (items.Sample s) ≡ None
-      → is_grouped (kind_of (owned_lines st.format earlier) F) ≡ false
-      → Stands st (with_sample c (key_of st s) s.value) (items.Sample s ∷ earlier)
-  unfolding so_far groups_so_far
-  stands_sample s text owner none plain =
+  -- the groups that have begun, with a sample more
+  entered_runs : (s : Sample) (k : Kind) → k ≡ kind_of (owned_lines st.format earlier) F
+      → runs_with c.setting.format c.current k (kept_labels st.treatment s.labels) c.runs ≡ runs_of st (record { family = F; item = items.Sample s } ∷ owned_lines st.format earlier) F
+  entered_runs s k kind =
       let above : List Owned = owned_lines st.format earlier in
-      let groups : (so_far st above F).groups ≡ grown st (kind_of above F) F s (so_far st above F).groups = rw plain refl in
-      let same : c.current ≡ current_with (λ f. record f { groups = (so_far st above F).groups }) c.current = r.current ∙ sym (ap (current_with (λ f. record f { groups = (so_far st above F).groups })) r.current) in
-      sampled s (so_far st above F).groups text owner none c refl refl refl refl refl same groups
+      (λ i. runs_with (r.setting i).format (r.current i) (kind i) (kept_labels st.treatment s.labels) (r.runs i)) ∙ sym (runs_sample st F s above)
 
-  -- a sample of a kind with groups, in its group
-  pub stands_grouped : (s : Sample) (part : Part) → s.exemplar ≡ None → sample_owner st.format (owned_lines st.format earlier) s.name ≡ F → item_fault st earlier (items.Sample s) ≡ None
-      → (k : Kind) → k ≡ kind_of (owned_lines st.format earlier) F → is_grouped k ≡ true → part ≡ part_of F s
-      → Stands st (with_sample (with_current c (current_with (with_part_in k (kept_labels st.treatment s.labels) part) c.current)) (key_of st s) s.value) (items.Sample s ∷ earlier)
-  stands_grouped s part text owner none k kind grouped part_is =
+  -- a sample more, in its group where its kind has groups
+  pub stands_sample : (s : Sample) → sample_owner st.format (owned_lines st.format earlier) s.name ≡ F → item_fault st earlier (items.Sample s) ≡ None
+      → (k : Kind) → k ≡ kind_of (owned_lines st.format earlier) F → (b : Bool) → is_grouped k ≡ b
+      → Stands st (with_sample (with_told (entered_by c k (kept_labels st.treatment s.labels)) k (kept_labels st.treatment s.labels) (Ok (cond b (Some (part_of F s)) None))) (key_of st s) s.value) (items.Sample s ∷ earlier)
+  unfolding so_far groups_so_far
+  stands_sample s owner none k kind false plain =
       let above : List Owned = owned_lines st.format earlier in
+      let ungrouped : is_grouped (kind_of above F) ≡ false = ap is_grouped (sym kind) ∙ plain in
+      let groups : (so_far st above F).groups ≡ grown st (kind_of above F) F s (so_far st above F).groups = rw ungrouped refl in
+      let same : c.current ≡ current_with (λ f. record f { groups = (so_far st above F).groups }) c.current = r.current ∙ sym (ap (current_with (λ f. record f { groups = (so_far st above F).groups })) r.current) in
+      sampled s (so_far st above F).groups owner none (entered_by c k (kept_labels st.treatment s.labels)) refl refl refl refl refl refl (entered_runs s k kind) same groups
+  stands_sample s owner none k kind true grouped =
+      let above : List Owned = owned_lines st.format earlier in
+      let labels : LabelSet = kept_labels st.treatment s.labels in
       let f : FamilySoFar = so_far st above F in
-      let groups : List (LabelSet × Gathered) = with_part f.groups (shared_labels k (kept_labels st.treatment s.labels)) part in
+      let groups : List (LabelSet × Gathered) = with_part f.groups (shared_labels k labels) (part_of F s) in
       let here : is_grouped (kind_of above F) ≡ true = ap is_grouped (sym kind) ∙ grouped in
-      let label_is : shared_labels k (kept_labels st.treatment s.labels) ≡ sample_group st (kind_of above F) F s =
-      ap (λ k. shared_labels k (kept_labels st.treatment s.labels)) kind ∙ sym (shared_group st (kind_of above F) F s here) in
-      let groups_are : groups ≡ grown st (kind_of above F) F s f.groups = (λ i. with_part f.groups (label_is i) (part_is i))
+      let label_is : shared_labels k labels ≡ sample_group st (kind_of above F) F s = ap (λ k. shared_labels k labels) kind ∙ sym (shared_group st (kind_of above F) F s here) in
+      let groups_are : groups ≡ grown st (kind_of above F) F s f.groups = (λ i. with_part f.groups (label_is i) (part_of F s))
       ∙ ap (λ b. cond b (with_part f.groups (sample_group st (kind_of above F) F s) (part_of F s)) []) (sym here) in
-      let current : current_with (with_part_in k (kept_labels st.treatment s.labels) part) c.current ≡ current_with (λ f. record f { groups = groups }) c.current =
-      ap (current_with (with_part_in k (kept_labels st.treatment s.labels) part)) r.current ∙ sym (ap (current_with (λ f. record f { groups = groups })) r.current) in
-      sampled s groups text owner none (with_current c (current_with (with_part_in k (kept_labels st.treatment s.labels) part) c.current)) refl refl refl refl refl current groups_are
+      let current : current_with (with_part_in k labels (part_of F s)) c.current ≡ current_with (λ f. record f { groups = groups }) c.current =
+      ap (current_with (with_part_in k labels (part_of F s))) r.current ∙ sym (ap (current_with (λ f. record f { groups = groups })) r.current) in
+      sampled s groups owner none (with_part_at (entered_by c k labels) k labels (part_of F s)) refl refl refl refl refl refl (entered_runs s k kind) current groups_are
 
 -- ---- the place of a descriptor
 

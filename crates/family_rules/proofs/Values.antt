@@ -27,7 +27,6 @@ use Rattle.sample_groups.specs.Groups.{Gathered, groups_from, is_whole_group, re
 use Rattle.sample_groups.specs.Parts.{is_grouped, entry_of}
 use Rattle.sample_groups.specs.Sound.{AreSound}
 use Rattle.sample_groups.proofs.Laws.{whole_kept, readings_made, RiseToUp, whole_rise}
-use Rattle.family_rules.specs.Checking.{AreTextItems}
 use Rattle.family_rules.proofs.Faults.{fit_lines, sound_samples}
 use Rattle.family_rules.proofs.Kept.{reversed_samples}
 use Rattle.family_rules.proofs.Complete.{all_complete}
@@ -152,15 +151,15 @@ whole_groups st kind family samples text sound complete histogram =
     sym (whole_kept st kind family samples histogram text sound) ∙ all
 
 -- the readings of each family of lines without a fault have values of its kind
-pub page_values : (st : Setting) (earlier : List Item) (clean : Bool) → st.format ≡ Text → AreTextItems earlier → AreFaultless st earlier → end_fault st earlier clean ≡ None
+pub page_values : (st : Setting) (earlier : List Item) (clean : Bool) → st.format ≡ Text → AreFaultless st earlier → end_fault st earlier clean ≡ None
     → (family : List ℕ) → HaveValuesOf (family_of st (reverse (owned_lines st.format earlier)) family).kind (family_of st (reverse (owned_lines st.format earlier)) family).readings
 unfolding family_of is_incomplete
-page_values st earlier clean text texts free none family =
+page_values st earlier clean text free none family =
     let above : List Owned = owned_lines st.format earlier in
     let unit : List ℕ = unwrap_or (first_some (unit_in family) (reverse above)) [] in
     let kind_is : kind_of (reverse above) family ≡ kind_of above family = kind_of_page st earlier family free in
     let samples_are : samples_of (reverse above) family ≡ reverse (samples_of above family) = reversed_samples above family in
-    let sound : AreSound st (kind_of above family) family (samples_of above family) = sound_samples st above family (fit_lines st earlier text texts free) in
+    let sound : AreSound st (kind_of above family) family (samples_of above family) = sound_samples st above family (fit_lines st earlier free) in
     let values_are : HaveValuesOf (kind_of above family) (readings_of st (kind_of above family) family unit (reverse (samples_of above family))) =
     family_values st family unit text (kind_of above family) (samples_of above family) sound (whole_groups st (kind_of above family) family (samples_of above family) text sound (all_complete st earlier clean free none family)) in
     subst (λ (k : Kind). HaveValuesOf k (readings_of st k family unit (samples_of (reverse above) family))) (sym kind_is)

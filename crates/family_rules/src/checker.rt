@@ -2,6 +2,7 @@
 ghost use Rattle.std.specs.Prelude.{◌≡◌, List, [], ◌∷◌, Err, IfErr, Some, IfOk, OnOk};
 ghost use Rattle.page_model.specs.Written.{Setting};
 ghost use Rattle.page_model.specs.declared.item.Item.{Item};
+ghost use Rattle.page_model.specs.declared.item.Item.TheVariants as items;
 ghost use Rattle.page_model.specs.declared.fault.PageFault.{PageFault};
 ghost use Rattle.page_model.specs.Faults.{item_fault, end_fault};
 ghost use Rattle.page_model.specs.Readings.{page_of};
@@ -14,6 +15,7 @@ use crate::family::{Current, Descriptor};
 use crate::keys::SampleKeys;
 use crate::left::LeftFamilies;
 use crate::pages::families_in;
+use crate::runs::GroupRuns;
 use label_sets::Memory;
 use page_model::{Format, Item, Page, PageCounts, PageFault, Rule, Treatment};
 use places::put_left;
@@ -29,8 +31,12 @@ pub struct Checker {
     limit: u32,
     left: LeftFamilies,
     current: Option<Current>,
+    /// The groups of the current family, where the format has rule 12.
+    runs: GroupRuns,
     seen: SampleKeys,
     samples: u32,
+    /// A line `# EOF` was taken.
+    ended: bool,
     /// The first refusal, or want of memory.
     stopped: Option<PageFault>,
 }
@@ -44,15 +50,18 @@ impl Model for Checker {
       setting = record { format = c.format; treatment = c.treatment; limit = c.limit };
       left = c.left;
       current = c.current;
+      runs = c.runs;
       seen = c.seen;
       samples = c.samples;
+      ended = c.ended;
       stopped = c.stopped;
     } };
 }
 
 impl Checker {
-    ghost use Rattle.family_rules.specs.Checking.{Stands, IsTextItem, Answers, TellsEnd, HasStopped};
-    ghost use Rattle.family_rules.specs.Steps.{Takes, page_at};
+    ghost use Rattle.family_rules.specs.Checking.{Stands, Answers, TellsEnd, HasStopped};
+    ghost use Rattle.family_rules.specs.Steps.{Takes, TakesAny, has_ended, end_stop};
+    ghost use Rattle.family_rules.specs.Made.{page_at};
 
     /// A checker that has taken no line, and will make a page. `limit` is the most samples that the page may have.
     pub fn new(
@@ -101,24 +110,54 @@ impl Checker {
             limit,
             left: LeftFamilies::new(alloc),
             current: None,
+            runs: GroupRuns::new(alloc),
             seen,
             samples: 0,
+            ended: false,
             stopped: None,
         }
     }
 
-    /// Takes an item, and answers the rule that it breaks.
-    fn take(&mut self, item: Item) -> Result<Option<Rule>, Memory>
+    /// Rule 7: the page has ended.
+    fn has_ended(&self) -> bool
+        ensures { result ≡ has_ended self.now }
+    {
+        match self.format {
+            Format::Text => false,
+            Format::OpenMetrics => self.ended,
+        }
+    }
+
+    /// Takes `# EOF`, and answers the rule that it breaks.
+    fn take_end(&mut self) -> Option<Rule>
+        ensures { Takes items.Eof self.old self.new result }
+    {
+        self.ended = true;
+        self.left_rule()
+    }
+
+    /// Takes an item of a page that goes on, and answers the rule that it breaks.
+    fn take_more(&mut self, item: Item) -> Result<Option<Rule>, Memory>
         ensures { IfOk result (Takes item self.old self.new) }
     {
         match item {
             Item::Blank | Item::Comment => Ok(None),
-            Item::Eof => Ok(self.left_rule()),
+            Item::Eof => Ok(self.take_end()),
             Item::Help { name, text } => self.take_descriptor(name, Descriptor::Help(text)),
             Item::KindOf { name, kind } => self.take_descriptor(name, Descriptor::Type(kind)),
             Item::Unit { name, unit } => self.take_descriptor(name, Descriptor::Unit(unit)),
             Item::Sample(sample) => self.take_sample(sample),
         }
+    }
+
+    /// Takes an item, and answers the rule that it breaks.
+    fn take(&mut self, item: Item) -> Result<Option<Rule>, Memory>
+        ensures { IfOk result (TakesAny item self.old self.new) }
+    {
+        if self.has_ended() {
+            return Ok(Some(Rule::AfterEof));
+        }
+        self.take_more(item)
     }
 
     /// Keeps what the checker answers from now on.
@@ -133,7 +172,6 @@ impl Checker {
     /// Takes the item of a line. It is refused where it breaks a rule, the least of which is named, and the
     /// checker goes on answering its first refusal, or `Memory` after that.
     pub fn item(&mut self, line: u32, item: Item) -> Result<(), PageFault>
-        requires { IsTextItem item }
         ensures answer { (st : Setting) (earlier : List Item) → Stands st self.old earlier → Answers line (item_fault st earlier item) result }
         ensures stands { (st : Setting) (earlier : List Item) → Stands st self.old earlier → OnOk result (Stands st self.new (item ∷ earlier)) }
         ensures stops { IfErr result (HasStopped self.new) }
@@ -183,8 +221,20 @@ impl Checker {
         })
     }
 
-    /// The fault of the end: an earlier refusal or want of memory, then a missing line feed, then a histogram
-    /// that is left incomplete.
+    /// The rule that the end breaks: a missing line feed in a text, a missing `# EOF` in OpenMetrics, or a
+    /// histogram that is left incomplete.
+    #[tactic(auto, unfolding(crate::specs::Steps::end_stop))]
+    fn end_rule(&self, clean: bool) -> Option<Rule>
+        ensures { result ≡ end_stop self.now clean }
+    {
+        match self.format {
+            Format::Text if !clean => Some(Rule::NoNewline),
+            Format::OpenMetrics if !self.ended => Some(Rule::NoEof),
+            Format::Text | Format::OpenMetrics => self.left_rule(),
+        }
+    }
+
+    /// The fault of the end: an earlier refusal or want of memory, then the rule that the end breaks.
     fn end_fault(&self, line: u32, clean: bool) -> Option<PageFault>
         ensures answer { (st : Setting) (earlier : List Item) → Stands st self.now earlier → TellsEnd line (end_fault st earlier clean) result }
         ensures stopped { (fault : PageFault) → HasStopped self.now fault → result ≡ Some fault }
@@ -192,13 +242,7 @@ impl Checker {
         if let Some(fault) = self.stopped {
             return Some(fault);
         }
-        if !clean {
-            return Some(PageFault::Refused {
-                line,
-                rule: Rule::NoNewline,
-            });
-        }
-        match self.left_rule() {
+        match self.end_rule(clean) {
             Some(rule) => Some(PageFault::Refused { line, rule }),
             None => None,
         }

@@ -3,12 +3,15 @@
 #![tactic(auto)]
 
 mod checker;
+mod exemplars;
 mod family;
 mod keys;
 mod left;
 mod numbers;
 mod pages;
 mod rare_text;
+mod runs;
+mod sample_values;
 mod suffix;
 #[cfg(test)]
 mod tests;

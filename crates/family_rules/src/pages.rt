@@ -1,6 +1,6 @@
 //! The families and readings of a page, from what was kept of its lines (OpenMetrics 1.0, "Data Model").
 ghost use Rattle.std.specs.Prelude.{◌≡◌, [], drop, length, unwrap_or, IfOk, OnOk};
-ghost use Rattle.family_rules.specs.Steps.{plain_reading, readings_at, family_at, families_at};
+ghost use Rattle.family_rules.specs.Made.{plain_reading, readings_at, family_at, families_at};
 
 use crate::family::FamilySoFar;
 use crate::keys::KeyEntries;

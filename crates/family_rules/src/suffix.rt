@@ -2,7 +2,7 @@
 //! OpenMetrics 1.0, "Suffixes").
 ghost use Rattle.std.specs.Prelude.{◌≡◌, ◌++◌};
 ghost use Rattle.std.specs.Str.{bytes_eq};
-ghost use Rattle.page_model.specs.Suffixes.{is_sample_name};
+ghost use Rattle.page_model.specs.Suffixes.{is_sample_name, suffix_of};
 
 use label_sets::{Kind, Name};
 use page_model::Format;
@@ -14,6 +14,16 @@ fn is_suffixed(name: &Name, family: &Name, suffix: &[u8]) -> bool
     match name.as_bytes().strip_prefix(family.as_bytes()) {
         Some(rest) => rest == suffix,
         None => false,
+    }
+}
+
+/// Whether a name has these bytes behind as many as the family's has.
+pub fn has_suffix(family: &Name, name: &Name, suffix: &[u8]) -> bool
+    ensures { result ≡ bytes_eq (suffix_of family.now name.now) suffix.now }
+{
+    match name.as_bytes().get(family.len()..) {
+        Some(rest) => rest == suffix,
+        None => suffix.is_empty(),
     }
 }
 

@@ -1,15 +1,16 @@
-ghost use Rattle.std.specs.Prelude.{IfOk};
-ghost use Rattle.family_rules.specs.Checking.{IsTextItem};
-
 use crate::Checker;
 use exact_decimal::read;
 use label_sets::{Kind, Label, LabelSet, Memory, Name, Text};
 use page_model::{Format, Item, Page, PageCounts, PageFault, Rule, Sample, Treatment};
 use std::alloc::{AllocError, Global};
 
-fn sample(alloc: Global, name: &str, label: &str, value: &str, number: &str) -> Result<Item, Memory>
-    ensures { IfOk result IsTextItem }
-{
+fn sample(
+    alloc: Global,
+    name: &str,
+    label: &str,
+    value: &str,
+    number: &str,
+) -> Result<Item, Memory> {
     let mut pairs = Vec::new(alloc);
     pairs.push(Label {
         name: Name::from_str(alloc, label)?,
@@ -31,9 +32,7 @@ fn sample(alloc: Global, name: &str, label: &str, value: &str, number: &str) -> 
 }
 
 /// The sample of a name and the value of its label `job`, or its label, that label's value and its own.
-fn sample_of(alloc: Global, name: &str, rest: &str) -> Result<Item, Memory>
-    ensures { IfOk result IsTextItem }
-{
+fn sample_of(alloc: Global, name: &str, rest: &str) -> Result<Item, Memory> {
     let Some((label, rest)) = rest.split_once('=') else {
         return sample(alloc, name, "job", rest, "1");
     };
@@ -45,9 +44,7 @@ fn sample_of(alloc: Global, name: &str, rest: &str) -> Result<Item, Memory>
 
 /// The item of a word: `help x`, `counter x`, `histogram x` or `summary x`, or else the name of a sample
 /// and what it has, as `x a` or `h_bucket le=0.5 2`.
-fn item_of(alloc: Global, line: &str) -> Result<Item, Memory>
-    ensures { IfOk result IsTextItem }
-{
+fn item_of(alloc: Global, line: &str) -> Result<Item, Memory> {
     let Some((word, rest)) = line.split_once(' ') else {
         return Ok(Item::Comment);
     };

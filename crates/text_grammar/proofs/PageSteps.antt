@@ -29,9 +29,6 @@ use Rattle.family_rules.specs.Checking.{Checking}
 use Rattle.family_rules.specs.Checking as checking
 use Rattle.std.specs.Prelude.{option_and_then, OnOk, IfOk, IsOk, IsTrue, ⊤}
 use Rattle.std.specs.Option.{option_map_or}
-use Rattle.label_sets.specs.declared.kind.Kind.{Kind}
-use Rattle.label_sets.specs.declared.kind.Kind.TheVariants as kinds
-use Rattle.page_model.specs.Rules.{is_info_or_state_set}
 use Rattle.page_model.specs.Written.{Written, blank, comment, eof, help, type_line, unit_line, sample, item_of}
 use Rattle.page_model.specs.TextItems.{SpellsTrimmed, text_kind_word, trimmed}
 use Rattle.page_model.specs.TextReading.{text_line_of}
@@ -160,32 +157,6 @@ answer-item t limit earlier line number item new (Err faults.Memory) read answer
 pub answer-own : (t : Treatment) (limit : ℕ) (earlier : List Item) (line : List ℕ) (rule : Rule) → IsRead t line (reads.Refused rule) → line_fault (text_setting t limit) earlier (line_read Text line) ≡ Some rule
 unfolding line_fault
 answer-own t limit earlier line rule read = rw (read limit) refl
-
-text_kind : (kind : Kind) (word : List ℕ) → text_kind_word kind ≡ Some word → IsTrue (not (is_info_or_state_set kind))
-text_kind kinds.Counter word e = refl
-text_kind kinds.Gauge word e = refl
-text_kind kinds.Histogram word e = refl
-text_kind kinds.GaugeHistogram word e = refl
-text_kind kinds.StateSet word e = absurd cc
-text_kind kinds.Info word e = absurd cc
-text_kind kinds.Summary word e = refl
-text_kind kinds.Unknown word e = refl
-
-text_item : (line : List ℕ) (w : Written) → SpellsTrimmed line w → checking.IsTextItem (item_of Text w)
-text_item line blank h = tt
-text_item line comment h = tt
-text_item line eof h = tt
-text_item line (help name text) h = tt
-text_item line (type_line name kind) h = text_kind kind h.word h.kind_word
-text_item line (unit_line name unit) h = tt
-text_item line (sample s) h = rw h.no_exemplar refl
-
-pub read_item : (t : Treatment) (line : List ℕ) (item : Item) → IsRead t line (reads.Item item) → checking.IsTextItem item
-read_item t line item h = go (text_line_of line) refl h.1
-  where
-    go : (says : Option Written) → text_line_of line ≡ says → option_map (item_of Text) says ≡ Some item → checking.IsTextItem item
-    go None e f = absurd cc
-    go (Some w) e f = let same : item_of Text w ≡ item = cc in subst checking.IsTextItem same (text_item (trimmed line) w (text_line_sound line w e))
 
 -- ---- a step over a piece
 

@@ -1,17 +1,21 @@
 //! Samples of the family that goes on, and of one that they begin.
-ghost use Rattle.std.specs.Prelude.{◌≡◌, None, true, IfOk, OnOk};
+ghost use Rattle.std.specs.Prelude.{◌≡◌, None, true, false, not, IfOk, OnOk};
 ghost use Rattle.page_model.specs.Owners.{kept_labels};
+ghost use Rattle.page_model.specs.Rules.{is_open_metrics};
 ghost use Rattle.page_model.specs.declared.item.Item.TheVariants as items;
-ghost use Rattle.family_rules.specs.Checking.{key_of};
-ghost use Rattle.family_rules.specs.Steps.{Takes, TellsPart, is_current_sample, with_current, with_value, with_part_at, with_grouped, fits_order, group_stop, with_sample, sample_stop};
+ghost use Rattle.family_rules.specs.Steps.{Takes, with_current, left_stop};
+ghost use Rattle.family_rules.specs.Samples.{TellsPart, is_current_sample, has_bad_exemplar, with_value, with_part_at, with_told, told_left, fits_order, part_stop, is_back, entered_by, with_sample, with_added, sample_stop, add_stop, name_stop};
 
 use super::Checker;
+use crate::exemplars::is_bad_exemplar;
+use crate::runs::group_labels;
+use crate::sample_values::told;
 use crate::suffix::is_sample_name;
 use exact_decimal::Number;
 use label_sets::{Kind, LabelSet, Memory, Name};
 use packed_keys::SampleKey;
-use page_model::{Rule, Sample, Treatment};
-use sample_groups::{Part, is_grouped, part_of};
+use page_model::{Format, Rule, Sample, Treatment};
+use sample_groups::Part;
 
 impl Checker {
     /// Whether the family of the nearest line owns a sample of this name.
@@ -71,28 +75,61 @@ impl Checker {
         Ok(None)
     }
 
-    /// Adds a sample that breaks the given rule, or none of 15 to 18, and is in no group.
-    fn add_sample(&mut self, sample: Sample, broken: Option<Rule>) -> Result<Option<Rule>, Memory>
-        ensures broken { IfOk result (λ answer. answer ≡ sample_stop self.old (key_of self.old.setting sample) broken) }
-        ensures added { IfOk result (λ answer. answer ≡ None → self.new ≡ with_sample self.old (key_of self.old.setting sample) sample.value) }
-    {
-        let Sample {
-            name,
-            labels,
-            value,
-            ..
-        } = sample;
-        let labels = self.kept_labels(labels)?;
-        self.add_key(SampleKey { name, labels }, value, broken)
-    }
-
-    /// What a sample of the current family is to its group, or the rule that it breaks: 15 or 16.
-    fn part(&self, kind: Kind, sample: &Sample) -> Result<Part, Rule>
+    /// What a sample of the current family is to its group, where its kind has groups, or the rule that it
+    /// breaks: 15 or 16.
+    fn told(&self, kind: Kind, sample: &Sample) -> Result<Option<Part>, Rule>
         ensures { TellsPart self.now kind sample.now result }
     {
         match &self.current {
-            Some(current) => part_of(kind, &current.name, sample),
+            Some(current) => told(kind, &current.name, sample),
             None => Err(Rule::Suffix),
+        }
+    }
+
+    /// Nothing, or rule 18 where a sample of another family leaves the current one.
+    fn told_left(&self) -> Result<Option<Part>, Rule>
+        ensures { result ≡ told_left (left_stop self.now.current) }
+    {
+        match self.left_rule() {
+            Some(rule) => Err(rule),
+            None => Ok(None),
+        }
+    }
+
+    /// Rule 10: a sample of the current family has a bad exemplar.
+    fn has_bad_exemplar(&self, sample: &Sample) -> bool
+        ensures { result ≡ has_bad_exemplar self.now.current sample.now }
+    {
+        match &self.current {
+            Some(current) => is_bad_exemplar(current.family.kind(), &current.name, sample),
+            None => false,
+        }
+    }
+
+    /// Adds a sample of the current family to its group, and answers whether it goes back to it: rule 12.
+    fn enter(&mut self, kind: Kind, labels: &LabelSet) -> Result<bool, Memory>
+        ensures back { IfOk result (λ back. back ≡ is_back self.old kind labels.now) }
+        ensures entered { IfOk result (λ back. back ≡ false → self.new ≡ entered_by self.old kind labels.now) }
+    {
+        if self.is_text() {
+            return Ok(false);
+        }
+        match &self.current {
+            Some(current) => {
+                let shared = group_labels(self.alloc, kind, &current.name, labels)?;
+                self.runs.enter(&current.name, shared)
+            }
+            None => Ok(false),
+        }
+    }
+
+    /// Whether the format has no rule 12.
+    fn is_text(&self) -> bool
+        ensures { is_open_metrics self.now.setting.format ≡ not result }
+    {
+        match self.format {
+            Format::Text => true,
+            Format::OpenMetrics => false,
         }
     }
 
@@ -108,15 +145,37 @@ impl Checker {
         }
     }
 
-    /// Adds a sample to its group, or answers the rule that it breaks: 14, 17 or 20.
-    fn add_grouped(
+    /// Adds what was told of a sample to the current family, or answers the rule that it breaks: 15 to 18.
+    fn add_told(
+        &mut self,
+        kind: Kind,
+        labels: &LabelSet,
+        told: Result<Option<Part>, Rule>,
+    ) -> Result<Option<Rule>, Memory>
+        ensures broken { IfOk result (λ broken. broken ≡ part_stop kind labels.now told self.old.current) }
+        ensures added { IfOk result (λ broken. broken ≡ None → self.new ≡ with_told self.old kind labels.now told) }
+        ensures rest { OnOk result (self.new ≡ with_current self.old self.new.current) }
+    {
+        match told {
+            Ok(Some(part)) => {
+                let added = self.add_part(kind, labels, part)?;
+                Ok((!added).then_some(Rule::Order))
+            }
+            Ok(None) => Ok(None),
+            Err(rule) => Ok(Some(rule)),
+        }
+    }
+
+    /// Adds a sample of the current family, of which this was told, or answers the rule that it breaks: 12, 14
+    /// to 18 or 20.
+    fn add_sample(
         &mut self,
         kind: Kind,
         sample: Sample,
-        part: Part,
+        told: Result<Option<Part>, Rule>,
     ) -> Result<Option<Rule>, Memory>
-        ensures broken { IfOk result (λ answer. answer ≡ group_stop self.old kind sample part) }
-        ensures added { IfOk result (λ answer. answer ≡ None → self.new ≡ with_grouped self.old kind sample part) }
+        ensures broken { IfOk result (λ answer. answer ≡ add_stop self.old kind sample told) }
+        ensures added { IfOk result (λ answer. answer ≡ None → self.new ≡ with_added self.old kind sample told) }
     {
         let Sample {
             name,
@@ -125,24 +184,60 @@ impl Checker {
             ..
         } = sample;
         let labels = self.kept_labels(labels)?;
-        let added = self.add_part(kind, &labels, part)?;
-        let broken = (!added).then_some(Rule::Order);
+        let back = self.enter(kind, &labels)?;
+        if back {
+            return Ok(Some(Rule::Interleaved));
+        }
+        let broken = self.add_told(kind, &labels, told)?;
         self.add_key(SampleKey { name, labels }, value, broken)
     }
 
-    /// Takes a sample of the current family, and answers the rule that it breaks: 14 to 17 or 20.
+    /// Takes a sample of the current family, and answers the rule that it breaks: 10, 12, 14 to 17 or 20.
     fn take_own(&mut self, sample: Sample) -> Result<Option<Rule>, Memory>
         requires { is_current_sample self.now.setting.format self.now.current sample.name ≡ true }
         ensures { IfOk result (Takes (items.Sample sample) self.old self.new) }
     {
+        if self.has_bad_exemplar(&sample) {
+            return Ok(Some(Rule::Exemplar));
+        }
         let kind = self.current_kind();
-        if !is_grouped(kind) {
-            return self.add_sample(sample, None);
+        let told = self.told(kind, &sample);
+        self.add_sample(kind, sample, told)
+    }
+
+    /// The rule that a sample of the current family breaks whose name its kind doesn't allow: 12 or 13.
+    fn name_rule(&mut self, sample: Sample) -> Result<Rule, Memory>
+        ensures { IfOk result (λ rule. rule ≡ name_stop self.old sample) }
+    {
+        let kind = self.current_kind();
+        let labels = self.kept_labels(sample.labels)?;
+        let back = self.enter(kind, &labels)?;
+        if back {
+            return Ok(Rule::Interleaved);
         }
-        match self.part(kind, &sample) {
-            Ok(part) => self.add_grouped(kind, sample, part),
-            Err(rule) => self.add_sample(sample, Some(rule)),
+        Ok(Rule::Suffix)
+    }
+
+    /// Takes a sample that is of the family of its own name, and answers the rule that it breaks.
+    fn take_other(&mut self, sample: Sample) -> Result<Option<Rule>, Memory>
+        requires { is_current_sample self.now.setting.format self.now.current sample.name ≡ false }
+        ensures { IfOk result (Takes (items.Sample sample) self.old self.new) }
+    {
+        // No name without a suffix may have one.
+        if sample.exemplar.is_some() {
+            return Ok(Some(Rule::Exemplar));
         }
+        if self.is_current(&sample.name) {
+            let rule = self.name_rule(sample)?;
+            return Ok(Some(rule));
+        }
+        if self.is_left(&sample.name) {
+            return Ok(Some(Rule::Split));
+        }
+        let told = self.told_left();
+        let family = sample.name.copy()?;
+        self.begin(family)?;
+        self.add_sample(Kind::Unknown, sample, told)
     }
 
     /// Takes a sample line, and answers the rule that it breaks.
@@ -152,16 +247,6 @@ impl Checker {
         if self.is_current_sample(&sample.name) {
             return self.take_own(sample);
         }
-        // It is of the family of its own name, and begins it.
-        if self.is_current(&sample.name) {
-            return Ok(Some(Rule::Suffix));
-        }
-        if self.is_left(&sample.name) {
-            return Ok(Some(Rule::Split));
-        }
-        let broken = self.left_rule();
-        let family = sample.name.copy()?;
-        self.begin(family)?;
-        self.add_sample(sample, broken)
+        self.take_other(sample)
     }
 }

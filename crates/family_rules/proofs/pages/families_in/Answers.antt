@@ -1,6 +1,6 @@
 use Rattle.std.proofs.Common.{◌∙◌, ap, List, ℕ}
 use Rattle.family_rules.specs.declared.family.FamilySoFar.{FamilySoFar}
-use Rattle.family_rules.specs.Steps.{families_at}
+use Rattle.family_rules.specs.Made.{families_at}
 use Rattle.family_rules.proofs.Taking.{if_ok}
 use Rattle.family_rules.proofs.Loops.{families_step, families_end, none_left, one_left}
 use Rattle.family_rules.proofs.pages.families_in.Goals as goal

@@ -1,5 +1,5 @@
 use Rattle.std.proofs.Common.{◌≡◌, ◌++◌, length}
-use Rattle.family_rules.specs.Steps.{families_at}
+use Rattle.family_rules.specs.Made.{families_at}
 use Rattle.family_rules.proofs.pages.families_in.Given as goal
 
 -- the families so far and those that are left are all of them

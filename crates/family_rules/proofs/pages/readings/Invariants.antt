@@ -1,6 +1,6 @@
 use Rattle.std.proofs.Common.{◌≡◌, ◌++◌, drop, length}
 use Rattle.std.specs.Vec.Iter.{into_iter_items}
-use Rattle.family_rules.specs.Steps.{readings_at}
+use Rattle.family_rules.specs.Made.{readings_at}
 use Rattle.family_rules.proofs.pages.readings.Given as goal
 
 -- the readings so far and those of the values that are left are all of them

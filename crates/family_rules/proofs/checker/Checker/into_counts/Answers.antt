@@ -1,7 +1,8 @@
 use Rattle.std.proofs.Common.{◌∙◌, ap, List, ℕ, length, sym}
 use Rattle.family_rules.specs.declared.family.FamilySoFar.{FamilySoFar}
 use Rattle.family_rules.specs.Checking.{Checking}
-use Rattle.family_rules.specs.Steps.{with_left, page_at}
+use Rattle.family_rules.specs.Steps.{with_left}
+use Rattle.family_rules.specs.Made.{page_at}
 use Rattle.family_rules.proofs.Loops.{families_count}
 use Rattle.family_rules.proofs.checker.Checker.into_counts.Goals as goal
 

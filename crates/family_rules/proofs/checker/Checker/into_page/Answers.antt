@@ -1,6 +1,7 @@
 use Rattle.std.proofs.Common.{◌∙◌, ap}
 use Rattle.family_rules.specs.Checking.{Checking}
-use Rattle.family_rules.specs.Steps.{with_left, families_at, page_at}
+use Rattle.family_rules.specs.Steps.{with_left}
+use Rattle.family_rules.specs.Made.{families_at, page_at}
 use Rattle.family_rules.proofs.checker.Checker.into_page.Goals as goal
 
 pub returns : goal.returns

@@ -1,10 +1,7 @@
 use Rattle.std.proofs.Common.{subst}
 use Rattle.text_grammar.specs.PageFeeding.{Fed, TakesLine}
-use Rattle.text_grammar.proofs.PageSteps.{takes-item, takes-refusal, read_item}
+use Rattle.text_grammar.proofs.PageSteps.{takes-item, takes-refusal}
 use Rattle.text_grammar.proofs.page.TextPage.read_line.Goals as goal
-
-pub item-requires : goal.item-requires
-item-requires c = read_item c.self.inside.treatment c.line.result.now c.in-Ok-Item.item (rw c.in-Ok-Item.field-0-is at c.in-Ok-Item.ensures)
 
 pub returns-in-Ok-Item : goal.returns-in-Ok-Item
 returns-in-Ok-Item c = subst (λ (x : Fed). TakesLine x (record { treatment = c.self.inside.treatment; lines = c.self.inside.lines; checker = c.item.new.self; stopped = c.self.inside.stopped }) c.item.result) c.self.view_is

@@ -1,0 +1,13 @@
+use Rattle.std.proofs.Common.{◌≡◌, ◌∙◌, ap, sym, subst, false, Some}
+use Rattle.page_model.specs.Rules.{has_wrong_suffix}
+use Rattle.family_rules.specs.declared.family.Current.{Current}
+use Rattle.family_rules.specs.Checking.{Checking}
+use Rattle.family_rules.specs.Samples.{told_part}
+use Rattle.family_rules.proofs.Plain.{same_name}
+use Rattle.family_rules.proofs.checker.Checker.told.Goals as goal
+
+pub returns-in-Some : goal.returns-in-Some
+returns-in-Some c = λ family f current st text named.
+    let name = same_name c.in-Some.current family f (sym c.in-Some.is ∙ ap (λ (v : Checking). v.current) c.self.view_is ∙ current) in
+    subst (λ F. c.told.result ≡ told_part st c.args.kind F c.args.sample.now) name
+    (c.told.ensures st text (subst (λ F. has_wrong_suffix st c.args.kind F c.args.sample.now ≡ false) (sym name) named))
