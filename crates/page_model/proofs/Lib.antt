@@ -18,4 +18,5 @@ pub mod Least
 pub mod RightPages
 pub mod Texts
 pub mod KindLaws
+pub mod SampleNames
 pub mod Laws

@@ -1,5 +1,7 @@
 -- The place of a group among the groups (the bridge's own).
-use Rattle.std.specs.Prelude.{◌≡◌, ℕ, zero, suc, ◌<◌, List, [], ◌∷◌, length, map, Some, slice_get}
+use Rattle.std.specs.Prelude.{◌≡◌, ℕ, zero, suc, ◌<◌, List, [], ◌∷◌, ◌++◌, length, map, Some, slice_get, if◌then◌else◌}
+use Rattle.std.specs.List.{list_any}
+use Rattle.label_sets.specs.Labels.{label_sets_eq}
 use Rattle.label_sets.specs.declared.label_set.LabelSet.{LabelSet}
 use Rattle.sample_groups.specs.Groups.{Gathered, known_group, or_empty, put_group}
 
@@ -14,3 +16,7 @@ pub record HasPlace (old new : List (LabelSet × Gathered)) (labels : LabelSet) 
   pub within : place < length new
   pub group : slice_get (map (λ (e : LabelSet × Gathered). e.1) new) place ≡ Some (or_empty (known_group old labels))
   pub put : (g : Gathered) → with_group_at new place g ≡ put_group old labels g
+
+-- the sets with this one, behind the others where it is new
+abbrev pub with_set : List LabelSet → LabelSet → List LabelSet
+with_set sets labels = if list_any (label_sets_eq labels) sets then sets else sets ++ labels ∷ []

@@ -1,7 +1,7 @@
 use crate::{Groups, is_grouped, part_of};
 use exact_decimal::{Number, read};
 use label_sets::{Kind, Label, LabelSet, Memory, Name, Text};
-use page_model::{Rule, Sample, Value};
+use page_model::{Format, Rule, Sample, Value};
 use std::alloc::{AllocError, Global};
 
 /// A name, the value of the label `code`, that of `le` or `quantile`, and a value. A label without a value
@@ -38,6 +38,10 @@ fn sample(alloc: Global, kind: Kind, row: Row<'_>) -> Result<Sample, Memory> {
         stamp: None,
         exemplar: None,
     })
+}
+
+fn is_plain(value: &Value, token: &str) -> bool {
+    matches!(value, Value::Plain(plain) if *plain == number(token))
 }
 
 /// Gathers the rows of the family `h`, and answers the rule that the first wrong one breaks.
@@ -82,7 +86,7 @@ fn makes_the_readings_of_a_histogram(rt: HostRuntime) -> Result<(), Memory> {
 
     let family = Name::from_str(alloc, "h")?;
     let unit = Text::from_str(alloc, "")?;
-    let readings = groups.into_readings(alloc, Kind::Histogram, &family, &unit)?;
+    let readings = groups.into_readings(alloc, Format::Text, Kind::Histogram, &family, &unit)?;
     let [plain, coded] = readings.as_slice() else {
         panic!(rt; "not two readings");
     };
@@ -113,7 +117,7 @@ fn makes_the_reading_of_a_summary(rt: HostRuntime) -> Result<(), Memory> {
     assert!(rt; gather(alloc, Kind::Summary, &rows, &mut groups)?.is_none());
     let family = Name::from_str(alloc, "h")?;
     let unit = Text::from_str(alloc, "")?;
-    let readings = groups.into_readings(alloc, Kind::Summary, &family, &unit)?;
+    let readings = groups.into_readings(alloc, Format::Text, Kind::Summary, &family, &unit)?;
     let [reading] = readings.as_slice() else {
         panic!(rt; "not one reading");
     };
@@ -126,6 +130,85 @@ fn makes_the_reading_of_a_summary(rt: HostRuntime) -> Result<(), Memory> {
     assert!(rt; Number::Finite(high.at) == number("0.99") && high.value == number("3"));
     assert!(rt; Number::Finite(middle.at) == number("0.5") && middle.value == number("2"));
     assert!(rt; *count == Some(4) && sum.is_none());
+    Ok(())
+}
+
+#[test]
+fn makes_the_readings_of_a_counter(rt: HostRuntime) -> Result<(), Memory> {
+    let alloc = rt.alloc();
+    assert!(rt; !is_grouped(Format::Text, Kind::Counter));
+    let mut groups = Groups::new(alloc);
+    let rows = [
+        ("h_total", "a", "", "5"),
+        ("h_created", "a", "", "1.5"),
+        ("h_total", "a", "1", "+Inf"),
+        ("h_created", "b", "", "2"),
+        ("h_total", "a", "2", "0"),
+    ];
+    assert!(rt; gather(alloc, Kind::Counter, &rows, &mut groups)?.is_none());
+    let family = Name::from_str(alloc, "h")?;
+    let unit = Text::from_str(alloc, "")?;
+    let readings = groups.into_readings(alloc, Format::OpenMetrics, Kind::Counter, &family, &unit)?;
+    let [first, second, third] = readings.as_slice() else {
+        panic!(rt; "not three readings");
+    };
+    assert!(rt; first.key.name.as_str() == "h_total" && first.key.labels.len() == 1);
+    assert!(rt; is_plain(&first.value, "5") && first.created == Some(number("1.5")));
+    assert!(rt; is_plain(&second.value, "+Inf") && second.created.is_none());
+    assert!(rt; is_plain(&third.value, "0") && third.key.labels.len() == 2);
+    Ok(())
+}
+
+#[test]
+fn takes_created_times(rt: HostRuntime) -> Result<(), Memory> {
+    let alloc = rt.alloc();
+    let family = Name::from_str(alloc, "h")?;
+    let unit = Text::from_str(alloc, "")?;
+    let mut summaries = Groups::new(alloc);
+    let rows = [("h_created", "a", "", "3"), ("h_sum", "b", "", "4")];
+    assert!(rt; gather(alloc, Kind::Summary, &rows, &mut summaries)?.is_none());
+    let readings = summaries.into_readings(
+        alloc,
+        Format::OpenMetrics,
+        Kind::Summary,
+        &family,
+        &unit,
+    )?;
+    let [summary] = readings.as_slice() else {
+        panic!(rt; "not one reading");
+    };
+    assert!(rt; summary.created.is_none() && summary.key.name == family);
+
+    let mut histograms = Groups::new(alloc);
+    let rows = [
+        ("h_created", "", "", "3"),
+        ("h_bucket", "", "+Inf", "4"),
+        ("h_created", "", "", "5"),
+    ];
+    assert!(rt; gather(alloc, Kind::Histogram, &rows, &mut histograms)?.is_none());
+    let readings = histograms.into_readings(
+        alloc,
+        Format::OpenMetrics,
+        Kind::Histogram,
+        &family,
+        &unit,
+    )?;
+    let [histogram] = readings.as_slice() else {
+        panic!(rt; "not one reading");
+    };
+    assert!(rt; histogram.created == Some(number("3")));
+    Ok(())
+}
+
+#[test]
+fn tells_a_whole_gauge_histogram(rt: HostRuntime) -> Result<(), Memory> {
+    let alloc = rt.alloc();
+    for (count, whole) in [("4", true), ("5", false)] {
+        let mut groups = Groups::new(alloc);
+        let rows = [("h_bucket", "", "+Inf", "4"), ("h_gcount", "", "", count)];
+        assert!(rt; gather(alloc, Kind::GaugeHistogram, &rows, &mut groups)?.is_none());
+        assert!(rt; groups.are_whole() == whole);
+    }
     Ok(())
 }
 
@@ -158,17 +241,26 @@ fn names_the_broken_rule(rt: HostRuntime) -> Result<(), Memory> {
         (Kind::Summary, ("h_sum", "", "1", "1"), Rule::Threshold),
         (Kind::Summary, ("h_count", "", "", "NaN"), Rule::Value),
         (Kind::Summary, ("h", "", "1.00", "1"), Rule::Order),
+        (Kind::Summary, ("h_created", "", "1", "5"), Rule::Threshold),
+        (Kind::Histogram, ("h_created", "", "", "NaN"), Rule::Value),
+        (Kind::Counter, ("h_total", "", "", "-1"), Rule::Value),
+        (Kind::Counter, ("h_total", "", "", "NaN"), Rule::Value),
+        (Kind::Counter, ("h_created", "", "", "+Inf"), Rule::Value),
     ];
     for (kind, row, rule) in cases {
-        let first = if kind == Kind::Summary {
-            "h"
-        } else {
-            "h_bucket"
+        let first = match kind {
+            Kind::Summary => "h",
+            Kind::Counter => "h_total",
+            _ => "h_bucket",
         };
         let rows = [(first, "", "1", "3"), row];
         let mut groups = Groups::new(alloc);
         let broken = gather(alloc, kind, &rows, &mut groups)?;
-        assert!(rt; is_grouped(kind) && broken == Some(rule), "{}", row.0);
+        assert!(rt;
+            is_grouped(Format::OpenMetrics, kind) && broken == Some(rule),
+            "{}",
+            row.0
+        );
     }
     Ok(())
 }
