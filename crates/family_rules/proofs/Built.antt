@@ -36,7 +36,7 @@ use Rattle.family_rules.specs.Checking.{groups_so_far, so_far, left_before, key_
 use Rattle.family_rules.specs.Steps.{with_left, end_stop}
 use Rattle.family_rules.specs.Made.{page_at, plain_reading, readings_at, readings_in, family_at, families_at}
 use Rattle.page_model.specs.declared.page.Value.TheVariants as values
-use Rattle.family_rules.proofs.Plain.{single_suffix, suffix_is, no_created, plain_name}
+use Rattle.family_rules.proofs.Plain.{single_suffix, suffix_is, no_created, plain_name, ungrouped_counter}
 use Rattle.family_rules.proofs.Lists.{bytes_same, label_sets_swap, reverse-cons, first_of_each-snoc, first_some-append, list_any-map, list_any-reverse, pairs, lookup-map, insert_entry-last}
 use Rattle.family_rules.proofs.Standing.{left_at_end}
 use Rattle.std.specs.Map.{lookup}
@@ -111,9 +111,9 @@ module _ (st : Setting) where
   AreFresh F [] = Unit {0}
   AreFresh F (y ∷ samples) = (list_any (λ t. label_sets_eq (kept t) (kept y)) samples ≡ false) × (y.name ≡ F) × AreFresh F samples
 
-  plain_names : (k : Kind) (F : List ℕ) (samples : List Sample) → st.format ≡ Text → is_grouped k ≡ false → AreSound st k F samples → AreNamed (F ++ single_suffix k) samples
-  plain_names k F [] text plain sound = tt
-  plain_names k F (y ∷ samples) text plain sound = (plain_name st k F y text plain sound.0.named, plain_names k F samples text plain sound.1)
+  plain_names : (k : Kind) (F : List ℕ) (samples : List Sample) → is_grouped st.format k ≡ false → AreSound st k F samples → AreNamed (F ++ single_suffix k) samples
+  plain_names k F [] plain sound = tt
+  plain_names k F (y ∷ samples) plain sound = (plain_name st k F y plain sound.0.named, plain_names k F samples plain sound.1)
 
   other_labels : (t y : Sample) (name : List ℕ) → t.name ≡ name → y.name ≡ name → is_same_series st y t ≡ false → label_sets_eq (kept t) (kept y) ≡ false
   other_labels t y name n m h =
@@ -167,9 +167,9 @@ module _ (st : Setting) where
       by false = refl
 
   -- that of one plain sample
-  own_made : (k : Kind) (F unit : List ℕ) (s : Sample) → st.format ≡ Text → is_grouped k ≡ false → s.name ≡ F ++ single_suffix k → made k F unit (s ∷ []) (kept s) ≡ Some (plain_reading k unit (key_of st s) s.value)
+  own_made : (k : Kind) (F unit : List ℕ) (s : Sample) → is_grouped st.format k ≡ false → s.name ≡ F ++ single_suffix k → made k F unit (s ∷ []) (kept s) ≡ Some (plain_reading k unit (key_of st s) s.value)
   unfolding value_of stamp_of exemplars_of
-  own_made k F unit s text h name = λ i. option_map (λ value. record {
+  own_made k F unit s h name = λ i. option_map (λ value. record {
     key = record { name = (key_is k h ∙ sym name) i; kind = k; unit = unit; labels = kept s };
     value = value;
     created = (one_value F (codes "_created") s false (suffix_is F (single_suffix k) (codes "_created") s name ∙ no_created k)) i;
@@ -177,8 +177,8 @@ module _ (st : Setting) where
     exemplars = [];
   }) (valued k h name i)
     where
-      key_is : (k : Kind) → is_grouped k ≡ false → key_name st.format k F ≡ F ++ single_suffix k
-      key_is Counter h = ap (λ f. F ++ counter_suffix f) text
+      key_is : (k : Kind) → is_grouped st.format k ≡ false → key_name st.format k F ≡ F ++ single_suffix k
+      key_is Counter h = ap (λ f. F ++ counter_suffix f) (ungrouped_counter st.format h)
       key_is Info h = refl
       key_is Gauge h = sym (append-nil F)
       key_is Unknown h = sym (append-nil F)
@@ -188,22 +188,22 @@ module _ (st : Setting) where
       own_value : (suffix : List ℕ) → has_suffix F suffix s ≡ true → option_map values.Plain (value_with F suffix (s ∷ [])) ≡ Some (values.Plain s.value)
       own_value suffix e = ap (option_map values.Plain) (one_value F suffix s true e)
 
-      valued : (k : Kind) → is_grouped k ≡ false → s.name ≡ F ++ single_suffix k → value_of st.format k F (s ∷ []) ≡ Some (values.Plain s.value)
-      valued Counter h name = ap (λ f. option_map values.Plain (value_with F (counter_suffix f) (s ∷ []))) text ∙ own_value [] (suffix_is F [] [] s name)
+      valued : (k : Kind) → is_grouped st.format k ≡ false → s.name ≡ F ++ single_suffix k → value_of st.format k F (s ∷ []) ≡ Some (values.Plain s.value)
+      valued Counter h name = ap (λ f. option_map values.Plain (value_with F (counter_suffix f) (s ∷ []))) (ungrouped_counter st.format h) ∙ own_value [] (suffix_is F [] [] s name)
       valued Info h name = own_value (codes "_info") (suffix_is F (codes "_info") (codes "_info") s name)
       valued Gauge h name = own_value [] (suffix_is F [] [] s name)
       valued Unknown h name = own_value [] (suffix_is F [] [] s name)
       valued StateSet h name = own_value [] (suffix_is F [] [] s name)
       valued _ h name = absurd (let f : true ≡ false = h in cc)
 
-  module _ (text : st.format ≡ Text) (k : Kind) (plain : is_grouped k ≡ false) (F unit : List ℕ) where
+  module _ (k : Kind) (plain : is_grouped st.format k ≡ false) (F unit : List ℕ) where
     abbrev own_name : List ℕ
     own_name = F ++ single_suffix k
 
     plain_labels : (s : Sample) → reading_labels st k F s ≡ kept s
     plain_labels s = by k plain
       where
-        by : (k : Kind) → is_grouped k ≡ false → reading_labels st k F s ≡ kept s
+        by : (k : Kind) → is_grouped st.format k ≡ false → reading_labels st k F s ≡ kept s
         by Counter h = refl
         by Gauge h = refl
         by Unknown h = refl
@@ -224,7 +224,7 @@ module _ (st : Setting) where
     read s = plain_reading k unit (key_of st s) s.value
 
     one_made : (s : Sample) → s.name ≡ own_name → made k F unit (s ∷ []) (kept s) ≡ Some (read s)
-    one_made s name = own_made k F unit s text plain name
+    one_made s name = own_made k F unit s plain name
 
     -- one sample more, of labels that no other has
     snoc_read : (samples : List Sample) (y : Sample) → list_any (λ t. label_sets_eq (kept t) (kept y)) samples ≡ false → y.name ≡ own_name → by_labels (samples ++ y ∷ []) ≡ by_labels samples ++ read y ∷ []
@@ -259,7 +259,7 @@ module _ (st : Setting) where
     readings_read : (above : List Owned) → AreFit st above → AreSound st k F (samples_of above F) → readings_of st k F unit (samples_of (reverse above) F) ≡ map read (samples_of (reverse above) F)
     readings_read above fit sound =
         readings_by_labels (samples_of (reverse above) F) ∙ ap by_labels (reversed_samples above F)
-        ∙ all_read (samples_of above F) (fresh_samples F own_name above fit (plain_names k F (samples_of above F) text plain sound))
+        ∙ all_read (samples_of above F) (fresh_samples F own_name above fit (plain_names k F (samples_of above F) plain sound))
         ∙ ap (map read) (sym (reversed_samples above F))
 
 -- ---- the lines of a family stand together
@@ -331,36 +331,36 @@ dropped st [] (key ∷ more) = refl
 dropped st (s ∷ samples) more = dropped st samples more
 
 -- the readings of what is known of a family are those of its samples
-made_readings : (st : Setting) (above : List Owned) (F : List ℕ) (more : List SampleKey) → st.format ≡ Text → AreFit st above
-    → readings_in F (so_far st above F) (keys_in st above F ++ more) ≡ readings_of st (kind_of above F) F (unwrap_or (first_some (unit_in F) above) []) (samples_of (reverse above) F)
+made_readings : (st : Setting) (above : List Owned) (F : List ℕ) (more : List SampleKey) → AreFit st above
+    → readings_in st.format F (so_far st above F) (keys_in st above F ++ more) ≡ readings_of st (kind_of above F) F (unwrap_or (first_some (unit_in F) above) []) (samples_of (reverse above) F)
 unfolding so_far kind_of groups_so_far
-made_readings st above F more text fit = by (is_grouped (kind_of above F)) refl
+made_readings st above F more fit = by (is_grouped st.format (kind_of above F)) refl
   where
     unit : List ℕ
     unit = unwrap_or (first_some (unit_in F) above) []
 
-    by : (b : Bool) → is_grouped (kind_of above F) ≡ b
-        → cond b (map (reading_from (kind_of above F) F (unwrap_or (first_some (unit_in F) above) [])) (cond b (groups_from (map (entry_of st (kind_of above F) F) (samples_of (reverse above) F))) []))
+    by : (b : Bool) → is_grouped st.format (kind_of above F) ≡ b
+        → cond b (filter_map (reading_from st.format (kind_of above F) F (unwrap_or (first_some (unit_in F) above) [])) (cond b (groups_from (map (entry_of st (kind_of above F) F) (samples_of (reverse above) F))) []))
         (readings_at (kind_of above F) (unwrap_or (first_some (unit_in F) above) []) (keys_in st above F ++ more) (map (λ (s : Sample). s.value) (samples_of (reverse above) F)))
         ≡ readings_of st (kind_of above F) F (unwrap_or (first_some (unit_in F) above) []) (samples_of (reverse above) F)
     by true e =
         let k : Kind = kind_of above F in
-        ap (λ l. map (reading_from k F unit) (groups_from (map (entry_of st k F) l))) (reversed_samples above F)
-        ∙ sym (readings_made st k F unit (samples_of above F) e text (sound_samples st above F fit))
+        ap (λ l. filter_map (reading_from st.format k F unit) (groups_from (map (entry_of st k F) l))) (reversed_samples above F)
+        ∙ sym (readings_made st k F unit (samples_of above F) e (sound_samples st above F fit))
         ∙ ap (readings_of st k F unit) (sym (reversed_samples above F))
     by false e =
         let k : Kind = kind_of above F in
         taken st k unit (samples_of (reverse above) F) more
-        ∙ sym (readings_read st text k e F unit above fit (sound_samples st above F fit))
+        ∙ sym (readings_read st k e F unit above fit (sound_samples st above F fit))
 
-one_family : (st : Setting) (above : List Owned) (F : List ℕ) (more : List SampleKey) → st.format ≡ Text → AreFit st above
-    → family_at F (so_far st above F) (keys_in st above F ++ more) ≡ family_of st (reverse above) F
+one_family : (st : Setting) (above : List Owned) (F : List ℕ) (more : List SampleKey) → AreFit st above
+    → family_at st.format F (so_far st above F) (keys_in st above F ++ more) ≡ family_of st (reverse above) F
 unfolding family_of so_far kind_of
-one_family st above F more text fit =
+one_family st above F more fit =
     let help : first_some (help_in F) above ≡ first_some (help_in F) (reverse above) = sym (said_once help_of_line help_sort st above F fit) in
     let kinds : first_some (declared_kind F) above ≡ first_some (declared_kind F) (reverse above) = sym (said_once kind_of_line kind_sort st above F fit) in
     let units : first_some (unit_in F) above ≡ first_some (unit_in F) (reverse above) = sym (said_once unit_of_line unit_sort st above F fit) in
-    let rs = made_readings st above F more text fit in
+    let rs = made_readings st above F more fit in
     (λ i. record { name = F; kind = kind_of above F; help = unwrap_or (first_some (help_in F) above) []; unit = unwrap_or (first_some (unit_in F) above) []; readings = rs i })
     ∙ (λ i. record {
       name = F;
@@ -370,14 +370,14 @@ one_family st above F more text fit =
       readings = readings_of st (unwrap_or (kinds i) Unknown) F (unwrap_or (units i) []) (samples_of (reverse above) F);
     })
 
-all_families : (st : Setting) (above : List Owned) (names : List (List ℕ)) → st.format ≡ Text → AreFit st above
-    → families_at (pairs (so_far st above) names) (flat_map (keys_in st above) names) ≡ map (family_of st (reverse above)) names
+all_families : (st : Setting) (above : List Owned) (names : List (List ℕ)) → AreFit st above
+    → families_at st.format (pairs (so_far st above) names) (flat_map (keys_in st above) names) ≡ map (family_of st (reverse above)) names
 unfolding families_at so_far
-all_families st above [] text fit = refl
-all_families st above (F ∷ names) text fit =
-    let first : family_at F (so_far st above F) (keys_in st above F ++ flat_map (keys_in st above) names) ≡ family_of st (reverse above) F = one_family st above F (flat_map (keys_in st above) names) text fit in
-    let rest : families_at (pairs (so_far st above) names) (drop (length (so_far st above F).values) (keys_in st above F ++ flat_map (keys_in st above) names)) ≡ map (family_of st (reverse above)) names =
-    ap (families_at (pairs (so_far st above) names)) (dropped st (samples_of (reverse above) F) (flat_map (keys_in st above) names)) ∙ all_families st above names text fit in
+all_families st above [] fit = refl
+all_families st above (F ∷ names) fit =
+    let first : family_at st.format F (so_far st above F) (keys_in st above F ++ flat_map (keys_in st above) names) ≡ family_of st (reverse above) F = one_family st above F (flat_map (keys_in st above) names) fit in
+    let rest : families_at st.format (pairs (so_far st above) names) (drop (length (so_far st above F).values) (keys_in st above F ++ flat_map (keys_in st above) names)) ≡ map (family_of st (reverse above)) names =
+    ap (families_at st.format (pairs (so_far st above) names)) (dropped st (samples_of (reverse above) F) (flat_map (keys_in st above) names)) ∙ all_families st above names fit in
     λ i. first i ∷ rest i
 
 -- the families that were left, with the current one, are those of the lines
@@ -405,6 +405,6 @@ page_built st c earlier s =
     let fit : AreFit st above = fit_lines st earlier s.faultless in
     let kept_is : with_left c.left c.current ≡ pairs (so_far st above) (families_of (reverse above)) = (λ i. with_left (s.left i) (s.current i)) ∙ all_pairs st above fit in
     let seen_is : c.seen ≡ flat_map (keys_in st above) (families_of (reverse above)) = s.seen ∙ together st above fit in
-    let families : families_at (with_left c.left c.current) c.seen ≡ map (family_of st (reverse above)) (families_of (reverse above)) =
-    (λ i. families_at (kept_is i) (seen_is i)) ∙ all_families st above (families_of (reverse above)) s.text fit in
+    let families : families_at c.setting.format (with_left c.left c.current) c.seen ≡ map (family_of st (reverse above)) (families_of (reverse above)) =
+    (λ i. families_at (s.setting i).format (kept_is i) (seen_is i)) ∙ all_families st above (families_of (reverse above)) fit in
     λ i. record { families = families i; samples = s.samples i }

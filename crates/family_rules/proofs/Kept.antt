@@ -137,7 +137,7 @@ own_samples F item above = samples_of-reverse (record { family = F; item = item 
 -- no samples make no groups
 no_groups : (st : Setting) (k : Kind) (F : List ℕ) → groups_so_far st k F [] ≡ []
 unfolding groups_so_far groups_from
-no_groups st k F = by (is_grouped k)
+no_groups st k F = by (is_grouped st.format k)
   where
     by : (b : Bool) → cond {A = List (LabelSet × Gathered)} b [] [] ≡ []
     by true = refl
@@ -145,11 +145,11 @@ no_groups st k F = by (is_grouped k)
 
 -- the groups of a kind with one sample more
 abbrev pub grown : Setting → Kind → List ℕ → Sample → List (LabelSet × Gathered) → List (LabelSet × Gathered)
-grown st k F s groups = cond (is_grouped k) (with_part groups (sample_group st k F s) (part_of F s)) []
+grown st k F s groups = cond (is_grouped st.format k) (with_part groups (sample_group st k F s) (part_of F s)) []
 
 groups_more : (st : Setting) (k : Kind) (F : List ℕ) (samples : List Sample) (s : Sample) → groups_so_far st k F (samples ++ s ∷ []) ≡ grown st k F s (groups_so_far st k F samples)
 unfolding groups_so_far
-groups_more st k F samples s = by (is_grouped k)
+groups_more st k F samples s = by (is_grouped st.format k)
   where
     by : (b : Bool) → cond b (groups_from (map (entry_of st k F) (samples ++ s ∷ []))) []
         ≡ cond b (with_part (cond b (groups_from (map (entry_of st k F) samples)) []) (sample_group st k F s) (part_of F s)) []

@@ -2,6 +2,7 @@ pub mod Lists
 pub mod Named
 pub mod Faults
 pub mod Once
+pub mod Units
 pub mod Plain
 pub mod RunLaws
 pub mod Kept

@@ -6,7 +6,8 @@ use Rattle.exact_decimal.specs.Numbers.{number_of}
 use Rattle.exact_decimal.specs.Order.{less, is_finite, is_not_a_number}
 use Rattle.label_sets.specs.declared.kind.Kind.{Kind}
 use Rattle.label_sets.specs.declared.kind.Kind.TheVariants.{Counter, Gauge, StateSet, Info, Unknown}
-use Rattle.page_model.specs.declared.format.Format.TheVariants.{Text}
+use Rattle.page_model.specs.declared.format.Format.{Format}
+use Rattle.page_model.specs.declared.format.Format.TheVariants.{Text, OpenMetrics}
 use Rattle.page_model.specs.declared.item.Sample.{Sample}
 use Rattle.page_model.specs.declared.rule.Rule.{Rule}
 use Rattle.page_model.specs.declared.rule.Rule.TheVariants as rules
@@ -38,23 +39,28 @@ suffix_is F rest suffix s name = ap (λ n. bytes_eq (drop (length F) n) suffix) 
 
 not_false : (b : Bool) → not b ≡ false → b ≡ true
 not_false true h = refl
-not_false false h = absurd (let f : true ≡ false = h in cc)
+not_false false h = absurd (let e : true ≡ false = h in cc)
 
-plain_suffix : (k : Kind) (F name : List ℕ) → is_grouped k ≡ false → is_sample_name Text k F name ≡ (bytes_eq name (F ++ single_suffix k) || false)
-plain_suffix Counter F name h = refl
-plain_suffix Gauge F name h = refl
-plain_suffix Unknown F name h = refl
-plain_suffix StateSet F name h = refl
-plain_suffix Info F name h = refl
-plain_suffix _ F name h = absurd (let f : true ≡ false = h in cc)
+plain_suffix : (f : Format) (k : Kind) (F name : List ℕ) → is_grouped f k ≡ false → is_sample_name f k F name ≡ (bytes_eq name (F ++ single_suffix k) || false)
+plain_suffix Text Counter F name h = refl
+plain_suffix OpenMetrics Counter F name h = absurd (let e : true ≡ false = h in cc)
+plain_suffix f Gauge F name h = refl
+plain_suffix f Unknown F name h = refl
+plain_suffix f StateSet F name h = refl
+plain_suffix f Info F name h = refl
+plain_suffix f _ F name h = absurd (let e : true ≡ false = h in cc)
 
 -- a sample of such a kind has the name of its family and that suffix
-pub plain_name : (st : Setting) (k : Kind) (F : List ℕ) (s : Sample) → st.format ≡ Text → is_grouped k ≡ false → has_wrong_suffix st k F s ≡ false → s.name ≡ F ++ single_suffix k
+pub plain_name : (st : Setting) (k : Kind) (F : List ℕ) (s : Sample) → is_grouped st.format k ≡ false → has_wrong_suffix st k F s ≡ false → s.name ≡ F ++ single_suffix k
 unfolding has_wrong_suffix
-plain_name st k F s text plain h =
-    let fits : is_sample_name Text k F s.name ≡ true = ap (λ f. is_sample_name f k F s.name) (sym text) ∙ not_false (is_sample_name st.format k F s.name) h in
-    let same : bytes_eq s.name (F ++ single_suffix k) ≡ true = sym (or_false (bytes_eq s.name (F ++ single_suffix k))) ∙ sym (plain_suffix k F s.name plain) ∙ fits in
+plain_name st k F s plain h =
+    let same : bytes_eq s.name (F ++ single_suffix k) ≡ true = sym (or_false (bytes_eq s.name (F ++ single_suffix k))) ∙ sym (plain_suffix st.format k F s.name plain) ∙ not_false (is_sample_name st.format k F s.name) h in
     (bytes_decides s.name (F ++ single_suffix k)).0 same
+
+-- a format in which a counter has no groups
+pub ungrouped_counter : (f : Format) → is_grouped f Counter ≡ false → f ≡ Text
+ungrouped_counter Text h = refl
+ungrouped_counter OpenMetrics h = absurd (let e : true ≡ false = h in cc)
 
 -- ---- rules
 
@@ -67,66 +73,66 @@ cleared true o n = refl
 cleared false true n = refl
 cleared false false n = refl
 
-forbidden_plain : (k : Kind) (F : List ℕ) (s : Sample) → is_grouped k ≡ false → s.name ≡ F ++ single_suffix k → has_forbidden_value k F s ≡ is_bad_plain_value k F s
+forbidden_plain : (f : Format) (k : Kind) (F : List ℕ) (s : Sample) → is_grouped f k ≡ false → s.name ≡ F ++ single_suffix k → has_forbidden_value k F s ≡ is_bad_plain_value k F s
 unfolding has_forbidden_value is_bad_plain_value
-forbidden_plain Counter F s h name = ap (λ b. b && (is_not_a_number s.value || less s.value (number_of 0))) (suffix_is F [] (codes "_total") s name)
-forbidden_plain Gauge F s h name = refl
-forbidden_plain Unknown F s h name = refl
-forbidden_plain StateSet F s h name = refl
-forbidden_plain Info F s h name = refl
-forbidden_plain _ F s h name = absurd (let f : true ≡ false = h in cc)
+forbidden_plain f Counter F s h name = ap (λ b. b && (is_not_a_number s.value || less s.value (number_of 0))) (suffix_is F [] (codes "_total") s name)
+forbidden_plain f Gauge F s h name = refl
+forbidden_plain f Unknown F s h name = refl
+forbidden_plain f StateSet F s h name = refl
+forbidden_plain f Info F s h name = refl
+forbidden_plain f _ F s h name = absurd (let e : true ≡ false = h in cc)
 
 -- Value, of a kind without groups
-pub plain_value : (st : Setting) (k : Kind) (F : List ℕ) (s : Sample) → is_grouped k ≡ false → s.name ≡ F ++ single_suffix k → has_bad_value st.format k F s ≡ is_bad_plain_value k F s
+pub plain_value : (st : Setting) (k : Kind) (F : List ℕ) (s : Sample) → is_grouped st.format k ≡ false → s.name ≡ F ++ single_suffix k → has_bad_value st.format k F s ≡ is_bad_plain_value k F s
 unfolding has_bad_value
 plain_value st k F s h name =
     ap (λ b. has_forbidden_value k F s || (is_open_metrics st.format && b && not (is_finite s.value))) (suffix_is F (single_suffix k) (codes "_created") s name ∙ no_created k)
-    ∙ cleared (has_forbidden_value k F s) (is_open_metrics st.format) (not (is_finite s.value)) ∙ forbidden_plain k F s h name
+    ∙ cleared (has_forbidden_value k F s) (is_open_metrics st.format) (not (is_finite s.value)) ∙ forbidden_plain st.format k F s h name
 
-pub plain_threshold : (k : Kind) (F : List ℕ) (s : Sample) → is_grouped k ≡ false → has_bad_threshold k F s ≡ false
+pub plain_threshold : (f : Format) (k : Kind) (F : List ℕ) (s : Sample) → is_grouped f k ≡ false → has_bad_threshold k F s ≡ false
 unfolding has_bad_threshold
-plain_threshold Counter F s h = refl
-plain_threshold Gauge F s h = refl
-plain_threshold Unknown F s h = refl
-plain_threshold StateSet F s h = refl
-plain_threshold Info F s h = refl
-plain_threshold _ F s h = absurd (let f : true ≡ false = h in cc)
+plain_threshold f Counter F s h = refl
+plain_threshold f Gauge F s h = refl
+plain_threshold f Unknown F s h = refl
+plain_threshold f StateSet F s h = refl
+plain_threshold f Info F s h = refl
+plain_threshold f _ F s h = absurd (let e : true ≡ false = h in cc)
 
-pub plain_order : (st : Setting) (k : Kind) (F : List ℕ) (samples : List Sample) (s : Sample) → is_grouped k ≡ false → is_out_of_order st k F samples s ≡ false
+pub plain_order : (st : Setting) (k : Kind) (F : List ℕ) (samples : List Sample) (s : Sample) → is_grouped st.format k ≡ false → is_out_of_order st k F samples s ≡ false
 unfolding is_out_of_order
 plain_order st Counter F samples s h = refl
 plain_order st Gauge F samples s h = refl
 plain_order st Unknown F samples s h = refl
 plain_order st StateSet F samples s h = refl
 plain_order st Info F samples s h = refl
-plain_order st _ F samples s h = absurd (let f : true ≡ false = h in cc)
+plain_order st _ F samples s h = absurd (let e : true ≡ false = h in cc)
 
 -- ---- what is told of a sample
 
 -- of one without a group
-plain_told : (st : Setting) (k : Kind) (F : List ℕ) (s : Sample) → st.format ≡ Text → has_wrong_suffix st k F s ≡ false → is_grouped k ≡ false
+plain_told : (st : Setting) (k : Kind) (F : List ℕ) (s : Sample) → has_wrong_suffix st k F s ≡ false → is_grouped st.format k ≡ false
     → told_part st k F s ≡ cond (is_bad_plain_value k F s) (Err rules.Value) (Ok None)
-plain_told st k F s text named plain =
-    let value = plain_value st k F s plain (plain_name st k F s text plain named) in
-    let place = plain_threshold k F s plain in
+plain_told st k F s named plain =
+    let value = plain_value st k F s plain (plain_name st k F s plain named) in
+    let place = plain_threshold st.format k F s plain in
     λ i. cond (value i) (Err rules.Value) (cond (place i) (Err rules.Threshold) (Ok (cond (plain i) (Some (part_of F s)) None)))
 
-module _ (st : Setting) (k : Kind) (F : List ℕ) (s : Sample) (text : st.format ≡ Text) (named : has_wrong_suffix st k F s ≡ false) where
-  pub told_value : is_grouped k ≡ false → is_bad_plain_value k F s ≡ true → Err rules.Value ≡ told_part st k F s
-  told_value plain bad = sym (plain_told st k F s text named plain ∙ ap (λ b. cond b (Err rules.Value) (Ok None)) bad)
+module _ (st : Setting) (k : Kind) (F : List ℕ) (s : Sample) (named : has_wrong_suffix st k F s ≡ false) where
+  pub told_value : is_grouped st.format k ≡ false → is_bad_plain_value k F s ≡ true → Err rules.Value ≡ told_part st k F s
+  told_value plain bad = sym (plain_told st k F s named plain ∙ ap (λ b. cond b (Err rules.Value) (Ok None)) bad)
 
-  pub told_none : is_grouped k ≡ false → is_bad_plain_value k F s ≡ false → Ok None ≡ told_part st k F s
-  told_none plain good = sym (plain_told st k F s text named plain ∙ ap (λ b. cond b (Err rules.Value) (Ok None)) good)
+  pub told_none : is_grouped st.format k ≡ false → is_bad_plain_value k F s ≡ false → Ok None ≡ told_part st k F s
+  told_none plain good = sym (plain_told st k F s named plain ∙ ap (λ b. cond b (Err rules.Value) (Ok None)) good)
 
   -- of one with a group
   abbrev grouped : Result Part Rule
   grouped = cond (has_bad_value st.format k F s) (Err rules.Value) (cond (has_bad_threshold k F s) (Err rules.Threshold) (Ok (part_of F s)))
 
-  pub told_some : (part : Part) → is_grouped k ≡ true → Ok part ≡ grouped → Ok (Some part) ≡ told_part st k F s
+  pub told_some : (part : Part) → is_grouped st.format k ≡ true → Ok part ≡ grouped → Ok (Some part) ≡ told_part st k F s
   told_some part h told = by (has_bad_value st.format k F s) (has_bad_threshold k F s) told
     where
       by : (v t : Bool) → Ok part ≡ cond v (Err rules.Value) (cond t (Err rules.Threshold) (Ok (part_of F s)))
-          → Ok (Some part) ≡ cond v (Err rules.Value) (cond t (Err rules.Threshold) (Ok (cond (is_grouped k) (Some (part_of F s)) None)))
+          → Ok (Some part) ≡ cond v (Err rules.Value) (cond t (Err rules.Threshold) (Ok (cond (is_grouped st.format k) (Some (part_of F s)) None)))
       by true t e = absurd cc
       by false true e = absurd cc
       by false false e = let same : part ≡ part_of F s = cc in λ i. Ok (cond (sym h i) (Some (same i)) None)
@@ -135,7 +141,7 @@ module _ (st : Setting) (k : Kind) (F : List ℕ) (s : Sample) (text : st.format
   told_refused rule told = by (has_bad_value st.format k F s) (has_bad_threshold k F s) told
     where
       by : (v t : Bool) → Err rule ≡ cond v (Err rules.Value) (cond t (Err rules.Threshold) (Ok (part_of F s)))
-          → Err rule ≡ cond v (Err rules.Value) (cond t (Err rules.Threshold) (Ok (cond (is_grouped k) (Some (part_of F s)) None)))
+          → Err rule ≡ cond v (Err rules.Value) (cond t (Err rules.Threshold) (Ok (cond (is_grouped st.format k) (Some (part_of F s)) None)))
       by true t e = let same : rule ≡ rules.Value = cc in ap Err same
       by false true e = let same : rule ≡ rules.Threshold = cc in ap Err same
       by false false e = absurd cc

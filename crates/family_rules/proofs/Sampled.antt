@@ -112,16 +112,16 @@ module _ (st : Setting) (c : Checking) (earlier : List Item) (F : List ℕ) (r :
   back_here = (λ i. is_open_metrics (r.setting i).format && some_passes (λ x. goes_back (r.runs i) (key_in x (kind i) (kept_labels (r.setting i).treatment s.labels))) (r.current i)) ∙ interleaved_kept st above F s
 
   -- Order, by the groups that are kept
-  order_here : is_grouped k ≡ true → has_wrong_suffix st (kind_of above F) F s ≡ false → has_bad_value st.format (kind_of above F) F s ≡ false → has_bad_threshold (kind_of above F) F s ≡ false
+  order_here : is_grouped st.format k ≡ true → has_wrong_suffix st (kind_of above F) F s ≡ false → has_bad_value st.format (kind_of above F) F s ≡ false → has_bad_threshold (kind_of above F) F s ≡ false
       → order_stop k labels (part_of F s) c.current ≡ cond (is_out_of_order st (kind_of above F) F (samples_of above F) s) (Some rules.Order) None
   unfolding so_far groups_so_far
   order_here grouped named valued placed =
       let K : Kind = kind_of above F in
-      let here : is_grouped K ≡ true = ap is_grouped (sym kind) ∙ grouped in
+      let here : is_grouped st.format K ≡ true = ap (is_grouped st.format) (sym kind) ∙ grouped in
       let groups : (so_far st above F).groups ≡ groups_from (map (entry_of st K F) (reverse (samples_of above F))) =
       ap (λ b. cond b (groups_from (map (entry_of st K F) (samples_of (reverse above) F))) []) here ∙ ap (λ l. groups_from (map (entry_of st K F) l)) (reversed_samples above F) in
       let label_is : shared_labels k labels ≡ sample_group st K F s = (λ i. shared_labels (kind i) (kept_labels (r.setting i).treatment s.labels)) ∙ sym (shared_group st K F s here) in
-      let order = order_kept st K F (samples_of above F) s here r.text (sound_samples st above F (fit_lines st earlier r.faultless)) named valued placed in
+      let order = order_kept st K F (samples_of above F) s here (sound_samples st above F (fit_lines st earlier r.faultless)) named valued placed in
       ap (order_stop k labels (part_of F s)) r.current
       ∙ (λ i. cond (not (breaks_order (or_empty (known_group (groups i) (label_is i))) (part_of F s))) None (Some rules.Order))
       ∙ flip (breaks_order (or_empty (known_group (groups_from (map (entry_of st K F) (reverse (samples_of above F)))) (sample_group st K F s))) (part_of F s))
@@ -133,15 +133,15 @@ module _ (st : Setting) (c : Checking) (earlier : List Item) (F : List ℕ) (r :
 
   -- Value, Threshold or Order, by what was told
   measure_here : has_wrong_suffix st (kind_of above F) F s ≡ false → part_stop k labels (told_part st (kind_of above F) F s) c.current ≡ measure_fault st (kind_of above F) F (samples_of above F) s
-  measure_here named = by (has_bad_value st.format (kind_of above F) F s) (has_bad_threshold (kind_of above F) F s) (is_grouped (kind_of above F)) refl refl refl
+  measure_here named = by (has_bad_value st.format (kind_of above F) F s) (has_bad_threshold (kind_of above F) F s) (is_grouped st.format (kind_of above F)) refl refl refl
     where
-      by : (v t g : Bool) → has_bad_value st.format (kind_of above F) F s ≡ v → has_bad_threshold (kind_of above F) F s ≡ t → is_grouped (kind_of above F) ≡ g
+      by : (v t g : Bool) → has_bad_value st.format (kind_of above F) F s ≡ v → has_bad_threshold (kind_of above F) F s ≡ t → is_grouped st.format (kind_of above F) ≡ g
           → part_stop k labels (cond v (Err rules.Value) (cond t (Err rules.Threshold) (Ok (cond g (Some (part_of F s)) None)))) c.current
           ≡ cond v (Some rules.Value) (cond t (Some rules.Threshold) (cond (is_out_of_order st (kind_of above F) F (samples_of above F) s) (Some rules.Order) None))
       by true t g e f h = refl
       by false true g e f h = refl
       by false false false e f h = sym (ap (λ b. cond b (Some rules.Order) None) (plain_order st (kind_of above F) F (samples_of above F) s h))
-      by false false true e f h = order_here (ap is_grouped kind ∙ h) named e f
+      by false false true e f h = order_here (ap (is_grouped st.format) kind ∙ h) named e f
 
 -- ---- a sample of the current family
 
@@ -188,7 +188,7 @@ module _ (s : Sample) (c : Checking) (d : Checking) (own : is_current_sample c.s
         let F : List ℕ = owner st earlier stands in
         let kind = own_kind st earlier stands in
         let named : has_wrong_suffix st k F s ≡ false = ap (λ k. has_wrong_suffix st k F s) kind ∙ own_named st earlier stands in
-        tells F (so_far st (owned_lines st.format earlier) F) (own_ready st earlier stands).current st stands.text named ∙ ap (λ k. told_part st k F s) kind
+        tells F (so_far st (owned_lines st.format earlier) F) (own_ready st earlier stands).current st (ap (λ (x : Setting). x.format) (sym stands.setting)) named ∙ ap (λ k. told_part st k F s) kind
 
     stop_here : (st : Setting) (earlier : List Item) (stands : Stands st c earlier) → is_after_eof st earlier ≡ false → add_stop c k s told ≡ item_fault st earlier (items.Sample s)
     stop_here st earlier stands before =
@@ -219,12 +219,12 @@ module _ (s : Sample) (c : Checking) (d : Checking) (own : is_current_sample c.s
             let K : Kind = kind_here st earlier stands in
             let kind = own_kind st earlier stands in
             let sound = (fit_lines st (items.Sample s ∷ earlier) (free, stands.faultless)).0.sound in
-            let told_is : told ≡ Ok (cond (is_grouped k) (Some (part_of F s)) None) = told_here st earlier stands
-            ∙ (λ i. cond (sound.valued i) (Err rules.Value) (cond (sound.placed i) (Err rules.Threshold) (Ok (cond (is_grouped (sym kind i)) (Some (part_of F s)) None)))) in
-            let after : d ≡ with_sample (with_told (entered_by c k (kept_labels st.treatment s.labels)) k (kept_labels st.treatment s.labels) (Ok (cond (is_grouped k) (Some (part_of F s)) None))) (key_of st s) s.value =
+            let told_is : told ≡ Ok (cond (is_grouped st.format k) (Some (part_of F s)) None) = told_here st earlier stands
+            ∙ (λ i. cond (sound.valued i) (Err rules.Value) (cond (sound.placed i) (Err rules.Threshold) (Ok (cond (is_grouped st.format (sym kind i)) (Some (part_of F s)) None)))) in
+            let after : d ≡ with_sample (with_told (entered_by c k (kept_labels st.treatment s.labels)) k (kept_labels st.treatment s.labels) (Ok (cond (is_grouped st.format k) (Some (part_of F s)) None))) (key_of st s) s.value =
             step none ∙ (λ i. with_sample (with_told (entered_by c k (kept_labels (stands.setting i).treatment s.labels)) k (kept_labels (stands.setting i).treatment s.labels) (told_is i)) (key_of (stands.setting i) s) s.value) in
             subst (λ e. Stands st e (items.Sample s ∷ earlier)) (sym after)
-            (stands_sample st c earlier F (own_ready st earlier stands) s refl free k kind (is_grouped k) refl)
+            (stands_sample st c earlier F (own_ready st earlier stands) s refl free k kind (is_grouped st.format k) refl)
 
 -- ---- a sample of the family of its own name
 
@@ -331,7 +331,7 @@ module _ (s : Sample) (c : Checking) (d : Checking) (other : is_current_sample c
           let samples : List Sample = samples_of (owned_lines st.format earlier) s.name in
           let value : has_bad_value st.format Unknown s.name s ≡ false = plain_value st Unknown s.name s refl (sym (append-nil s.name)) in
           sym (ap (λ k. measure_fault st k s.name samples s) (sym (unknown st earlier stands))
-          ∙ (λ i. cond (value i) (Some rules.Value) (cond (plain_threshold Unknown s.name s refl i) (Some rules.Threshold) (cond (plain_order st Unknown s.name samples s refl i) (Some rules.Order) None))))
+          ∙ (λ i. cond (value i) (Some rules.Value) (cond (plain_threshold st.format Unknown s.name s refl i) (Some rules.Threshold) (cond (plain_order st Unknown s.name samples s refl i) (Some rules.Order) None))))
 
       told_back : (o : Option Rule) (labels : LabelSet) → part_stop Unknown labels (told_left o) (begun c s.name).current ≡ o
       told_back None labels = refl

@@ -44,7 +44,7 @@ use Rattle.family_rules.proofs.RunLaws.{no_samples_no_runs, runs_sample}
 use Rattle.packed_keys.specs.Packing.{sample_key_eq}
 use Rattle.family_rules.proofs.Lists.{or_false, bytes_same, bytes_swap, pairs, lookup-map, map-pairs, insert_entry-last}
 use Rattle.family_rules.proofs.Faults.{AreFit, fit_lines, sound_samples, none_above, no_forbidden, left_fault, place_fault, unit_fault}
-use Rattle.family_rules.proofs.Once.{unit_sort, said_first}
+use Rattle.family_rules.proofs.Units.{bad_unit_above}
 use Rattle.family_rules.proofs.Kept.{known_lines, fresh, reversed_samples, grown, is_one, so_far-other, so_far-descriptor, so_far-sample, so_far-none, no_samples, late_known}
 
 -- ---- what is known
@@ -102,91 +102,39 @@ module _ (st : Setting) where
   -- ---- a family that is left
 
   -- a histogram that isn't complete, by its groups
-  incomplete_groups : (k : Kind) (F : List ℕ) (samples : List Sample) → st.format ≡ Text → AreSound st k F samples
+  incomplete_groups : (k : Kind) (F : List ℕ) (samples : List Sample) → AreSound st k F samples
       → (is_histogram k && not (list_all (is_complete_at st k F samples) samples)) ≡ (is_histogram k && not (list_all (λ (g : LabelSet × Gathered). is_whole_group g.1) (groups_so_far st k F (reverse samples))))
   unfolding groups_so_far
-  incomplete_groups k F samples text sound = by (is_histogram k) refl
+  incomplete_groups k F samples sound = by (is_histogram k) refl
     where
       by : (b : Bool) → is_histogram k ≡ b
           → (b && not (list_all (is_complete_at st k F samples) samples)) ≡ (b && not (list_all (λ (g : LabelSet × Gathered). is_whole_group g.1) (groups_so_far st k F (reverse samples))))
       by false e = refl
-      by true e = ap not (whole_kept st k F samples e text sound
+      by true e = ap not (whole_kept st k F samples e sound
           ∙ ap (λ b. list_all (λ (g : LabelSet × Gathered). is_whole_group g.1) (cond b (groups_from (map (entry_of st k F) (reverse samples))) [])) (sym (grouped e)))
         where
-          grouped : is_histogram k ≡ true → is_grouped k ≡ true
+          grouped : is_histogram k ≡ true → is_grouped st.format k ≡ true
           grouped e = rw e refl
 
-  incomplete_above : (above : List Owned) (F : List ℕ) → st.format ≡ Text → AreFit st above → is_incomplete st above F ≡ has_incomplete (so_far st above F)
+  incomplete_above : (above : List Owned) (F : List ℕ) → AreFit st above → is_incomplete st above F ≡ has_incomplete (so_far st above F)
   unfolding is_incomplete so_far kind_of
-  incomplete_above above F text fit =
-      incomplete_groups (kind_of above F) F (samples_of above F) text (sound_samples st above F fit)
+  incomplete_above above F fit =
+      incomplete_groups (kind_of above F) F (samples_of above F) (sound_samples st above F fit)
       ∙ ap (λ l. is_histogram (kind_of above F) && not (list_all (λ (g : LabelSet × Gathered). is_whole_group g.1) (groups_so_far st (kind_of above F) F l))) (sym (reversed_samples above F))
 
   -- Incomplete, at a line of another family or of none
-  left_other : (above : List Owned) (owner : Option (List ℕ)) → st.format ≡ Text → AreFit st above → some_passes (λ F. is_current_family (current_family st above) F) owner ≡ false
+  left_other : (above : List Owned) (owner : Option (List ℕ)) → AreFit st above → some_passes (λ F. is_current_family (current_family st above) F) owner ≡ false
       → left_stop (current_family st above) ≡ left_fault st above owner
   unfolding leaves_incomplete current_family
-  left_other [] owner text fit h = refl
-  left_other (n ∷ above) owner text fit h =
-      rw h (ap (λ b. cond b (Some rules.Incomplete) None) (sym (incomplete_above (n ∷ above) n.family text fit)))
+  left_other [] owner fit h = refl
+  left_other (n ∷ above) owner fit h =
+      rw h (ap (λ b. cond b (Some rules.Incomplete) None) (sym (incomplete_above (n ∷ above) n.family fit)))
 
   -- no line leaves its own family
   left_own : (above : List Owned) (F : List ℕ) → is_current_family (current_family st above) F ≡ true → leaves_incomplete st above (Some F) ≡ false
   unfolding leaves_incomplete current_family
   left_own [] F h = refl
   left_own (n ∷ above) F h = rw h refl
-
--- ---- units
-
--- whether lines give a family a unit that isn't empty, by the unit that is kept
-given_unit : (st : Setting) (above : List Owned) (F : List ℕ) → AreFit st above → list_any (gives_unit F) above ≡ some_passes is_unit (first_some (unit_in F) above)
-given_unit st [] F fit = refl
-given_unit st (o ∷ above) F fit = by (bytes_eq o.family F) (unit_of_line o.item) refl refl (given_unit st above F fit.1)
-  where
-    by : (b : Bool) (u : Option (List ℕ)) → bytes_eq o.family F ≡ b → unit_of_line o.item ≡ u → list_any (gives_unit F) above ≡ some_passes is_unit (first_some (unit_in F) above)
-        → ((b && some_passes is_unit u) || list_any (gives_unit F) above) ≡ some_passes is_unit (option_or (cond b u None) (first_some (unit_in F) above))
-    by false u e says ih = ih
-    by true None e says ih = ih
-    by true (Some unit) e says ih =
-        let first : first_some (unit_in o.family) above ≡ None = said_first unit_of_line unit_sort above o (ap is_some says) fit.0.descriptor in
-        let none : first_some (unit_in F) above ≡ None = subst (λ G. first_some (unit_in G) above ≡ None) ((bytes_decides o.family F).0 e) first in
-        ap (λ b. is_unit unit || b) (ih ∙ ap (some_passes is_unit) none) ∙ or_false (is_unit unit)
-
--- Unit, by what is known of the family
-bad_unit_above : (st : Setting) (above : List Owned) (F : List ℕ) (d : Descriptor) → AreFit st above
-    → is_bad_unit_in (record { name = F; family = so_far st above F }) d ≡ is_bad_unit above (record { family = F; item = line_of F d })
-unfolding is_bad_unit is_bad_unit_in has_forbidden_unit so_far kind_of
-bad_unit_above st above F d fit = by d (no_forbidden st above F fit) (given_unit st above F fit)
-  where
-    known : Bool
-    known = list_any (gives_unit F) above
-
-    kept : (g : Bool) → g ≡ false → false ≡ (g && not g)
-    kept true h = absurd (let f : true ≡ false = h in cc)
-    kept false h = refl
-
-    forbidden : (k g h : Bool) → h ≡ false → g ≡ known → (k && g) ≡ ((k && known) && not h)
-    forbidden true true true e f = absurd (let f : true ≡ false = e in cc)
-    forbidden k g true e f = absurd (let f : true ≡ false = e in cc)
-    forbidden true g false e f = f ∙ both known
-      where
-        both : (b : Bool) → b ≡ (b && true)
-        both true = refl
-        both false = refl
-    forbidden false g false e f = refl
-
-    given : (a k u g : Bool) → (k && g) ≡ false → (a || (k && u)) ≡ (a || ((k && (u || g)) && not (k && g)))
-    given true k u g h = refl
-    given false false u g h = refl
-    given false true true false h = refl
-    given false true false false h = refl
-    given false true u true h = absurd (let f : true ≡ false = h in cc)
-
-    by : (d : Descriptor) → has_forbidden_unit above F ≡ false → list_any (gives_unit F) above ≡ some_passes is_unit (first_some (unit_in F) above)
-        → is_bad_unit_in (record { name = F; family = so_far st above F }) d ≡ is_bad_unit above (record { family = F; item = line_of F d })
-    by (sorts.Help t) none unit = rw (bytes_same F) (kept (has_forbidden_unit above F) none)
-    by (sorts.Type k) none unit = rw (bytes_same F) (forbidden (is_info_or_state_set k) (some_passes is_unit (first_some (unit_in F) above)) (has_forbidden_unit above F) none (sym unit))
-    by (sorts.Unit u) none unit = rw (bytes_same F) (given (is_foreign_unit F u) (is_info_or_state_set (kind_of above F)) (is_unit u) known none)
 
 -- ---- ready for a line
 
@@ -256,10 +204,10 @@ module _ (st : Setting) (c : Checking) (earlier : List Item) (s : Stands st c ea
 
   -- Incomplete, by what is kept
   pub left_kept : (F : List ℕ) → is_current_family c.current F ≡ false → left_stop c.current ≡ left_fault st lines (Some F)
-  left_kept F h = ap left_stop s.current ∙ left_other st lines (Some F) s.text fit (ap (λ k. is_current_family k F) (sym s.current) ∙ h)
+  left_kept F h = ap left_stop s.current ∙ left_other st lines (Some F) fit (ap (λ k. is_current_family k F) (sym s.current) ∙ h)
 
   pub left_at_end : left_stop c.current ≡ left_fault st lines None
-  left_at_end = ap left_stop s.current ∙ left_other st lines None s.text fit refl
+  left_at_end = ap left_stop s.current ∙ left_other st lines None fit refl
 
   pub stays : (F : List ℕ) → is_current_family c.current F ≡ true → leaves_incomplete st lines (Some F) ≡ false
   stays F h = left_own st lines F (ap (λ k. is_current_family k F) (sym s.current) ∙ h)
@@ -283,7 +231,6 @@ module _ (st : Setting) (c : Checking) (earlier : List Item) (s : Stands st c ea
           → d.runs ≡ cond (is_current_family c.current F) c.runs no_runs → d.left ≡ cond (is_current_family c.current F) c.left (with_left c.left c.current) → d.current ≡ cond (is_current_family c.current F) c.current (first_line F) → IsReady st d earlier F
       ready_for d setting seen samples ended stopped runs_is left_is current_is = record {
         setting = setting ∙ s.setting;
-        text = s.text;
         left = left_is ∙ left;
         current = current_is ∙ current;
         runs = runs_is ∙ runs;
@@ -318,7 +265,6 @@ module _ (st : Setting) (c : Checking) (earlier : List Item) (F : List ℕ) (r :
       map-pairs (so_far st above) (so_far st (o ∷ above)) F (left_before F above) (fresh st F item above fit.1 fit.0.together) (λ name e. sym (so_far-other st o above name e)) in
       let placed : Stands st d (item ∷ earlier) = record {
         setting = setting ∙ r.setting;
-        text = r.text;
         left = left ∙ r.left ∙ pairs_same ∙ ap (λ l. pairs (so_far st l) (left_families l)) (sym lines);
         current = current ∙ ap (current_family st) (sym lines);
         runs = runs ∙ ap (nearest_runs st) (sym lines);
@@ -415,12 +361,12 @@ module _ (st : Setting) (c : Checking) (earlier : List Item) (F : List ℕ) (r :
 
   -- a sample more, in its group where its kind has groups
   pub stands_sample : (s : Sample) → sample_owner st.format (owned_lines st.format earlier) s.name ≡ F → item_fault st earlier (items.Sample s) ≡ None
-      → (k : Kind) → k ≡ kind_of (owned_lines st.format earlier) F → (b : Bool) → is_grouped k ≡ b
+      → (k : Kind) → k ≡ kind_of (owned_lines st.format earlier) F → (b : Bool) → is_grouped st.format k ≡ b
       → Stands st (with_sample (with_told (entered_by c k (kept_labels st.treatment s.labels)) k (kept_labels st.treatment s.labels) (Ok (cond b (Some (part_of F s)) None))) (key_of st s) s.value) (items.Sample s ∷ earlier)
   unfolding so_far groups_so_far
   stands_sample s owner none k kind false plain =
       let above : List Owned = owned_lines st.format earlier in
-      let ungrouped : is_grouped (kind_of above F) ≡ false = ap is_grouped (sym kind) ∙ plain in
+      let ungrouped : is_grouped st.format (kind_of above F) ≡ false = ap (is_grouped st.format) (sym kind) ∙ plain in
       let groups : (so_far st above F).groups ≡ grown st (kind_of above F) F s (so_far st above F).groups = rw ungrouped refl in
       let same : c.current ≡ current_with (λ f. record f { groups = (so_far st above F).groups }) c.current = r.current ∙ sym (ap (current_with (λ f. record f { groups = (so_far st above F).groups })) r.current) in
       sampled s (so_far st above F).groups owner none (entered_by c k (kept_labels st.treatment s.labels)) refl refl refl refl refl refl (entered_runs s k kind) same groups
@@ -429,7 +375,7 @@ module _ (st : Setting) (c : Checking) (earlier : List Item) (F : List ℕ) (r :
       let labels : LabelSet = kept_labels st.treatment s.labels in
       let f : FamilySoFar = so_far st above F in
       let groups : List (LabelSet × Gathered) = with_part f.groups (shared_labels k labels) (part_of F s) in
-      let here : is_grouped (kind_of above F) ≡ true = ap is_grouped (sym kind) ∙ grouped in
+      let here : is_grouped st.format (kind_of above F) ≡ true = ap (is_grouped st.format) (sym kind) ∙ grouped in
       let label_is : shared_labels k labels ≡ sample_group st (kind_of above F) F s = ap (λ k. shared_labels k labels) kind ∙ sym (shared_group st (kind_of above F) F s here) in
       let groups_are : groups ≡ grown st (kind_of above F) F s f.groups = (λ i. with_part f.groups (label_is i) (part_of F s))
       ∙ ap (λ b. cond b (with_part f.groups (sample_group st (kind_of above F) F s) (part_of F s)) []) (sym here) in

@@ -144,7 +144,6 @@ module _ (c : Checking) where
       → count_by is_sample earlier ≡ count_by is_sample (item ∷ earlier) → item_fault st earlier item ≡ None → Stands st d (item ∷ earlier)
   same_lines item d ended same st earlier s lines samples none = subst (λ e. Stands st e (item ∷ earlier)) (sym same) (record {
     setting = s.setting;
-    text = s.text;
     left = s.left ∙ ap (λ l. pairs (so_far st l) (left_families l)) (sym lines);
     current = s.current ∙ ap (current_family st) (sym lines);
     runs = s.runs ∙ ap (nearest_runs st) (sym lines);

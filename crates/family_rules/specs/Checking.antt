@@ -7,7 +7,6 @@ use Rattle.label_sets.specs.declared.kind.Kind.{Kind}
 use Rattle.label_sets.specs.declared.kind.Kind.TheVariants.{Unknown}
 use Rattle.label_sets.specs.declared.label_set.LabelSet.{LabelSet}
 use Rattle.label_sets.specs.Lists.{first_some}
-use Rattle.page_model.specs.declared.format.Format.TheVariants.{Text}
 use Rattle.page_model.specs.declared.item.Item.{Item}
 use Rattle.page_model.specs.declared.item.Item.TheVariants as items
 use Rattle.page_model.specs.declared.item.Sample.{Sample}
@@ -55,7 +54,7 @@ has_samples f = not (length f.values == 0)
 
 -- the groups of samples, where their kind has groups
 unfoldable pub groups_so_far : Setting → Kind → List ℕ → List Sample → List (LabelSet × Gathered)
-groups_so_far st kind family samples = if is_grouped kind then groups_from (map (entry_of st kind family) samples) else []
+groups_so_far st kind family samples = if is_grouped st.format kind then groups_from (map (entry_of st kind family) samples) else []
 
 -- what is known of a family from these lines
 unfoldable pub so_far : Setting → List Owned → List ℕ → FamilySoFar
@@ -97,7 +96,6 @@ keys_above st (o ∷ above) = keys_above st above ++ option_to_list (option_map 
 -- the checker has taken these items, the nearest first, and refused none
 pub record Stands (st : Setting) (c : Checking) (earlier : List Item) : Type 0 where
   pub setting : c.setting ≡ st
-  pub text : st.format ≡ Text
   pub left : c.left ≡ map (λ family. (family, so_far st (owned_lines st.format earlier) family)) (left_families (owned_lines st.format earlier))
   pub current : c.current ≡ current_family st (owned_lines st.format earlier)
   pub runs : c.runs ≡ nearest_runs st (owned_lines st.format earlier)

@@ -12,7 +12,6 @@ use Rattle.label_sets.specs.Labels.{has_name}
 use Rattle.label_sets.specs.declared.label_set.LabelSet.{LabelSet}
 use Rattle.label_sets.specs.Lists.{some_passes}
 use Rattle.page_model.specs.declared.format.Format.{Format}
-use Rattle.page_model.specs.declared.format.Format.TheVariants.{Text}
 use Rattle.page_model.specs.declared.item.Sample.{Sample}
 use Rattle.page_model.specs.declared.rule.Rule.{Rule}
 use Rattle.page_model.specs.declared.rule.Rule.TheVariants as rules
@@ -94,12 +93,12 @@ abbrev pub told_part : Setting → Kind → List ℕ → Sample → Result (Opti
 told_part st kind family s =
     if has_bad_value st.format kind family s then Err rules.Value
     else if has_bad_threshold kind family s then Err rules.Threshold
-    else Ok (if is_grouped kind then Some (part_of family s) else None)
+    else Ok (if is_grouped st.format kind then Some (part_of family s) else None)
 
 -- what a sample of this kind, where its name is allowed, is to its group in the current family
 abbrev pub TellsPart : Checking → Kind → Sample → Result (Option Part) Rule → Type 0
 TellsPart c kind s told = (family : List ℕ) (f : FamilySoFar) → c.current ≡ Some (record { name = family; family = f })
-    → (st : Setting) → st.format ≡ Text → has_wrong_suffix st kind family s ≡ false → told ≡ told_part st kind family s
+    → (st : Setting) → st.format ≡ c.setting.format → has_wrong_suffix st kind family s ≡ false → told ≡ told_part st kind family s
 
 -- what was told of a sample, or Order
 abbrev pub part_stop : Kind → LabelSet → Result (Option Part) Rule → Option Current → Option Rule

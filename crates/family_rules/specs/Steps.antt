@@ -8,7 +8,6 @@ use Rattle.label_sets.specs.declared.kind.Kind.{Kind}
 use Rattle.label_sets.specs.declared.kind.Kind.TheVariants.{Unknown}
 use Rattle.label_sets.specs.declared.label_set.LabelSet.{LabelSet}
 use Rattle.label_sets.specs.Lists.{some_passes}
-use Rattle.page_model.specs.declared.format.Format.TheVariants.{Text}
 use Rattle.page_model.specs.declared.item.Item.{Item}
 use Rattle.page_model.specs.declared.item.Item.TheVariants as items
 use Rattle.page_model.specs.declared.rule.Rule.{Rule}
@@ -132,7 +131,6 @@ with_descriptor c d = with_current c (current_with (family_with d) c.current)
 -- the checker stands for these items, and a line of this family can be added
 pub record IsReady (st : Setting) (c : Checking) (earlier : List Item) (family : List ℕ) : Type 0 where
   pub setting : c.setting ≡ st
-  pub text : st.format ≡ Text
   pub left : c.left ≡ map (λ name. (name, so_far st (owned_lines st.format earlier) name)) (left_before family (owned_lines st.format earlier))
   pub current : c.current ≡ Some (record { name = family; family = so_far st (owned_lines st.format earlier) family })
   pub runs : c.runs ≡ runs_of st (owned_lines st.format earlier) family

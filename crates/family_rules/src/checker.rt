@@ -70,7 +70,6 @@ impl Checker {
         treatment: Treatment,
         limit: u32,
     ) -> Result<Checker, Memory>
-        requires { format ≡ Format.Text }
         ensures { IfOk result (λ c. Stands (record { format = format; treatment = treatment; limit = limit }) c []) }
     {
         let keys = SampleKeys::new(alloc, true);
@@ -84,7 +83,6 @@ impl Checker {
         treatment: Treatment,
         limit: u32,
     ) -> Result<Checker, Memory>
-        requires { format ≡ Format.Text }
         ensures { IfOk result (λ c. Stands (record { format = format; treatment = treatment; limit = limit }) c []) }
     {
         let keys = SampleKeys::new(alloc, false);
@@ -99,8 +97,7 @@ impl Checker {
         limit: u32,
         seen: SampleKeys,
     ) -> Checker
-        requires text { format ≡ Format.Text }
-        requires none { seen ≡ [] }
+        requires { seen ≡ [] }
         ensures { Stands (record { format = format; treatment = treatment; limit = limit }) result [] }
     {
         Checker {
@@ -193,6 +190,7 @@ impl Checker {
     {
         let Checker {
             alloc,
+            format,
             mut left,
             current,
             seen,
@@ -200,7 +198,7 @@ impl Checker {
             ..
         } = self;
         put_left(&mut left, current)?;
-        let families = families_in(alloc, left, seen.into_entries())?;
+        let families = families_in(alloc, format, left, seen.into_entries())?;
         Ok(Page { families, samples })
     }
 

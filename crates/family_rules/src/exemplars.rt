@@ -1,9 +1,10 @@
 //! The rule on exemplars (OpenMetrics 1.0, "Exemplars").
 ghost use Rattle.std.specs.Prelude.{◌≡◌, nat_lt, not};
 ghost use Rattle.std.specs.Int.{is_in_range};
+ghost use Rattle.std.specs.Str.{bytes_eq};
+ghost use Rattle.page_model.specs.Suffixes.{suffix_of};
 ghost use Rattle.page_model.specs.Rules.{may_have_exemplar, is_bad_exemplar, characters, exemplar_characters};
 
-use crate::suffix::has_suffix;
 use label_sets::{Kind, Name};
 use page_model::{Exemplar, Sample};
 
@@ -37,6 +38,16 @@ fn is_long(exemplar: &Exemplar) -> bool
         count = count.saturating_add(own);
     }
     count > MOST
+}
+
+/// Whether a name has these bytes behind as many as the family's has.
+fn has_suffix(family: &Name, name: &Name, suffix: &[u8]) -> bool
+    ensures { result ≡ bytes_eq (suffix_of family.now name.now) suffix.now }
+{
+    match name.as_bytes().get(family.len()..) {
+        Some(rest) => rest == suffix,
+        None => suffix.is_empty(),
+    }
 }
 
 /// Whether a sample of this kind of family may have an exemplar: a counter's total and a bucket.

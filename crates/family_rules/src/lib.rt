@@ -12,7 +12,6 @@ mod pages;
 mod rare_text;
 mod runs;
 mod sample_values;
-mod suffix;
 #[cfg(test)]
 mod tests;
 mod unit;

@@ -9,7 +9,7 @@ use crate::numbers::Numbers;
 use exact_decimal::Number;
 use label_sets::{Kind, List, Memory, Name, SeriesKey, Text};
 use packed_keys::SampleKey;
-use page_model::{Family, Reading, Value};
+use page_model::{Family, Format, Reading, Value};
 use sample_groups::is_grouped;
 use std::alloc::Global;
 
@@ -73,19 +73,22 @@ fn readings(
 /// The family of what is known of it; the keys of its samples come next.
 fn family(
     alloc: Global,
+    format: Format,
     name: Name,
     known: FamilySoFar,
     keys: &mut KeyEntries,
 ) -> Result<Family, Memory>
-    ensures family { IfOk result (λ family. family ≡ family_at name known keys.old) }
+    ensures family { IfOk result (λ family. family ≡ family_at format name known keys.old) }
     ensures rest { OnOk result (keys.new ≡ drop (length known.values) keys.old) }
 {
     let kind = known.kind();
     let help = text_or_empty(known.help);
     let unit = text_or_empty(known.unit.into_text());
-    if is_grouped(kind) {
+    if is_grouped(format, kind) {
         keys.pass_over(known.values.len());
-        let readings = known.groups.into_readings(alloc, kind, &name, &unit)?;
+        let readings = known
+            .groups
+            .into_readings(alloc, format, kind, &name, &unit)?;
         return Ok(Family {
             name,
             kind,
@@ -108,10 +111,11 @@ fn family(
 /// behind the other.
 pub fn families_in(
     alloc: Global,
+    format: Format,
     known: LeftFamilies,
     keys: KeyEntries,
 ) -> Result<List<Family>, Memory>
-    ensures { IfOk result (λ families. families ≡ families_at known keys) }
+    ensures { IfOk result (λ families. families ≡ families_at format known keys) }
 {
     let mut families = Vec::with_capacity(alloc, known.len())?;
     let mut entries = known.into_entries();
@@ -121,6 +125,6 @@ pub fn families_in(
         let Some((name, so_far)) = next else {
             return List::from_vec(families);
         };
-        families.push(family(alloc, name, so_far, &mut keys)?)?;
+        families.push(family(alloc, format, name, so_far, &mut keys)?)?;
     }
 }

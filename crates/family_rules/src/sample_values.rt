@@ -5,14 +5,13 @@ ghost use Rattle.std.specs.Str.{bytes_eq};
 ghost use Rattle.exact_decimal.specs.Numbers.{number_of};
 ghost use Rattle.exact_decimal.specs.Order.{same};
 ghost use Rattle.label_sets.specs.Labels.{has_name};
-ghost use Rattle.page_model.specs.declared.format.Format.TheVariants as formats;
 ghost use Rattle.page_model.specs.Written.{Setting};
 ghost use Rattle.page_model.specs.Rules.{has_wrong_suffix};
 ghost use Rattle.family_rules.specs.Samples.{told_part, is_bad_plain_value};
 
 use exact_decimal::{Number, compare, of};
 use label_sets::{Kind, Label, LabelSet, Name};
-use page_model::{Rule, Sample};
+use page_model::{Format, Rule, Sample};
 use sample_groups::{Part, is_grouped, part_of};
 
 /// Whether both are one value.
@@ -75,10 +74,15 @@ fn is_bad_plain_value(kind: Kind, family: &Name, sample: &Sample) -> bool
 
 /// What a sample whose name the kind allows is to its group, where the kind has groups, or the rule that its
 /// value or its label breaks: 15 or 16.
-pub fn told(kind: Kind, family: &Name, sample: &Sample) -> Result<Option<Part>, Rule>
-    ensures { (st : Setting) → st.format ≡ formats.Text → has_wrong_suffix st kind family.now sample.now ≡ false → result ≡ told_part st kind family.now sample.now }
+pub fn told(
+    format: Format,
+    kind: Kind,
+    family: &Name,
+    sample: &Sample,
+) -> Result<Option<Part>, Rule>
+    ensures { (st : Setting) → st.format ≡ format → has_wrong_suffix st kind family.now sample.now ≡ false → result ≡ told_part st kind family.now sample.now }
 {
-    if !is_grouped(kind) {
+    if !is_grouped(format, kind) {
         if is_bad_plain_value(kind, family, sample) {
             return Err(Rule::Value);
         }

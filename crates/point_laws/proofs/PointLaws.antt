@@ -173,7 +173,7 @@ module _ (moment : ℕ) where
   page_points st earlier clean text spelled free none =
       let lines : List Owned = reverse (owned_lines st.format earlier) in
       All-from_recursion (λ (f : Family). points_of_family moment f ≡ length f.readings) (map (family_of st lines) (families_of lines))
-      (families_points st lines (families_of lines) (page_words st earlier spelled free) (page_values st earlier clean text free none))
+      (families_points st lines (families_of lines) (page_words st earlier spelled free) (page_values st earlier clean free none))
 
 pub text_pages_lose_nothing : TextPagesLoseNothing
 text_pages_lose_nothing st bytes page text is = λ moment.

@@ -10,11 +10,10 @@ use super::Checker;
 use crate::exemplars::is_bad_exemplar;
 use crate::runs::group_labels;
 use crate::sample_values::told;
-use crate::suffix::is_sample_name;
 use exact_decimal::Number;
 use label_sets::{Kind, LabelSet, Memory, Name};
 use packed_keys::SampleKey;
-use page_model::{Format, Rule, Sample, Treatment};
+use page_model::{Format, Rule, Sample, Treatment, is_sample_name};
 use sample_groups::Part;
 
 impl Checker {
@@ -81,7 +80,7 @@ impl Checker {
         ensures { TellsPart self.now kind sample.now result }
     {
         match &self.current {
-            Some(current) => told(kind, &current.name, sample),
+            Some(current) => told(self.format, kind, &current.name, sample),
             None => Err(Rule::Suffix),
         }
     }

@@ -11,5 +11,5 @@ unfolding page_at
 returns c =
     let families = c.len.ensures ∙ ap (λ (es : List (List ℕ × FamilySoFar)). length es) c.in_ok-put_left.ensures
     ∙ ap (λ (v : Checking). length (with_left v.left v.current)) c.self.view_is
-    ∙ sym (families_count (with_left c.args.self.left c.args.self.current) c.args.self.seen) in
+    ∙ sym (families_count c.args.self.setting.format (with_left c.args.self.left c.args.self.current) c.args.self.seen) in
     λ i. record { families = families i; samples = (c.self.view_is i).samples }

@@ -8,11 +8,10 @@ pub returns : goal.returns
 unfolding owned_lines left_families current_family nearest_runs keys_above
 returns c = record {
   setting = refl;
-  text = c.requires.text;
   left = c.new.ensures;
   current = refl;
   runs = c.new-2.ensures;
-  seen = c.requires.none;
+  seen = c.requires;
   samples = refl;
   ended = refl;
   working = refl;

@@ -7,7 +7,7 @@ use Rattle.family_rules.proofs.Plain.{same_name}
 use Rattle.family_rules.proofs.checker.Checker.told.Goals as goal
 
 pub returns-in-Some : goal.returns-in-Some
-returns-in-Some c = λ family f current st text named.
+returns-in-Some c = λ family f current st format named.
     let name = same_name c.in-Some.current family f (sym c.in-Some.is ∙ ap (λ (v : Checking). v.current) c.self.view_is ∙ current) in
     subst (λ F. c.told.result ≡ told_part st c.args.kind F c.args.sample.now) name
-    (c.told.ensures st text (subst (λ F. has_wrong_suffix st c.args.kind F c.args.sample.now ≡ false) (sym name) named))
+    (c.told.ensures st (format ∙ ap (λ (v : Checking). v.setting.format) (sym c.self.view_is)) (subst (λ F. has_wrong_suffix st c.args.kind F c.args.sample.now ≡ false) (sym name) named))
