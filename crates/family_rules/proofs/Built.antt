@@ -1,31 +1,27 @@
 -- The page of what a checker keeps is the page of the lines that it took.
-use Rattle.std.proofs.Common.{◌≡◌, ℕ, Bool, true, false, cond, not, ◌&&◌, ◌||◌, List, [], ◌∷◌, ◌++◌, map, filter, filter_map, drop, length, Option, Some, None, refl, sym, ap, subst, ◌∙◌, reverse, is_some}
+use Rattle.std.proofs.Common.{◌≡◌, ℕ, Bool, true, false, cond, not, ◌&&◌, ◌||◌, List, [], ◌∷◌, ◌++◌, map, filter, filter_map, drop, length, Option, Some, None, refl, sym, ap, ◌∙◌, reverse}
 use Rattle.std.specs.Prelude.{codes, option_map, unwrap_or}
 use Rattle.std.specs.List.{list_any, flat_map, cons_option}
-use Rattle.std.specs.Option.{option_or, option_to_list}
+use Rattle.std.specs.Option.{option_to_list}
 use Rattle.std.specs.Str.{bytes_eq}
 use Rattle.std.specs.Cmp.Lexicographic.{bytes_decides}
 use Rattle.std.proofs.lemmas.List.{append-nil, map-append, append_assoc}
 use Rattle.std.proofs.lemmas.List.Elements.{filter-append, filter_map-append}
 use Rattle.std.proofs.lemmas.Grind.{flat_map-append}
 use Rattle.label_sets.specs.declared.kind.Kind.{Kind}
-use Rattle.label_sets.specs.declared.kind.Kind.TheVariants.{Counter, Gauge, Histogram, GaugeHistogram, StateSet, Info, Summary, Unknown}
+use Rattle.label_sets.specs.declared.kind.Kind.TheVariants.{Counter, Gauge, StateSet, Info, Unknown}
 use Rattle.label_sets.specs.declared.label_set.LabelSet.{LabelSet}
 use Rattle.label_sets.specs.Labels.{label_sets_eq}
 use Rattle.label_sets.specs.Lists.{first_of_each, first_some, some_passes}
-use Rattle.page_model.specs.declared.format.Format.{Format}
-use Rattle.page_model.specs.declared.format.Format.TheVariants.{Text}
 use Rattle.page_model.specs.declared.item.Item.{Item}
-use Rattle.page_model.specs.declared.item.Item.TheVariants as items
 use Rattle.page_model.specs.declared.item.Sample.{Sample}
 use Rattle.page_model.specs.declared.page.Reading.{Reading}
-use Rattle.page_model.specs.declared.rule.Rule.{Rule}
 use Rattle.page_model.specs.declared.rule.Rule.TheVariants as rules
 use Rattle.page_model.specs.Faults.{end_fault, end_breaks}
 use Rattle.page_model.specs.Written.{Setting}
-use Rattle.page_model.specs.Items.{is_eof, sample_of_line, kind_of_line, help_of_line, unit_of_line, is_descriptor}
+use Rattle.page_model.specs.Items.{sample_of_line, kind_of_line, help_of_line, unit_of_line}
 use Rattle.page_model.specs.Owners.{Owned, is_of, declared_kind, kind_of, owned_lines, samples_of, kept_labels}
-use Rattle.page_model.specs.Rules.{is_late_descriptor, is_split, is_same_series, is_duplicate, is_open_metrics, is_without_eof, has_suffix}
+use Rattle.page_model.specs.Rules.{is_split, is_same_series, is_duplicate, is_open_metrics, is_without_eof, has_suffix}
 use Rattle.page_model.specs.Readings.{value_with, counter_suffix, value_of, stamp_of, exemplars_of, reading_labels, key_name, reading_of, readings_of, help_in, unit_in, family_of, families_of, page_of}
 use Rattle.packed_keys.specs.declared.sample_key.SampleKey.{SampleKey}
 use Rattle.sample_groups.specs.Groups.{groups_from, reading_from}
@@ -37,7 +33,7 @@ use Rattle.family_rules.specs.Steps.{with_left, end_stop}
 use Rattle.family_rules.specs.Made.{page_at, plain_reading, readings_at, readings_in, family_at, families_at}
 use Rattle.page_model.specs.declared.page.Value.TheVariants as values
 use Rattle.family_rules.proofs.Plain.{single_suffix, suffix_is, no_created, plain_name, ungrouped_counter}
-use Rattle.family_rules.proofs.Lists.{bytes_same, label_sets_swap, reverse-cons, first_of_each-snoc, first_some-append, list_any-map, list_any-reverse, pairs, lookup-map, insert_entry-last}
+use Rattle.family_rules.proofs.Lists.{bytes_same, label_sets_swap, reverse-cons, first_of_each-snoc, list_any-map, list_any-reverse, pairs, lookup-map, insert_entry-last}
 use Rattle.family_rules.proofs.Standing.{left_at_end}
 use Rattle.std.specs.Map.{lookup}
 use Rattle.family_rules.proofs.Faults.{fit_lines, or_parts, sound_samples, AreFit}

@@ -1,15 +1,13 @@
 -- The fault of an item, by the rules that an item of its sort can break, and what the lines above keep.
-use Rattle.std.proofs.Common.{◌≡◌, ℕ, Bool, true, false, cond, not, ◌&&◌, ◌||◌, List, [], ◌∷◌, ◌++◌, drop, length, Option, Some, None, refl, sym, ap, subst, ◌∙◌, IfSome, inl}
+use Rattle.std.proofs.Common.{◌≡◌, ℕ, Bool, true, false, cond, not, ◌&&◌, ◌||◌, List, [], ◌∷◌, Option, Some, None, refl, sym, ap, subst, ◌∙◌, IfSome, inl}
 use Rattle.std.specs.Prelude.{unwrap_or, find, ⊤}
 use Rattle.std.specs.List.{list_any, cons_option}
 use Rattle.std.specs.Option.{option_or}
 use Rattle.std.specs.Str.{bytes_eq}
 use Rattle.std.specs.Cmp.Lexicographic.{bytes_decides}
-use Rattle.std.proofs.lemmas.List.{append-nil}
 use Rattle.label_sets.specs.declared.kind.Kind.{Kind}
-use Rattle.label_sets.specs.declared.kind.Kind.TheVariants.{Counter, Gauge, Histogram, GaugeHistogram, StateSet, Info, Summary, Unknown}
+use Rattle.label_sets.specs.declared.kind.Kind.TheVariants.{Unknown}
 use Rattle.label_sets.specs.Lists.{first_some, some_passes}
-use Rattle.page_model.specs.declared.format.Format.TheVariants.{Text}
 use Rattle.page_model.specs.declared.item.Item.{Item}
 use Rattle.page_model.specs.declared.item.Item.TheVariants as items
 use Rattle.page_model.specs.declared.item.Sample.{Sample}
@@ -17,18 +15,16 @@ use Rattle.page_model.specs.declared.rule.Rule.{Rule}
 use Rattle.page_model.specs.declared.rule.Rule.TheVariants as rules
 use Rattle.page_model.specs.Written.{Setting}
 use Rattle.page_model.specs.Items.{is_sample, sample_of_line, kind_of_line, unit_of_line, are_one_sort, is_descriptor}
-use Rattle.page_model.specs.Suffixes.{is_sample_name}
 use Rattle.page_model.specs.Owners.{Owned, is_of, declared_kind, kind_of, sample_owner, owner_of, with_owner, owned_lines, samples_of}
-use Rattle.page_model.specs.Rules.{is_info_or_state_set, is_after_eof, is_late_descriptor, is_split, is_foreign_unit, has_forbidden_unit, is_bad_unit, is_bad_exemplar, is_interleaved, has_wrong_suffix, is_duplicate, has_forbidden_value, has_bad_value, has_bad_threshold, is_out_of_order, is_past_limit, leaves_incomplete}
+use Rattle.page_model.specs.Rules.{is_after_eof, is_late_descriptor, is_split, is_foreign_unit, has_forbidden_unit, is_bad_unit, is_bad_exemplar, is_interleaved, has_wrong_suffix, is_duplicate, has_bad_value, has_bad_threshold, is_out_of_order, is_past_limit, leaves_incomplete}
 use Rattle.page_model.specs.Pages.{AreFaultless}
 use Rattle.page_model.specs.Faults.{sample_breaks, owned_breaks, item_breaks, item_rules, item_fault}
 use Rattle.page_model.proofs.Laws.{none_found}
-use Rattle.sample_groups.specs.Parts.{is_grouped}
 use Rattle.sample_groups.specs.Sound.{IsSoundSample, AreSound}
 use Rattle.family_rules.specs.declared.family.Descriptor.{Descriptor}
 use Rattle.family_rules.specs.declared.family.Descriptor.TheVariants as sorts
 use Rattle.family_rules.specs.Steps.{line_of}
-use Rattle.family_rules.proofs.Lists.{or_false, cond_none, bytes_same}
+use Rattle.family_rules.proofs.Lists.{cond_none, bytes_same}
 
 -- ---- what the lines above keep
 

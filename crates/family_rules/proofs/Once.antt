@@ -4,7 +4,6 @@ use Rattle.std.specs.List.{list_any}
 use Rattle.std.specs.Option.{option_or}
 use Rattle.std.specs.Cmp.Lexicographic.{bytes_decides}
 use Rattle.label_sets.specs.Lists.{first_some}
-use Rattle.label_sets.specs.declared.kind.Kind.{Kind}
 use Rattle.page_model.specs.declared.item.Item.{Item}
 use Rattle.page_model.specs.declared.item.Item.TheVariants as items
 use Rattle.page_model.specs.Written.{Setting}

@@ -1,11 +1,10 @@
 -- What the functions of a checker prove of a sample, from what each of their steps did.
-use Rattle.std.proofs.Common.{◌≡◌, ℕ, Bool, true, false, cond, not, ◌&&◌, ◌||◌, List, [], ◌∷◌, ◌++◌, map, reverse, length, drop, codes, Option, Some, None, Result, Ok, Err, refl, sym, ap, subst, ◌∙◌, is_some, count_by}
+use Rattle.std.proofs.Common.{◌≡◌, ℕ, Bool, true, false, cond, not, ◌&&◌, ◌||◌, List, [], ◌∷◌, ◌++◌, map, reverse, codes, Option, Some, None, Result, Ok, Err, refl, sym, ap, subst, ◌∙◌, is_some, count_by}
 use Rattle.std.specs.Prelude.{nat_le, nat_lt}
 use Rattle.std.specs.List.{list_any}
 use Rattle.std.specs.Map.{lookup}
 use Rattle.std.specs.Option.{option_or}
 use Rattle.std.specs.Str.{bytes_eq}
-use Rattle.std.specs.Bool.{then_some}
 use Rattle.std.proofs.lemmas.List.{append-nil}
 use Rattle.exact_decimal.specs.declared.number.Number.{Number}
 use Rattle.label_sets.specs.declared.kind.Kind.{Kind}
@@ -32,7 +31,7 @@ use Rattle.packed_keys.specs.Packing.{sample_key_eq}
 use Rattle.packed_keys.specs.declared.sample_key.SampleKey.{SampleKey}
 use Rattle.family_rules.specs.GroupRuns.{goes_back}
 use Rattle.family_rules.specs.Checking.{Checking, groups_so_far, so_far, key_of, Stands}
-use Rattle.family_rules.specs.Steps.{is_current_family, current_kind, with_current, begun, reached, left_stop, Takes, IsReady}
+use Rattle.family_rules.specs.Steps.{is_current_family, current_kind, with_current, begun, left_stop, Takes, IsReady}
 use Rattle.family_rules.specs.Samples.{is_current_sample, TellsPart, told_part, told_left, has_bad_exemplar, is_bad_plain_value, key_in, is_back, entered_by, part_stop, order_stop, with_told, with_sample, with_added, sample_stop, add_stop, name_stop}
 use Rattle.family_rules.proofs.Lists.{bytes_same}
 use Rattle.family_rules.proofs.Faults.{fit_lines, sound_samples, left_fault, measure_fault, rest_fault, sample_fault}

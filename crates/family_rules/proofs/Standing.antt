@@ -7,27 +7,21 @@ use Rattle.std.specs.Str.{bytes_eq}
 use Rattle.std.specs.Map.{lookup}
 use Rattle.std.specs.Cmp.Lexicographic.{bytes_decides}
 use Rattle.std.proofs.lemmas.List.{append-nil, map-append}
-use Rattle.std.proofs.lemmas.List.Folds.{list_any-append}
 use Rattle.std.proofs.lemmas.List.Sums.{sum_by-cons}
 use Rattle.indexmap.specs.IndexMap.{insert_entry}
 use Rattle.label_sets.specs.declared.kind.Kind.{Kind}
 use Rattle.label_sets.specs.declared.label_set.LabelSet.{LabelSet}
-use Rattle.label_sets.specs.Labels.{label_sets_eq}
-use Rattle.label_sets.specs.Lists.{first_some, some_passes}
-use Rattle.page_model.specs.declared.format.Format.TheVariants.{Text}
+use Rattle.label_sets.specs.Lists.{some_passes}
 use Rattle.page_model.specs.declared.item.Item.{Item}
 use Rattle.page_model.specs.declared.item.Item.TheVariants as items
 use Rattle.page_model.specs.declared.item.Sample.{Sample}
 use Rattle.page_model.specs.Written.{Setting}
 use Rattle.page_model.specs.declared.rule.Rule.TheVariants as rules
-use Rattle.page_model.specs.Items.{is_eof, is_sample, sample_of_line, unit_of_line, is_descriptor}
-use Rattle.page_model.specs.Readings.{unit_in}
-use Rattle.std.specs.Option.{option_or}
+use Rattle.page_model.specs.Items.{is_eof, is_sample, sample_of_line}
 use Rattle.page_model.specs.Suffixes.{is_sample_name}
 use Rattle.page_model.specs.Owners.{Owned, is_of, kind_of, sample_owner, owner_of, with_owner, owned_lines, samples_of, kept_labels}
-use Rattle.page_model.specs.Rules.{is_histogram, is_info_or_state_set, is_unit, is_foreign_unit, gives_unit, has_forbidden_unit, is_bad_unit, is_late_descriptor, is_split, is_same_series, is_duplicate, is_complete_at, is_incomplete, leaves_incomplete, sample_group}
+use Rattle.page_model.specs.Rules.{is_histogram, is_late_descriptor, is_split, is_complete_at, is_incomplete, leaves_incomplete, sample_group}
 use Rattle.page_model.specs.Faults.{item_fault}
-use Rattle.sample_groups.specs.declared.part.Part.{Part}
 use Rattle.sample_groups.specs.Groups.{Gathered, groups_from, shared_labels, with_part, is_whole_group}
 use Rattle.sample_groups.specs.Parts.{is_grouped, entry_of, part_of}
 use Rattle.sample_groups.specs.Sound.{AreSound}
@@ -37,13 +31,12 @@ use Rattle.family_rules.specs.declared.family.Descriptor.{Descriptor}
 use Rattle.family_rules.specs.declared.family.Descriptor.TheVariants as sorts
 use Rattle.family_rules.specs.declared.family.FamilySoFar.{FamilySoFar}
 use Rattle.family_rules.specs.Checking.{Checking, no_lines, has_samples, groups_so_far, so_far, left_before, left_families, current_family, key_of, keys_above, Stands}
-use Rattle.family_rules.specs.Steps.{has, line_of, is_bad_unit_in, unit_stop, family_with, with_descriptor, is_late_in, current_kind, is_current_family, known_in, has_incomplete, left_stop, place_stop, with_left, begun, reached, current_with, with_current, IsReady}
+use Rattle.family_rules.specs.Steps.{has, line_of, unit_stop, family_with, with_descriptor, is_late_in, current_kind, is_current_family, known_in, has_incomplete, left_stop, place_stop, with_left, begun, reached, current_with, IsReady}
 use Rattle.family_rules.specs.Samples.{is_current_sample, family_with_value, with_part_in, with_part_at, with_told, runs_with, entered_by, with_sample}
 use Rattle.family_rules.specs.GroupRuns.{no_runs, runs_of, nearest_runs}
 use Rattle.family_rules.proofs.RunLaws.{no_samples_no_runs, runs_sample}
-use Rattle.packed_keys.specs.Packing.{sample_key_eq}
-use Rattle.family_rules.proofs.Lists.{or_false, bytes_same, bytes_swap, pairs, lookup-map, map-pairs, insert_entry-last}
-use Rattle.family_rules.proofs.Faults.{AreFit, fit_lines, sound_samples, none_above, no_forbidden, left_fault, place_fault, unit_fault}
+use Rattle.family_rules.proofs.Lists.{or_false, bytes_same, pairs, lookup-map, map-pairs, insert_entry-last}
+use Rattle.family_rules.proofs.Faults.{AreFit, fit_lines, sound_samples, none_above, left_fault, place_fault, unit_fault}
 use Rattle.family_rules.proofs.Units.{bad_unit_above}
 use Rattle.family_rules.proofs.Kept.{known_lines, fresh, reversed_samples, grown, is_one, so_far-other, so_far-descriptor, so_far-sample, so_far-none, no_samples, late_known}
 

@@ -1,6 +1,6 @@
 -- What a checker keeps of the lines above, and which lines it stands for. Lists of earlier lines have the nearest first.
 -- Prometheus text format 0.0.4, "Grouping and sorting": the lines of a family stand together, so only the family of the nearest line goes on.
-use Rattle.std.specs.Prelude.{◌≡◌, ℕ, Bool, false, not, List, [], ◌∷◌, ◌++◌, map, reverse, count_by, Option, Some, None, option_map, unwrap_or, is_some, IsTrue, Result, Ok, Err, ⊤, if◌then◌else◌, length, ◌==◌}
+use Rattle.std.specs.Prelude.{◌≡◌, ℕ, Bool, not, List, [], ◌∷◌, ◌++◌, map, reverse, count_by, Option, Some, None, option_map, unwrap_or, Result, Ok, Err, ⊤, if◌then◌else◌, length, ◌==◌}
 use Rattle.std.specs.List.{list_any}
 use Rattle.std.specs.Option.{option_to_list}
 use Rattle.label_sets.specs.declared.kind.Kind.{Kind}
@@ -8,7 +8,6 @@ use Rattle.label_sets.specs.declared.kind.Kind.TheVariants.{Unknown}
 use Rattle.label_sets.specs.declared.label_set.LabelSet.{LabelSet}
 use Rattle.label_sets.specs.Lists.{first_some}
 use Rattle.page_model.specs.declared.item.Item.{Item}
-use Rattle.page_model.specs.declared.item.Item.TheVariants as items
 use Rattle.page_model.specs.declared.item.Sample.{Sample}
 use Rattle.page_model.specs.declared.fault.PageFault.{PageFault}
 use Rattle.page_model.specs.declared.fault.PageFault.TheVariants as faults

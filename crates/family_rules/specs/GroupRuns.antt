@@ -1,6 +1,6 @@
 -- The groups of a family, in the order in which they begin.
 -- OpenMetrics 1.0, "Metric": the samples of one group stand together.
-use Rattle.std.specs.Prelude.{ℕ, Bool, false, not, ◌&&◌, List, [], ◌∷◌, ◌++◌, map, reverse, Option, None, Some, if◌then◌else◌}
+use Rattle.std.specs.Prelude.{◌≡◌, ⊤, ℕ, Bool, not, ◌&&◌, List, [], ◌∷◌, ◌++◌, map, reverse, Option, None, Some, if◌then◌else◌}
 use Rattle.std.specs.List.{list_any}
 use Rattle.label_sets.specs.declared.kind.Kind.{Kind}
 use Rattle.label_sets.specs.declared.label_set.LabelSet.{LabelSet}
@@ -17,6 +17,11 @@ use Rattle.page_model.specs.Rules.{is_open_metrics, sample_group}
 pub record Runs : Type 0 where
   pub begun : List SampleKey
   pub nearest : Option LabelSet
+
+-- without a nearest sample no group has begun
+abbrev pub StartsEmpty : Option LabelSet → List SampleKey → Type 0
+StartsEmpty None begun = begun ≡ []
+StartsEmpty (Some labels) begun = ⊤
 
 -- no group has begun
 abbrev pub no_runs : Runs

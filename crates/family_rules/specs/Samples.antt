@@ -28,7 +28,7 @@ use Rattle.family_rules.specs.declared.family.Current.{Current}
 use Rattle.family_rules.specs.declared.family.FamilySoFar.{FamilySoFar}
 use Rattle.family_rules.specs.GroupRuns.{Runs, group_key, goes_back, with_group}
 use Rattle.family_rules.specs.Checking.{Checking, kind_in, key_of}
-use Rattle.family_rules.specs.Steps.{current_with, with_current, current_kind, left_stop}
+use Rattle.family_rules.specs.Steps.{current_with, with_current, current_kind}
 
 -- ---- owners and values
 

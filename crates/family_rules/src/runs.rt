@@ -20,10 +20,13 @@ pub struct GroupRuns {
 
 impl Model for GroupRuns {
     ghost use Rattle.family_rules.specs.GroupRuns.{Runs};
+    ghost use Rattle.family_rules.specs.GroupRuns.{StartsEmpty};
 
     ghost Value = { Runs };
 
     ghost view = { λ r. record { begun = r.begun; nearest = r.nearest } };
+
+    ghost invariant = { λ r. StartsEmpty r.nearest r.begun };
 }
 
 /// The labels that a sample of this kind of family shares with those of its group.
@@ -51,6 +54,15 @@ impl GroupRuns {
         GroupRuns {
             begun: SeenKeys::new(alloc),
             nearest: None,
+        }
+    }
+
+    /// Forgets all groups. Where there were none, it does nothing.
+    pub fn clear(&mut self, alloc: Global)
+        ensures { self.new ≡ no_runs }
+    {
+        if self.nearest.is_some() {
+            *self = GroupRuns::new(alloc);
         }
     }
 

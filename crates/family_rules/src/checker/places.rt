@@ -8,7 +8,6 @@ ghost use Rattle.family_rules.specs.Steps.{Takes, line_of, is_current_family, kn
 use super::Checker;
 use crate::family::{Current, Descriptor, FamilySoFar};
 use crate::left::LeftFamilies;
-use crate::runs::GroupRuns;
 use crate::unit::has_bad_unit;
 use label_sets::{Kind, Memory, Name};
 use page_model::Rule;
@@ -87,7 +86,7 @@ impl Checker {
             name: family,
             family: FamilySoFar::new(self.alloc),
         };
-        self.runs = GroupRuns::new(self.alloc);
+        self.runs.clear(self.alloc);
         let before = mem::replace(&mut self.current, Some(next));
         put_left(&mut self.left, before)
     }

@@ -9,7 +9,7 @@ ghost use Rattle.family_rules.specs.Samples.{TellsPart, is_current_sample, has_b
 use super::Checker;
 use crate::exemplars::is_bad_exemplar;
 use crate::runs::group_labels;
-use crate::sample_values::told;
+use crate::sample_values::part_or_rule;
 use exact_decimal::Number;
 use label_sets::{Kind, LabelSet, Memory, Name};
 use packed_keys::SampleKey;
@@ -76,17 +76,17 @@ impl Checker {
 
     /// What a sample of the current family is to its group, where its kind has groups, or the rule that it
     /// breaks: 15 or 16.
-    fn told(&self, kind: Kind, sample: &Sample) -> Result<Option<Part>, Rule>
+    fn part_or_rule(&self, kind: Kind, sample: &Sample) -> Result<Option<Part>, Rule>
         ensures { TellsPart self.now kind sample.now result }
     {
         match &self.current {
-            Some(current) => told(self.format, kind, &current.name, sample),
+            Some(current) => part_or_rule(self.format, kind, &current.name, sample),
             None => Err(Rule::Suffix),
         }
     }
 
     /// Nothing, or rule 18 where a sample of another family leaves the current one.
-    fn told_left(&self) -> Result<Option<Part>, Rule>
+    fn no_part_or_rule(&self) -> Result<Option<Part>, Rule>
         ensures { result ≡ told_left (left_stop self.now.current) }
     {
         match self.left_rule() {
@@ -200,7 +200,7 @@ impl Checker {
             return Ok(Some(Rule::Exemplar));
         }
         let kind = self.current_kind();
-        let told = self.told(kind, &sample);
+        let told = self.part_or_rule(kind, &sample);
         self.add_sample(kind, sample, told)
     }
 
@@ -233,7 +233,7 @@ impl Checker {
         if self.is_left(&sample.name) {
             return Ok(Some(Rule::Split));
         }
-        let told = self.told_left();
+        let told = self.no_part_or_rule();
         let family = sample.name.copy()?;
         self.begin(family)?;
         self.add_sample(Kind::Unknown, sample, told)

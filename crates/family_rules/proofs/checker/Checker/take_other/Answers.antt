@@ -22,6 +22,6 @@ returns c =
     let mid = c.in_ok-begin.ensures ∙ ap (begun c.args.self.now) c.in_ok-family.ensures in
     if_ok_both _ _ (Takes (items.Sample c.args.sample) c.args.self.now c.add_sample.new.self) c.add_sample.result
     (λ answer stop step. other_begins c.args.sample c.args.self.now c.add_sample.new.self c.requires (sym c.is_some.ensures ∙ c.if-is_some.false) (sym c.if-is_current.ensures) (sym c.if-is_left.ensures) answer
-    (stop ∙ (λ i. add_stop (mid i) Unknown c.args.sample (c.told_left-told.ensures i)))
-    (λ none. step none ∙ (λ i. with_added (mid i) Unknown c.args.sample (c.told_left-told.ensures i))))
+    (stop ∙ (λ i. add_stop (mid i) Unknown c.args.sample (c.no_part_or_rule-told.ensures i)))
+    (λ none. step none ∙ (λ i. with_added (mid i) Unknown c.args.sample (c.no_part_or_rule-told.ensures i))))
     c.add_sample.ensures.broken c.add_sample.ensures.added

@@ -11,4 +11,4 @@ returns-then-has_bad_exemplar c = own_exemplar c.args.sample c.args.self.now c.a
 pub returns : goal.returns
 returns c = if_ok_both _ _ (Takes (items.Sample c.args.sample) c.args.self.now c.add_sample.new.self) c.add_sample.result
     (λ answer stop step. own_added c.args.sample c.args.self.now c.add_sample.new.self c.requires c.current_kind-kind.result c.current_kind-kind.ensures
-    (sym c.has_bad_exemplar.ensures ∙ c.if-has_bad_exemplar.false) c.told-told.result c.told-told.ensures answer stop step) c.add_sample.ensures.broken c.add_sample.ensures.added
+    (sym c.has_bad_exemplar.ensures ∙ c.if-has_bad_exemplar.false) c.part_or_rule-told.result c.part_or_rule-told.ensures answer stop step) c.add_sample.ensures.broken c.add_sample.ensures.added
