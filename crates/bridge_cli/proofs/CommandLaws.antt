@@ -5,11 +5,14 @@ use Rattle.std.specs.Fmt.{decimal}
 use Rattle.std.specs.Str.Parse.{digits_value}
 use Rattle.std.proofs.lemmas.Fmt.{decimal_is_IsNumeral}
 use Rattle.bridge_cli.specs.declared.status.Status.TheVariants.{NoForm}
+use Rattle.page_model.specs.declared.format.Format.{Format}
+use Rattle.page_model.specs.declared.format.Format.TheVariants.{Text, OpenMetrics}
 use Rattle.bridge_cli.specs.declared.words.Command.{Command}
-use Rattle.bridge_cli.specs.declared.words.Command.TheVariants.{Help, Version, CheckText, ConvertText}
+use Rattle.bridge_cli.specs.declared.words.Command.TheVariants.{Help, Version, Check, Convert}
 use Rattle.bridge_cli.specs.Statuses.{code_of}
-use Rattle.bridge_cli.specs.CommandWords.{words_of, IsInLimits, IsCommand, FitNoForm, AskFor, reads_page}
+use Rattle.bridge_cli.specs.CommandWords.{format_word, words_of, IsInLimits, IsCommand, FitNoForm, AskFor, reads_page}
 use Rattle.bridge_cli.specs.Inputs.{IsInput}
+use Rattle.bridge_cli.specs.PageAnswers.{page_setting}
 use Rattle.bridge_cli.specs.CheckTexts.{checked_text}
 use Rattle.bridge_cli.specs.ConvertTexts.{converted_text}
 use Rattle.bridge_cli.specs.Answers.{Answers, IsAnswer, no_form, answers}
@@ -22,35 +25,45 @@ use Rattle.bridge_cli.proofs.PageAnswerLaws.{AreSame, fixed_once, fixed_form, pa
 abbrev lone_command : List ℕ → Command
 lone_command word = cond (bytes_eq word (codes "--version")) Version Help
 
+-- the format of a word
+abbrev told_format : List ℕ → Format
+told_format word = cond (bytes_eq word (codes "text")) Text OpenMetrics
+
+-- the word of a format tells it
+format_told : (format : Format) → told_format (format_word format) ≡ format
+format_told Text = refl
+format_told OpenMetrics = refl
+
 -- the command whose words these are, if they are those of one
 abbrev told_by : List (List ℕ) → Command
 told_by (word ∷ []) = lone_command word
-told_by (verb ∷ format ∷ []) = CheckText
-told_by (verb ∷ format ∷ job ∷ instance ∷ time ∷ []) = ConvertText (target_of job instance) (digits_value 10 time)
+told_by (verb ∷ format ∷ []) = Check (told_format format)
+told_by (verb ∷ format ∷ job ∷ instance ∷ time ∷ []) = Convert (told_format format) (target_of job instance) (digits_value 10 time)
 told_by _ = Help
 
 -- the words of a command tell it
 told : (command : Command) → IsInLimits command → told_by (words_of command) ≡ command
 told Help limits = refl
 told Version limits = refl
-told CheckText limits = refl
-told (ConvertText target nanos) limits =
-    ap (λ t. ConvertText t (digits_value 10 (decimal nanos))) (told_target target limits.0) ∙ ap (ConvertText target) (decimal_is_IsNumeral nanos (omega (arith, limits.1))).1
+told (Check format) limits = ap Check (format_told format)
+told (Convert format target nanos) limits =
+    ap (λ f. Convert f (target_of target.job target.instance) (digits_value 10 (decimal nanos))) (format_told format)
+    ∙ ap (λ t. Convert format t (digits_value 10 (decimal nanos))) (told_target target limits.0) ∙ ap (Convert format target) (decimal_is_IsNumeral nanos (omega (arith, limits.1))).1
 
 -- a command has one answer; where it reads nothing, to all bytes
 command_once : (command : Command) (bytes others : List ℕ) (s r : ℕ) (t u : List ℕ) → (reads_page command ≡ true → bytes ≡ others) → Answers command bytes s t → Answers command others r u
     → AreSame s r t u
 command_once Help bytes others s r t u same a b = fixed_once _ s r t u a b
 command_once Version bytes others s r t u same a b = fixed_once _ s r t u a b
-command_once CheckText bytes others s r t u same a b = page_once_at checked_text bytes others s r t u (same refl) a b
-command_once (ConvertText target nanos) bytes others s r t u same a b = page_once_at (converted_text target nanos) bytes others s r t u (same refl) a b
+command_once (Check format) bytes others s r t u same a b = page_once_at (page_setting format) checked_text bytes others s r t u (same refl) a b
+command_once (Convert format target nanos) bytes others s r t u same a b = page_once_at (page_setting format) (converted_text target nanos) bytes others s r t u (same refl) a b
 
 -- a command doesn't answer that the words fit no form
 command_form : (command : Command) (bytes : List ℕ) (status : ℕ) (text : List ℕ) → Answers command bytes status text → status ≢ code_of NoForm
 command_form Help bytes status text says e = fixed_form _ status text says e
 command_form Version bytes status text says e = fixed_form _ status text says e
-command_form CheckText bytes status text says e = page_form _ _ bytes status text says e
-command_form (ConvertText target nanos) bytes status text says e = page_form _ _ bytes status text says e
+command_form (Check format) bytes status text says e = page_form _ _ bytes status text says e
+command_form (Convert format target nanos) bytes status text says e = page_form _ _ bytes status text says e
 
 -- ---- what follows
 

@@ -7,7 +7,7 @@ use Rattle.page_model.proofs.Laws.{first_fault_once, page_of_once, fault_or_page
 use Rattle.bridge_cli.specs.declared.status.Status.TheVariants.{NoForm}
 use Rattle.bridge_cli.specs.Statuses.{code_of}
 use Rattle.bridge_cli.specs.Stops.{refused_text}
-use Rattle.bridge_cli.specs.PageAnswers.{page_setting, IsFaultyInput, IsPageAnswer, page_done, page_refused, page_too_long}
+use Rattle.bridge_cli.specs.PageAnswers.{IsFaultyInput, IsPageAnswer, page_done, page_refused, page_too_long}
 use Rattle.bridge_cli.specs.Answers.{IsFixedAnswer}
 
 -- two answers are one
@@ -38,10 +38,10 @@ page_once st text_of bytes s r t u (page_too_long long) (page_refused line rule 
 page_once st text_of bytes s r t u (page_too_long long) (page_too_long longer) = (refl, refl)
 
 -- the same over bytes that are the same
-pub page_once_at : (text_of : Page → List ℕ) (bytes others : List ℕ) (s r : ℕ) (t u : List ℕ) → bytes ≡ others → IsPageAnswer page_setting text_of bytes s t
-    → IsPageAnswer page_setting text_of others r u → AreSame s r t u
-page_once_at text_of bytes others s r t u same a b =
-    let At : List ℕ → Type 0 = λ bs. IsPageAnswer page_setting text_of bs s t in page_once page_setting text_of others s r t u (subst At same a) b
+pub page_once_at : (st : Setting) (text_of : Page → List ℕ) (bytes others : List ℕ) (s r : ℕ) (t u : List ℕ) → bytes ≡ others → IsPageAnswer st text_of bytes s t
+    → IsPageAnswer st text_of others r u → AreSame s r t u
+page_once_at st text_of bytes others s r t u same a b =
+    let At : List ℕ → Type 0 = λ bs. IsPageAnswer st text_of bs s t in page_once st text_of others s r t u (subst At same a) b
 
 -- a command that prints always the same doesn't answer that the words fit no form
 pub fixed_form : (fixed : List ℕ) (status : ℕ) (text : List ℕ) → IsFixedAnswer fixed status text → status ≢ code_of NoForm

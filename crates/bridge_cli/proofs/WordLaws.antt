@@ -9,9 +9,11 @@ use Rattle.std.proofs.lemmas.Str.Parse.{digit_at}
 use Rattle.std.proofs.lemmas.List.{get_or-append-add, get_or_at, take_at, drop_at, drop-drop}
 use Rattle.std.proofs.lemmas.Slice.Eq.{bytes_eq-Decides}
 use Rattle.std.specs.Str.{bytes_eq}
+use Rattle.page_model.specs.declared.format.Format.{Format}
 use Rattle.bridge_cli.specs.Limits.{most_job, most_nanos}
-use Rattle.bridge_cli.specs.CommandWords.{IsPlace, IsCommand}
-use Rattle.bridge_cli.specs.declared.words.Command.TheVariants.{ConvertText}
+use Rattle.bridge_cli.specs.CommandWords.{IsPlace, IsCommand, FitNoForm, format_word, words_of}
+use Rattle.bridge_cli.specs.declared.words.Command.{Command}
+use Rattle.bridge_cli.specs.declared.words.Command.TheVariants.{Help, Version, Check, Convert}
 
 -- a text that isn't read as a number is no number's
 pub unread : {E : Type 0} (bs : List ℕ) (r : Result ℕ E) (fault : E) → ParsesUnsigned 64 10 bs r → r ≡ Err fault → (most : ℕ) → most < 2 ^ 64 → (n : ℕ) → n ≤ most → bs ≢ decimal n
@@ -86,10 +88,22 @@ five (p ∷ q ∷ r ∷ s ∷ t ∷ u ∷ us) a b c d e low high = absurd (omega
 -- the bytes of a conversion's words
 pub conversion_words : {A : Type 0} (bytes : A → List ℕ) (xs : List A) (a b c d e : A) (verb format job instance time : List ℕ) → 5 ≤ length xs → length xs < 6
     → a ≡ get_or xs 0 a → b ≡ get_or xs 1 b → c ≡ get_or xs 2 c → d ≡ get_or xs 3 d → e ≡ get_or xs 4 e
-    → verb ≡ bytes a → format ≡ bytes b → job ≡ bytes c → instance ≡ bytes d → time ≡ bytes e → verb ≡ codes "convert" → format ≡ codes "text"
-    → codes "convert" ∷ codes "text" ∷ job ∷ instance ∷ time ∷ [] ≡ map bytes xs
-conversion_words bytes xs a b c d e verb format job instance time low high at0 at1 at2 at3 at4 is0 is1 is2 is3 is4 converts text =
+    → verb ≡ bytes a → format ≡ bytes b → job ≡ bytes c → instance ≡ bytes d → time ≡ bytes e → verb ≡ codes "convert" → (f : Format) → format ≡ format_word f
+    → codes "convert" ∷ format_word f ∷ job ∷ instance ∷ time ∷ [] ≡ map bytes xs
+conversion_words bytes xs a b c d e verb format job instance time low high at0 at1 at2 at3 at4 is0 is1 is2 is3 is4 converts f named =
     let listed : bytes a ∷ bytes b ∷ bytes c ∷ bytes d ∷ bytes e ∷ [] ≡ map bytes xs = ap (map bytes) (five xs a b c d e low high at0 at1 at2 at3 at4) in cc
+
+-- words of a conversion whose second names no format fit no form
+pub no_format : {A : Type 0} (bytes : A → List ℕ) (xs : List A) (a b c d e : A) (format : List ℕ) → 5 ≤ length xs → length xs < 6
+    → a ≡ get_or xs 0 a → b ≡ get_or xs 1 b → c ≡ get_or xs 2 c → d ≡ get_or xs 3 d → e ≡ get_or xs 4 e
+    → format ≡ bytes b → ((f : Format) → format ≢ format_word f) → FitNoForm (map bytes xs)
+no_format bytes xs a b c d e format low high at0 at1 at2 at3 at4 is none command asked = by command (ap (map bytes) (five xs a b c d e low high at0 at1 at2 at3 at4) ∙ asked.spelled)
+  where
+    by : (command : Command) → bytes a ∷ bytes b ∷ bytes c ∷ bytes d ∷ bytes e ∷ [] ≡ words_of command → ⊥
+    by Help spelled = absurd cc
+    by Version spelled = absurd cc
+    by (Check f) spelled = absurd cc
+    by (Convert f target nanos) spelled = let named : bytes b ≡ format_word f = cc in none f (is ∙ named)
 
 -- texts that compare as different are
 pub differ : (a b : List ℕ) (different : Bool) → different ≡ not (bytes_eq a b) → different ≡ true → a ≢ b
@@ -105,10 +119,10 @@ at_error (Ok x) P p = tt
 at_error (Err e) P p = p
 
 -- the words of a conversion
-pub conversion_is : (job instance time host : List ℕ) (port nanos : ℕ) → 1 ≤ length job → length job ≤ most_job → IsPlace instance host port → time ≡ decimal nanos → nanos ≤ most_nanos
-    → IsCommand (codes "convert" ∷ codes "text" ∷ job ∷ instance ∷ time ∷ []) (ConvertText (record { job = job; instance = instance; host = host; port = port }) nanos)
-conversion_is job instance time host port nanos some short place e small = record {
-  spelled = ap (λ t. codes "convert" ∷ codes "text" ∷ job ∷ instance ∷ t ∷ []) e;
+pub conversion_is : (format : Format) (job instance time host : List ℕ) (port nanos : ℕ) → 1 ≤ length job → length job ≤ most_job → IsPlace instance host port → time ≡ decimal nanos → nanos ≤ most_nanos
+    → IsCommand (codes "convert" ∷ format_word format ∷ job ∷ instance ∷ time ∷ []) (Convert format (record { job = job; instance = instance; host = host; port = port }) nanos)
+conversion_is format job instance time host port nanos some short place e small = record {
+  spelled = ap (λ t. codes "convert" ∷ format_word format ∷ job ∷ instance ∷ t ∷ []) e;
   limits = (record { some_job = some; short_job = short; place = place }, small);
 }
 

@@ -2,7 +2,7 @@
 use Rattle.std.specs.Prelude.{◌≡◌, ℕ, List}
 use Rattle.bridge_cli.specs.declared.status.Status.TheVariants.{Done, NoForm}
 use Rattle.bridge_cli.specs.declared.words.Command.{Command}
-use Rattle.bridge_cli.specs.declared.words.Command.TheVariants.{Help, Version, CheckText, ConvertText}
+use Rattle.bridge_cli.specs.declared.words.Command.TheVariants.{Help, Version, Check, Convert}
 use Rattle.bridge_cli.specs.Statuses.{code_of}
 use Rattle.bridge_cli.specs.CommandWords.{IsCommand, FitNoForm}
 use Rattle.bridge_cli.specs.Stops.{no_form_text}
@@ -20,8 +20,8 @@ pub record IsFixedAnswer (fixed : List ℕ) (status : ℕ) (text : List ℕ) : T
 abbrev pub Answers : Command → List ℕ → ℕ → List ℕ → Type 0
 Answers Help bytes = IsFixedAnswer help_text
 Answers Version bytes = IsFixedAnswer version_text
-Answers CheckText bytes = IsPageAnswer page_setting checked_text bytes
-Answers (ConvertText target nanos) bytes = IsPageAnswer page_setting (converted_text target nanos) bytes
+Answers (Check format) bytes = IsPageAnswer (page_setting format) checked_text bytes
+Answers (Convert format target nanos) bytes = IsPageAnswer (page_setting format) (converted_text target nanos) bytes
 
 -- what the program answers: the words fit no form, or a command answers
 pub data IsAnswer (words : List (List ℕ)) (bytes : List ℕ) : ℕ → List ℕ → Type 0 where

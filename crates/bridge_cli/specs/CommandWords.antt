@@ -3,9 +3,11 @@ use Rattle.std.specs.Prelude.{◌≡◌, ℕ, ◌≤◌, Bool, true, false, List
 use Rattle.std.specs.List.{list_all}
 use Rattle.std.specs.Int.{is_in_range}
 use Rattle.std.specs.Fmt.{decimal}
+use Rattle.page_model.specs.declared.format.Format.{Format}
+use Rattle.page_model.specs.declared.format.Format.TheVariants.{Text, OpenMetrics}
 use Rattle.target_core.specs.declared.target.Target.{Target}
 use Rattle.bridge_cli.specs.declared.words.Command.{Command}
-use Rattle.bridge_cli.specs.declared.words.Command.TheVariants.{Help, Version, CheckText, ConvertText}
+use Rattle.bridge_cli.specs.declared.words.Command.TheVariants.{Help, Version, Check, Convert}
 use Rattle.bridge_cli.specs.Limits.{most_nanos, most_job, most_host, most_port}
 
 -- a host's characters: the visible ones of ASCII
@@ -29,33 +31,38 @@ pub record IsTarget (t : Target) : Type 0 where
 
 -- ---- the tables of the commands
 
+-- the word of a format
+abbrev pub format_word : Format → List ℕ
+format_word Text = codes "text"
+format_word OpenMetrics = codes "openmetrics"
+
 -- the words that ask for a command; numbers are decimal digits without a sign or a leading zero
 abbrev pub words_of : Command → List (List ℕ)
 words_of Help = codes "--help" ∷ []
 words_of Version = codes "--version" ∷ []
-words_of CheckText = codes "check" ∷ codes "text" ∷ []
-words_of (ConvertText target nanos) = codes "convert" ∷ codes "text" ∷ target.job ∷ target.instance ∷ decimal nanos ∷ []
+words_of (Check format) = codes "check" ∷ format_word format ∷ []
+words_of (Convert format target nanos) = codes "convert" ∷ format_word format ∷ target.job ∷ target.instance ∷ decimal nanos ∷ []
 
 -- the ranges of a command's arguments
 abbrev pub IsInLimits : Command → Type 0
 IsInLimits Help = ⊤
 IsInLimits Version = ⊤
-IsInLimits CheckText = ⊤
-IsInLimits (ConvertText target nanos) = IsTarget target × (nanos ≤ most_nanos)
+IsInLimits (Check format) = ⊤
+IsInLimits (Convert format target nanos) = IsTarget target × (nanos ≤ most_nanos)
 
 -- the command reads a page on the input
 abbrev pub reads_page : Command → Bool
 reads_page Help = false
 reads_page Version = false
-reads_page CheckText = true
-reads_page (ConvertText target nanos) = true
+reads_page (Check format) = true
+reads_page (Convert format target nanos) = true
 
 -- the command takes memory
 abbrev pub takes_memory : Command → Bool
 takes_memory Help = false
 takes_memory Version = false
-takes_memory CheckText = true
-takes_memory (ConvertText target nanos) = true
+takes_memory (Check format) = true
+takes_memory (Convert format target nanos) = true
 
 -- ---- what words ask for
 

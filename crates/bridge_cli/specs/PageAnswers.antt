@@ -1,18 +1,19 @@
 -- What the commands that read a page answer. The bridge's own.
 use Rattle.std.specs.Prelude.{ℕ, ◌<◌, ◌≤◌, List, length}
+use Rattle.page_model.specs.declared.format.Format.{Format}
 use Rattle.page_model.specs.declared.format.Treatment.TheVariants.{Scraped}
 use Rattle.page_model.specs.declared.page.Page.{Page}
 use Rattle.page_model.specs.declared.rule.Rule.{Rule}
-use Rattle.page_model.specs.Written.{Setting, text_setting}
+use Rattle.page_model.specs.Written.{Setting}
 use Rattle.page_model.specs.Pages.{FirstFault, IsPageOf}
 use Rattle.bridge_cli.specs.declared.status.Status.TheVariants.{Done, Refused, TooLong}
 use Rattle.bridge_cli.specs.Limits.{most_page, most_samples}
 use Rattle.bridge_cli.specs.Statuses.{code_of}
 use Rattle.bridge_cli.specs.Stops.{refused_text, too_long_text}
 
--- how pages are read: as a target wrote them, with at most 200,000 samples
-abbrev pub page_setting : Setting
-page_setting = text_setting Scraped most_samples
+-- how pages of a format are read: as a target wrote them, with at most 200,000 samples
+abbrev pub page_setting : Format → Setting
+page_setting f = record { format = f; treatment = Scraped; limit = most_samples }
 
 -- the bytes on the input are this page
 pub record IsPageInput (st : Setting) (page : Page) (bytes : List ℕ) : Type 0 where

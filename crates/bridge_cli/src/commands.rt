@@ -39,9 +39,11 @@ pub(crate) fn run<I: Source>(
     match command {
         Command::Help => Ok(CowSlice::Borrowed(help::help())),
         Command::Version => Ok(CowSlice::Borrowed(help::version())),
-        Command::CheckText => Ok(CowSlice::Owned(check::check(alloc, input)?)),
-        Command::ConvertText { target, nanos } => Ok(CowSlice::Owned(convert::convert(
-            alloc, &target, nanos, input,
-        )?)),
+        Command::Check { format } => Ok(CowSlice::Owned(check::check(alloc, format, input)?)),
+        Command::Convert {
+            format,
+            target,
+            nanos,
+        } => Ok(CowSlice::Owned(convert::convert(alloc, format, &target, nanos, input)?)),
     }
 }

@@ -2,7 +2,7 @@
 ghost use Rattle.std.specs.Prelude.{◌≡◌, ◌++◌, [], ℕ, List, length, IfOk, IfErr};
 ghost use Rattle.page_model.specs.declared.page.Page.{Page as AnyPage};
 ghost use Rattle.page_model.specs.declared.format.Treatment.TheVariants.{Scraped};
-ghost use Rattle.text_grammar.specs.PageFeeding.{Stands, Answers, CountAnswers};
+ghost use Rattle.page_feeding.specs.PageFeeding.{Stands, Answers, CountAnswers};
 ghost use Rattle.bridge_cli.specs.Limits.{most_samples};
 ghost use Rattle.bridge_cli.specs.declared.stop.Stop.TheVariants.{Memory};
 ghost use Rattle.bridge_cli.specs.PageAnswers.{page_setting, IsPageAnswer};
@@ -12,24 +12,26 @@ ghost use Rattle.bridge_cli.specs.StopAnswers.{StopsAs};
 use crate::limits::{BLOCK_BYTES, MOST_PAGE_BYTES, MOST_SAMPLES};
 use crate::stop::Stop;
 use bridge_ports::Source;
-use page_model::{Page, PageCounts, PageFault, Rule, Treatment};
+use openmetrics_grammar::OpenLines;
+use page_feeding::{Grammar, PageReader};
+use page_model::{Format, Page, PageCounts, PageFault, Rule, Treatment};
 use std::alloc::Global;
-use text_grammar::TextPage;
+use text_grammar::TextLines;
 
 /// A page that is fed while it is read.
 #[derive(Drop)]
-pub(crate) enum FedPage {
+pub(crate) enum FedPage<G: Grammar> {
     /// It has no fault yet.
-    Reading(TextPage),
+    Reading(PageReader<G>),
     /// It has this first fault, however it goes on.
     Faulty { line: u32, rule: Rule },
 }
 
-impl FedPage {
+impl<G: Grammar> FedPage<G> {
     /// Takes the next bytes of the page.
-    fn take(self, piece: &[u8]) -> Result<FedPage, Stop>
+    fn take(self, piece: &[u8]) -> Result<FedPage<G>, Stop>
         requires { HasRoomFor (length piece.now) self }
-        ensures fed { (bytes : List ℕ) → IsFed bytes self → IfOk result (IsFed (bytes ++ piece.now)) }
+        ensures fed { (bytes : List ℕ) → IsFed G.format bytes self → IfOk result (IsFed G.format (bytes ++ piece.now)) }
         ensures memory { IfErr result (λ stop. stop ≡ Memory) }
     {
         match self {
@@ -44,7 +46,7 @@ impl FedPage {
 
     /// The page, or its first fault, once all of its bytes were taken.
     fn finish(self) -> Result<Page, PageFault>
-        ensures { (bytes : List ℕ) → IsFed bytes self → Answers page_setting bytes result }
+        ensures { (bytes : List ℕ) → IsFed G.format bytes self → Answers (page_setting G.format) bytes result }
     {
         match self {
             FedPage::Reading(page) => page.finish(),
@@ -54,7 +56,7 @@ impl FedPage {
 
     /// How many families and samples the page has, or its first fault, once all of its bytes were taken.
     fn count(self) -> Result<PageCounts, PageFault>
-        ensures { (bytes : List ℕ) → IsFed bytes self → CountAnswers page_setting bytes result }
+        ensures { (bytes : List ℕ) → IsFed G.format bytes self → CountAnswers (page_setting G.format) bytes result }
     {
         match self {
             FedPage::Reading(page) => page.count(),
@@ -65,10 +67,13 @@ impl FedPage {
 
 /// Reads an input to its end, or until it is too long, and feeds its page. It reads on behind a fault,
 /// since a failed read and too many bytes go before that.
-fn read_page<I: Source>(input: &mut I, reader: TextPage) -> Result<FedPage, Stop>
-    requires { Stands Scraped most_samples [] reader }
-    ensures fed { IfOk result (IsFedWhole (I.left input.old)) }
-    ensures stop { (text_of : AnyPage → List ℕ) → IfErr result (StopsAs (IsPageAnswer page_setting text_of) (I.left input.old)) }
+fn read_page<I: Source, G: Grammar>(
+    input: &mut I,
+    reader: PageReader<G>,
+) -> Result<FedPage<G>, Stop>
+    requires { Stands G.format Scraped most_samples [] reader }
+    ensures fed { IfOk result (IsFedWhole G.format (I.left input.old)) }
+    ensures stop { (text_of : AnyPage → List ℕ) → IfErr result (StopsAs (IsPageAnswer (page_setting G.format) text_of) (I.left input.old)) }
     ensures input { Leaves (I.left input.old) (I.left input.new)
         (I.read_faults input.old) (I.read_faults input.new) result }
 {
@@ -88,26 +93,60 @@ fn read_page<I: Source>(input: &mut I, reader: TextPage) -> Result<FedPage, Stop
     }
 }
 
-/// The page that an input holds.
-pub(crate) fn whole_page<I: Source>(alloc: Global, input: &mut I) -> Result<Page, Stop>
-    ensures page { IfOk result (HoldsPage (I.left input.old)) }
-    ensures stop { (text_of : AnyPage → List ℕ) → IfErr result (StopsAs (IsPageAnswer page_setting text_of) (I.left input.old)) }
+/// The page of a grammar that an input holds.
+fn page_of<I: Source, G: Grammar>(alloc: Global, input: &mut I) -> Result<Page, Stop>
+    ensures page { IfOk result (HoldsPage G.format (I.left input.old)) }
+    ensures stop { (text_of : AnyPage → List ℕ) → IfErr result (StopsAs (IsPageAnswer (page_setting G.format) text_of) (I.left input.old)) }
     ensures input { Leaves (I.left input.old) (I.left input.new)
         (I.read_faults input.old) (I.read_faults input.new) result }
 {
-    let reader = TextPage::new(alloc, Treatment::Scraped, MOST_SAMPLES)?;
+    let reader = PageReader::<G>::new(alloc, Treatment::Scraped, MOST_SAMPLES)?;
     let page = read_page(input, reader)?;
     Ok(page.finish()?)
 }
 
-/// How many families and samples the page has that an input holds. No page is made.
-pub(crate) fn page_counts<I: Source>(alloc: Global, input: &mut I) -> Result<PageCounts, Stop>
-    ensures counts { IfOk result (HoldsCounts (I.left input.old)) }
-    ensures stop { (text_of : AnyPage → List ℕ) → IfErr result (StopsAs (IsPageAnswer page_setting text_of) (I.left input.old)) }
+/// How many families and samples the page of a grammar has that an input holds.
+fn counts_of<I: Source, G: Grammar>(alloc: Global, input: &mut I) -> Result<PageCounts, Stop>
+    ensures counts { IfOk result (HoldsCounts G.format (I.left input.old)) }
+    ensures stop { (text_of : AnyPage → List ℕ) → IfErr result (StopsAs (IsPageAnswer (page_setting G.format) text_of) (I.left input.old)) }
     ensures input { Leaves (I.left input.old) (I.left input.new)
         (I.read_faults input.old) (I.read_faults input.new) result }
 {
-    let reader = TextPage::counting(alloc, Treatment::Scraped, MOST_SAMPLES)?;
+    let reader = PageReader::<G>::counting(alloc, Treatment::Scraped, MOST_SAMPLES)?;
     let page = read_page(input, reader)?;
     Ok(page.count()?)
+}
+
+/// The page of this format that an input holds.
+pub(crate) fn whole_page<I: Source>(
+    alloc: Global,
+    format: Format,
+    input: &mut I,
+) -> Result<Page, Stop>
+    ensures page { IfOk result (HoldsPage format (I.left input.old)) }
+    ensures stop { (text_of : AnyPage → List ℕ) → IfErr result (StopsAs (IsPageAnswer (page_setting format) text_of) (I.left input.old)) }
+    ensures input { Leaves (I.left input.old) (I.left input.new)
+        (I.read_faults input.old) (I.read_faults input.new) result }
+{
+    match format {
+        Format::Text => page_of::<I, TextLines>(alloc, input),
+        Format::OpenMetrics => page_of::<I, OpenLines>(alloc, input),
+    }
+}
+
+/// How many families and samples the page of this format has that an input holds. No page is made.
+pub(crate) fn page_counts<I: Source>(
+    alloc: Global,
+    format: Format,
+    input: &mut I,
+) -> Result<PageCounts, Stop>
+    ensures counts { IfOk result (HoldsCounts format (I.left input.old)) }
+    ensures stop { (text_of : AnyPage → List ℕ) → IfErr result (StopsAs (IsPageAnswer (page_setting format) text_of) (I.left input.old)) }
+    ensures input { Leaves (I.left input.old) (I.left input.new)
+        (I.read_faults input.old) (I.read_faults input.new) result }
+{
+    match format {
+        Format::Text => counts_of::<I, TextLines>(alloc, input),
+        Format::OpenMetrics => counts_of::<I, OpenLines>(alloc, input),
+    }
 }

@@ -28,6 +28,10 @@ const PAGE: &[u8] = b"# TYPE t gauge\nt 36.6\n";
 
 const CONVERT: [&str; 5] = ["convert", "text", "j", "h:1", "1000"];
 
+const CHECK_OPEN: [&str; 2] = ["check", "openmetrics"];
+
+const CONVERT_OPEN: [&str; 5] = ["convert", "openmetrics", "j", "h:1", "1000"];
+
 /// How a run of the program ended.
 #[derive(Drop)]
 struct Ended {
@@ -129,6 +133,26 @@ fn converted_pages(rt: HostRuntime) {
         assert_eq!(rt; run.status, 0);
         assert!(rt; run.output.held() == text.as_bytes(), "{scope}");
     }
+}
+
+// A created time before the scrape, an exemplar, an info and a state set.
+const OPEN: &[u8] =
+    b"# TYPE c counter\n# HELP c H.\nc_total 5 # {t=\"1\"} 1\nc_created 0.0000005\n# TYPE i info\ni_info{v=\"1\"} 1\n# TYPE s stateset\ns{s=\"a\"} 0\n# EOF\n";
+
+const OPEN_METRICS: &str =
+    r#"{"scope":{"name":"bridge"},"metrics":[{"name":"c_total","description":"H.","sum":{"dataPoints":[{"startTimeUnixNano":"500","timeUnixNano":"1000","asDouble":5}],"aggregationTemporality":2,"isMonotonic":true}},{"name":"i_info","sum":{"dataPoints":[{"attributes":[{"key":"v","value":{"stringValue":"1"}}],"startTimeUnixNano":"1000","timeUnixNano":"1000","asDouble":1}],"aggregationTemporality":2,"isMonotonic":false}},{"name":"s","sum":{"dataPoints":[{"attributes":[{"key":"s","value":{"stringValue":"a"}}],"startTimeUnixNano":"1000","timeUnixNano":"1000","asDouble":0}],"aggregationTemporality":2,"isMonotonic":false}}]},"#;
+
+const FOUR_SAMPLES: &str =
+    r#"{"scope":{"name":"bridge.target"},"metrics":[{"name":"up","gauge":{"dataPoints":[{"timeUnixNano":"1000","asDouble":1}]}},{"name":"scrape_samples_scraped","gauge":{"dataPoints":[{"timeUnixNano":"1000","asDouble":4}]}}]}"#;
+
+#[test]
+fn converted_open_page(rt: HostRuntime) {
+    let alloc = rt.alloc();
+    let run = run(alloc, &CONVERT_OPEN, OPEN, None, ROOM).expect(&rt, "memory");
+    let text = [RESOURCE, OPEN_METRICS, FOUR_SAMPLES, "]}]}\n"];
+    let text = joined(alloc, &text).expect(&rt, "memory");
+    assert_eq!(rt; run.status, 0);
+    assert!(rt; run.output.held() == text.as_bytes());
 }
 
 const SYNTAX: &str = "refused line 2 rule 4 Syntax\n";
@@ -241,10 +265,45 @@ const CHECKED: [(&[u8], u8, &str); 14] = [
     ),
 ];
 
+// Pages of OpenMetrics, and the status and text of their check.
+const OPEN_CHECKED: [(&[u8], u8, &str); 9] = [
+    (b"", 1, "refused line 1 rule 8 NoEof\n"),
+    (b"# EOF", 0, "ok 0 families 0 samples\n"),
+    (b"# EOF\n\n", 1, "refused line 2 rule 4 Syntax\n"),
+    (b"# EOF\n# EOF\n", 1, "refused line 2 rule 7 AfterEof\n"),
+    (b"# EOF\nx 1\n", 1, "refused line 2 rule 7 AfterEof\n"),
+    (
+        b"# TYPE x counter\nx 1\n# EOF\n",
+        1,
+        "refused line 2 rule 13 Suffix\n",
+    ),
+    // It is a duplicate too.
+    (
+        b"# TYPE c counter\nc_total{a=\"1\"} 1\nc_total{a=\"2\"} 1\nc_total{a=\"1\"} 1\n# EOF\n",
+        1,
+        "refused line 4 rule 12 Interleaved\n",
+    ),
+    (
+        b"# TYPE g gaugehistogram\ng_bucket{le=\"+Inf\"} 5\ng_gcount 6\n# EOF\n",
+        1,
+        "refused line 4 rule 18 Incomplete\n",
+    ),
+    (
+        b"# TYPE i info\ni_info{v=\"1\"} 1\n# TYPE s stateset\ns{s=\"a\"} 1\ns{s=\"b\"} 0\n# EOF\n",
+        0,
+        "ok 2 families 3 samples\n",
+    ),
+];
+
 #[test]
 fn checked_pages(rt: HostRuntime) {
     for (page, status, text) in &CHECKED {
         let run = run(rt.alloc(), &CHECK, page, None, ROOM).expect(&rt, "memory");
+        assert_eq!(rt; run.status, *status);
+        assert!(rt; run.output.held() == text.as_bytes(), "{text}");
+    }
+    for (page, status, text) in &OPEN_CHECKED {
+        let run = run(rt.alloc(), &CHECK_OPEN, page, None, ROOM).expect(&rt, "memory");
         assert_eq!(rt; run.status, *status);
         assert!(rt; run.output.held() == text.as_bytes(), "{text}");
     }
@@ -257,7 +316,7 @@ const FAULTY_WORDS: [&[&str]; 14] = [
     &["check", "json"],
     &["check", "--help"],
     &["--help", "--help"],
-    &["convert", "openmetrics", "j", "h:1", "1000"],
+    &["convert", "openmetric", "j", "h:1", "1000"],
     &["convert", "text", "j", "h:1"],
     &["convert", "text", "", "h:1", "1000"],
     &["convert", "text", "j", ":1", "1000"],

@@ -4,6 +4,7 @@ mod numbers;
 mod place;
 
 pub(crate) use forms::command;
+use page_model::Format;
 use target_core::Target;
 
 /// What the words of the command line ask for.
@@ -13,10 +14,15 @@ pub enum Command {
     Help,
     /// The name and version of the program.
     Version,
-    /// Whether a text page has a fault.
-    CheckText,
-    /// One event of a text page.
-    ConvertText {
+    /// Whether a page has a fault.
+    Check {
+        /// The format of the page.
+        format: Format,
+    },
+    /// One event of a page.
+    Convert {
+        /// The format of the page.
+        format: Format,
         /// The job and the instance that the page is of.
         target: Target,
         /// The time of the event, in nanoseconds since the Unix epoch, at most 2^62.

@@ -16,7 +16,7 @@ use Rattle.std.proofs.lemmas.Option.{get_or_from_slice_get}
 use Rattle.std.proofs.lemmas.Map.Lookups.{exact_unsigned}
 use Rattle.std.proofs.lemmas.Map.Text.{is_eq-slice_cmp}
 use Rattle.byte_table.specs.declared.ordered.Ordered.{Ordered}
-use Rattle.byte_table.specs.Hashes.{both_hashes}
+use Rattle.byte_table.specs.Hashes.{second_hash}
 use Rattle.byte_table.specs.Finding.{first_at, other_at, IsFound, Finds}
 
 -- ---- places
@@ -84,27 +84,27 @@ same_number a b e = exact_unsigned a b (equal (nat_cmp a b) e)
     equal Equal e = refl
     equal Greater e = absurd cc
 
--- a string that was found is found still, where two hashes that none had were given a place
-first_kept : (o o' : Ordered) (strings : List (List ℕ)) (new string : List ℕ) (at : ℕ) → first_at o (both_hashes new) ≡ None
-    → ((hashes : ℕ) → first_at o' hashes ≡ cond (is_eq (nat_cmp (both_hashes new) hashes)) (Some at) (first_at o hashes)) → o'.others ≡ o.others → IsFound o strings string → IsFound o' (strings ++ new ∷ []) string
+-- a string that was found is found still, where a hash that none had was given a place
+first_kept : (o o' : Ordered) (strings : List (List ℕ)) (new string : List ℕ) (at : ℕ) → first_at o (second_hash new) ≡ None
+    → ((hash : ℕ) → first_at o' hash ≡ cond (is_eq (nat_cmp (second_hash new) hash)) (Some at) (first_at o hash)) → o'.others ≡ o.others → IsFound o strings string → IsFound o' (strings ++ new ∷ []) string
 first_kept o o' strings new string at none firsts others is =
-    let hashes = both_hashes string in
-    changed_there (is_eq (nat_cmp (both_hashes new) hashes)) at (first_at o hashes) (first_at o' hashes) (firsts hashes)
-    (λ t. ap (first_at o) (sym (same_number (both_hashes new) hashes t)) ∙ none)
+    let hash = second_hash string in
+    changed_there (is_eq (nat_cmp (second_hash new) hash)) at (first_at o hash) (first_at o' hash) (firsts hash)
+    (λ t. ap (first_at o) (sym (same_number (second_hash new) hash t)) ∙ none)
     (λ a p. elim p [ inl here ↦ inl (place_kept strings (new ∷ []) a string here) | inr other ↦ inr (subst (λ (m : BTreeMap (Vec ℕ Global) ℕ). IsSome (other_at (record o { others = m }) string)) (sym others) other) ])
     is
 
--- the string is found whose hashes were given its place
-first_new : (o' : Ordered) (strings : List (List ℕ)) (new : List ℕ) (at : ℕ) → at ≡ length strings → first_at o' (both_hashes new) ≡ Some at → IsFound o' (strings ++ new ∷ []) new
+-- the string is found whose hash was given its place
+first_new : (o' : Ordered) (strings : List (List ℕ)) (new : List ℕ) (at : ℕ) → at ≡ length strings → first_at o' (second_hash new) ≡ Some at → IsFound o' (strings ++ new ∷ []) new
 first_new o' strings new at k here = rw here (inl (ap (slice_get (strings ++ new ∷ [])) k ∙ place_new strings new))
 
--- a place is given to two hashes that none had
-pub found_first : (o o' : Ordered) (strings : List (List ℕ)) (new : List ℕ) (at : ℕ) → Finds o strings → at ≡ length strings → first_at o (both_hashes new) ≡ None
-    → ((hashes : ℕ) → first_at o' hashes ≡ cond (is_eq (nat_cmp (both_hashes new) hashes)) (Some at) (first_at o hashes)) → first_at o' (both_hashes new) ≡ Some at → o'.others ≡ o.others → Finds o' (strings ++ new ∷ [])
+-- a place is given to a hash that none had
+pub found_first : (o o' : Ordered) (strings : List (List ℕ)) (new : List ℕ) (at : ℕ) → Finds o strings → at ≡ length strings → first_at o (second_hash new) ≡ None
+    → ((hash : ℕ) → first_at o' hash ≡ cond (is_eq (nat_cmp (second_hash new) hash)) (Some at) (first_at o hash)) → first_at o' (second_hash new) ≡ Some at → o'.others ≡ o.others → Finds o' (strings ++ new ∷ [])
 found_first o o' strings new at is k none firsts here others =
     let longer : length (strings ++ new ∷ []) ≡ length strings + 1 = length-append strings (new ∷ []) in
     record {
-      first = λ hashes. changed (is_eq (nat_cmp (both_hashes new) hashes)) at (first_at o hashes) (first_at o' hashes) (firsts hashes) (λ t. omega arith) (λ a lt. omega arith) (is.first hashes);
+      first = λ hash. changed (is_eq (nat_cmp (second_hash new) hash)) at (first_at o hash) (first_at o' hash) (firsts hash) (λ t. omega arith) (λ a lt. omega arith) (is.first hash);
       other = λ s. rw others (weaker (other_at o s) (λ a e. place_kept strings (new ∷ []) a s e) (is.other s));
       each = λ i s e. elim (placed strings new i s e) [
         | inl old ↦ first_kept o o' strings new s at none firsts others (is.each i s old)
@@ -116,26 +116,26 @@ found_first o o' strings new at is k none firsts here others =
 other_kept : (o o' : Ordered) (strings : List (List ℕ)) (new string : List ℕ) (at : ℕ)
     → ((s : List ℕ) → other_at o' s ≡ cond (bytes_eq new s) (Some at) (other_at o s)) → o'.firsts ≡ o.firsts → IsFound o strings string → IsFound o' (strings ++ new ∷ []) string
 other_kept o o' strings new string at others firsts is =
-    subst (λ (m : BTreeMap ℕ ℕ). MatchOption (get nat_cmp m (both_hashes string)) ⊥ (λ a. (slice_get (strings ++ new ∷ []) a ≡ Some string) ⊎ IsSome (other_at o' string))) (sym firsts)
-    (weaker_there (first_at o (both_hashes string)) (λ a p. elim p [ inl here ↦ inl (place_kept strings (new ∷ []) a string here) | inr other ↦ inr (some_kept (bytes_eq new string) at (other_at o string) (other_at o' string) (others string) other) ]) is)
+    subst (λ (m : BTreeMap ℕ ℕ). MatchOption (get nat_cmp m (second_hash string)) ⊥ (λ a. (slice_get (strings ++ new ∷ []) a ≡ Some string) ⊎ IsSome (other_at o' string))) (sym firsts)
+    (weaker_there (first_at o (second_hash string)) (λ a p. elim p [ inl here ↦ inl (place_kept strings (new ∷ []) a string here) | inr other ↦ inr (some_kept (bytes_eq new string) at (other_at o string) (other_at o' string) (others string) other) ]) is)
 
 -- the string is found that was given its place by its bytes
-other_new : (o o' : Ordered) (strings : List (List ℕ)) (new : List ℕ) (at : ℕ) → IsSome (first_at o (both_hashes new)) → other_at o' new ≡ Some at → o'.firsts ≡ o.firsts → IsFound o' strings new
+other_new : (o o' : Ordered) (strings : List (List ℕ)) (new : List ℕ) (at : ℕ) → IsSome (first_at o (second_hash new)) → other_at o' new ≡ Some at → o'.firsts ≡ o.firsts → IsFound o' strings new
 other_new o o' strings new at some here firsts =
-    subst (λ (m : BTreeMap ℕ ℕ). MatchOption (get nat_cmp m (both_hashes new)) ⊥ (λ a. (slice_get strings a ≡ Some new) ⊎ IsSome (other_at o' new))) (sym firsts)
-    (there (first_at o (both_hashes new)) some (rw here refl))
+    subst (λ (m : BTreeMap ℕ ℕ). MatchOption (get nat_cmp m (second_hash new)) ⊥ (λ a. (slice_get strings a ≡ Some new) ⊎ IsSome (other_at o' new))) (sym firsts)
+    (there (first_at o (second_hash new)) some (rw here refl))
   where
     there : (f : Option ℕ) → IsSome f → IsSome (other_at o' new) → MatchOption f ⊥ (λ a. (slice_get strings a ≡ Some new) ⊎ IsSome (other_at o' new))
     there None s t = absurd cc
     there (Some a) s t = inr t
 
 -- a place is given to a string by its bytes
-pub found_other : (o o' : Ordered) (strings : List (List ℕ)) (new : List ℕ) (at : ℕ) → Finds o strings → at ≡ length strings → IsSome (first_at o (both_hashes new))
+pub found_other : (o o' : Ordered) (strings : List (List ℕ)) (new : List ℕ) (at : ℕ) → Finds o strings → at ≡ length strings → IsSome (first_at o (second_hash new))
     → ((s : List ℕ) → other_at o' s ≡ cond (bytes_eq new s) (Some at) (other_at o s)) → other_at o' new ≡ Some at → o'.firsts ≡ o.firsts → Finds o' (strings ++ new ∷ [])
 found_other o o' strings new at is k some others here firsts =
     let longer : length (strings ++ new ∷ []) ≡ length strings + 1 = length-append strings (new ∷ []) in
     record {
-      first = λ hashes. rw firsts (weaker (first_at o hashes) (λ a lt. omega arith) (is.first hashes));
+      first = λ hash. rw firsts (weaker (first_at o hash) (λ a lt. omega arith) (is.first hash));
       other = λ s. changed (bytes_eq new s) at (other_at o s) (other_at o' s) (others s)
           (λ t. subst (λ (x : List ℕ). slice_get (strings ++ new ∷ []) at ≡ Some x) ((bytes_decides new s).0 t) (ap (slice_get (strings ++ new ∷ [])) k ∙ place_new strings new)) (λ a e. place_kept strings (new ∷ []) a s e) (is.other s);
       each = λ i s e. elim (placed strings new i s e) [
@@ -165,21 +165,21 @@ other_after o o' key at h string = test (bytes_eq key.items string) refl
 
 -- ---- maps that find the same
 
-pub found_same : (o o' : Ordered) (strings : List (List ℕ)) → ((hashes : ℕ) → first_at o' hashes ≡ first_at o hashes) → ((string : List ℕ) → other_at o' string ≡ other_at o string) → Finds o strings → Finds o' strings
+pub found_same : (o o' : Ordered) (strings : List (List ℕ)) → ((hash : ℕ) → first_at o' hash ≡ first_at o hash) → ((string : List ℕ) → other_at o' string ≡ other_at o string) → Finds o strings → Finds o' strings
 found_same o o' strings firsts others is = record {
-  first = λ hashes. rw (firsts hashes) (is.first hashes);
+  first = λ hash. rw (firsts hash) (is.first hash);
   other = λ string. rw (others string) (is.other string);
-  each = λ i string e. rw (firsts (both_hashes string), others string) (is.each i string e);
+  each = λ i string e. rw (firsts (second_hash string), others string) (is.each i string e);
 }
 
 -- ---- what a look-up answers
 
--- none has the string's hashes
-pub no_first : (o : Ordered) (strings : List (List ℕ)) (string : List ℕ) → Finds o strings → first_at o (both_hashes string) ≡ None → list_any (bytes_eq string) strings ≡ false
+-- none has the string's hash
+pub no_first : (o : Ordered) (strings : List (List ℕ)) (string : List ℕ) → Finds o strings → first_at o (second_hash string) ≡ None → list_any (bytes_eq string) strings ≡ false
 no_first o strings string is none = absent strings string (λ i e. subst (λ (f : Option ℕ). MatchOption f ⊥ (λ a. (slice_get strings a ≡ Some string) ⊎ IsSome (other_at o string))) none (is.each i string e))
 
--- the one that has them is another, and none of the others is this one
-pub no_other : (o : Ordered) (strings : List (List ℕ)) (string : List ℕ) (at : ℕ) → Finds o strings → first_at o (both_hashes string) ≡ Some at → bytes_eq string (get_or strings at []) ≡ false
+-- the one that has it is another, and none of the others is this one
+pub no_other : (o : Ordered) (strings : List (List ℕ)) (string : List ℕ) (at : ℕ) → Finds o strings → first_at o (second_hash string) ≡ Some at → bytes_eq string (get_or strings at []) ≡ false
     → other_at o string ≡ None → list_any (bytes_eq string) strings ≡ false
 no_other o strings string at is first differs none = absent strings string (λ i e.
     elim (subst (λ (f : Option ℕ). MatchOption f ⊥ (λ a. (slice_get strings a ≡ Some string) ⊎ IsSome (other_at o string))) first (is.each i string e)) [
@@ -187,9 +187,9 @@ no_other o strings string at is first differs none = absent strings string (λ i
       | inr there ↦ (let some : is_some (other_at o string) ≡ true = there in let no : is_some (other_at o string) ≡ false = ap is_some none in absurd cc)
     ])
 
--- the place of two hashes is within
-pub first_within : (o : Ordered) (strings : List (List ℕ)) (hashes at : ℕ) → Finds o strings → first_at o hashes ≡ Some at → at < length strings
-first_within o strings hashes at is e = subst (λ (f : Option ℕ). IfSome f (λ a. a < length strings)) e (is.first hashes)
+-- the place of a hash is within
+pub first_within : (o : Ordered) (strings : List (List ℕ)) (hash at : ℕ) → Finds o strings → first_at o hash ≡ Some at → at < length strings
+first_within o strings hash at is e = subst (λ (f : Option ℕ). IfSome f (λ a. a < length strings)) e (is.first hash)
 
 -- at the place of a string it stands
 pub other_there : (o : Ordered) (strings : List (List ℕ)) (string : List ℕ) (at : ℕ) → Finds o strings → other_at o string ≡ Some at → slice_get strings at ≡ Some string

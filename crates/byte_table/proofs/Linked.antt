@@ -8,7 +8,7 @@ use Rattle.std.proofs.lemmas.Bool.{cases_lt, cases_eq, false_from_ne_true}
 use Rattle.std.proofs.lemmas.List.{get_or_append_left, get_or-map, map-append, length-append, length-map, get_or_at}
 use Rattle.std.proofs.lemmas.Option.{slice_get-get_or}
 use Rattle.byte_table.specs.Hashes.{hash_of}
-use Rattle.byte_table.specs.Links.{IsLink, AreLinked, IsChained, IsPassed}
+use Rattle.byte_table.specs.Links.{IsLink, AreLinked, IsChained, IsPassed, LinksOneMore}
 
 -- ---- links
 
@@ -107,13 +107,9 @@ one_is strings string at lt same = slice_get-get_or strings at [] lt ∙ ap Some
 
 -- ---- one string more
 
--- what linking one string more does
-abbrev pub Links : (hash count : ℕ) → (heads nexts heads' nexts' : List ℕ) → Type 0
-Links hash count heads nexts heads' nexts' = (hashes : List ℕ) → slice_index hashes count ≡ hash → AreLinked (length heads) hashes nexts heads count → AreLinked (length heads) hashes nexts' heads' (count + 1)
-
 -- the chains with one string more
 pub one_more : (strings strings' : List (List ℕ)) (string : List ℕ) (hash count : ℕ) (heads nexts heads' nexts' : List ℕ) → IsChained strings heads nexts → length strings < length nexts
-    → strings' ≡ strings ++ string ∷ [] → hash ≡ hash_of string → count ≡ length strings → Links hash count heads nexts heads' nexts' → length heads' ≡ length heads → length nexts' ≡ length nexts
+    → strings' ≡ strings ++ string ∷ [] → hash ≡ hash_of string → count ≡ length strings → LinksOneMore hash count heads nexts heads' nexts' → length heads' ≡ length heads → length nexts' ≡ length nexts
     → IsChained strings' heads' nexts'
 one_more strings strings' string hash count heads nexts heads' nexts' is room more he k link lh ln =
     let hs : map hash_of strings' ≡ map hash_of strings ++ hash_of string ∷ [] = ap (map hash_of) more ∙ map-append hash_of strings (string ∷ []) in

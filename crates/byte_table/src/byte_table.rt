@@ -8,7 +8,7 @@ ghost use Rattle.byte_table.specs.Hashes.{hash_of};
 #[cfg(test)]
 mod tests;
 
-use crate::chains::{Chains, Walk};
+use crate::chains::Chains;
 use crate::hashes::hash_of;
 use crate::ordered::Ordered;
 use crate::strings::Strings;
@@ -82,25 +82,17 @@ impl ByteTable {
         self.strings.at(at)
     }
 
-    /// Where a string that has this hash stands, and how many others were passed in its chain.
-    fn walk(&self, hash: u32, string: &[u8]) -> Walk
-        requires { hash ≡ hash_of string.now }
-        ensures { MatchOption result.found (list_any (bytes_eq string.now) self.now ≡ false) (λ at. slice_get self.now at ≡ Some string.now) }
-    {
-        match &self.ordered {
-            None => self.chains.walk(&self.strings, hash, string),
-            Some(ordered) => Walk {
-                found: ordered.find(&self.strings, string),
-                passed: 0,
-            },
-        }
-    }
-
     /// The number of a string, where it was added.
     pub fn find(&self, string: &[u8]) -> Option<usize>
         ensures { MatchOption result (list_any (bytes_eq string.now) self.now ≡ false) (λ at. slice_get self.now at ≡ Some string.now) }
     {
-        self.walk(hash_of(string), string).found
+        match &self.ordered {
+            None => {
+                let walk = self.chains.walk(&self.strings, hash_of(string), string);
+                walk.found
+            }
+            Some(ordered) => ordered.find(&self.strings, string),
+        }
     }
 
     /// Goes over to ordered maps.
@@ -122,7 +114,7 @@ impl ByteTable {
     {
         match &mut self.ordered {
             None => self.chains.push(&mut self.strings, hash, string),
-            Some(ordered) => ordered.push(&mut self.strings, hash, string),
+            Some(ordered) => ordered.push(&mut self.strings, string),
         }
     }
 
@@ -132,15 +124,20 @@ impl ByteTable {
         ensures added { IfOk result (λ found. MatchOption found (self.new ≡ self.old ++ string.now ∷ []) (λ at. self.new ≡ self.old)) }
         ensures same { OnErr result (self.new ≡ self.old) }
     {
-        let hash = hash_of(string);
-        let walk = self.walk(hash, string);
-        if let Some(at) = walk.found {
-            return Ok(Some(at));
+        match &mut self.ordered {
+            None => {
+                let hash = hash_of(string);
+                let walk = self.chains.walk(&self.strings, hash, string);
+                if let Some(at) = walk.found {
+                    return Ok(Some(at));
+                }
+                if walk.passed > MOST_STEPS {
+                    self.go_over()?;
+                }
+                self.push(hash, string)?;
+                Ok(None)
+            }
+            Some(ordered) => ordered.insert(&mut self.strings, string),
         }
-        if walk.passed > MOST_STEPS {
-            self.go_over()?;
-        }
-        self.push(hash, string)?;
-        Ok(None)
     }
 }

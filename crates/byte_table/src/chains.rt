@@ -1,9 +1,9 @@
 //! Chains of strings by their hashes.
-ghost use Rattle.std.specs.Prelude.{◌≡◌, ℕ, ◌+◌, ◌<◌, ◌≤◌, ◌^◌, ◌++◌, [], ◌∷◌, false, List, length, map, replicate, slice_get, slice_index, IfOk, MatchOption, OnErr, OnOk, Some};
+ghost use Rattle.std.specs.Prelude.{◌≡◌, ◌+◌, ◌<◌, ◌≤◌, ◌^◌, ◌++◌, [], ◌∷◌, false, length, map, replicate, slice_get, IfOk, MatchOption, OnErr, OnOk, Some};
 ghost use Rattle.std.specs.List.{list_any};
 ghost use Rattle.std.specs.Str.{bytes_eq};
 ghost use Rattle.byte_table.specs.Hashes.{hash_of};
-ghost use Rattle.byte_table.specs.Links.{AreLinked, IsChained};
+ghost use Rattle.byte_table.specs.Links.{AreLinked, IsChained, LinksOneMore};
 
 use crate::strings::Strings;
 use std::alloc::{AllocError, Global};
@@ -31,7 +31,7 @@ pub(crate) fn link(heads: &mut [u32], nexts: &mut [u32], hash: u32, at: u32)
     requires some { 0 < length heads.old }
     requires within { at < length nexts.old }
     requires fits { at + 1 < 2 ^ 32 }
-    ensures { (hashes : List ℕ) → slice_index hashes at ≡ hash → AreLinked (length heads.old) hashes nexts.old heads.old at → AreLinked (length heads.old) hashes nexts.new heads.new (at + 1) }
+    ensures { LinksOneMore hash at heads.old nexts.old heads.new nexts.new }
 {
     let bucket = hash as usize % heads.len();
     nexts[at as usize] = heads[bucket];

@@ -1,11 +1,8 @@
 //! The hashes of byte strings.
 ghost use Rattle.std.specs.Prelude.{◌≡◌};
-ghost use Rattle.byte_table.specs.Hashes.{both_hashes, hash_of};
+ghost use Rattle.byte_table.specs.Hashes.{hash_of, second_hash};
 
-use std::hash::{FoldHasher, Hasher};
-
-/// How many values a hash has.
-const HASHES: u128 = 1 << 64;
+use std::hash::{DefaultHasher, FoldHasher, Hasher};
 
 /// The low half of the hash of bytes.
 #[tactic(auto, unfolding(crate::specs::Hashes::hash_of))]
@@ -17,15 +14,12 @@ pub(crate) fn hash_of(bytes: &[u8]) -> u32
     (state.finish() & 0xffff_ffff) as u32
 }
 
-/// Two hashes of bytes as one number.
-#[tactic(auto, unfolding(crate::specs::Hashes::both_hashes))]
-pub(crate) fn both_hashes(bytes: &[u8]) -> u128
-    ensures { result ≡ both_hashes bytes.now }
+/// The hash of bytes by SipHash-1-3. It takes longer, and no way is known to write down many strings that share it.
+#[tactic(auto, unfolding(crate::specs::Hashes::second_hash))]
+pub(crate) fn second_hash(bytes: &[u8]) -> u64
+    ensures { result ≡ second_hash bytes.now }
 {
-    let mut first = FoldHasher::default();
-    first.write(bytes);
-    let mut second = FoldHasher::default();
-    second.write(b"second");
-    second.write(bytes);
-    u128::from(first.finish()) * HASHES + u128::from(second.finish())
+    let mut state = DefaultHasher::default();
+    state.write(bytes);
+    state.finish()
 }

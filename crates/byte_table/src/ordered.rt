@@ -2,18 +2,17 @@
 ghost use Rattle.std.specs.Prelude.{◌≡◌, ◌++◌, [], ◌∷◌, false, List, ℕ, length, slice_get, IfOk, MatchOption, OnErr, OnOk, Some};
 ghost use Rattle.std.specs.List.{list_any};
 ghost use Rattle.std.specs.Str.{bytes_eq};
-ghost use Rattle.byte_table.specs.Hashes.{hash_of};
 
-use crate::hashes::both_hashes;
+use crate::hashes::{hash_of, second_hash};
 use crate::strings::Strings;
 use std::alloc::{AllocError, Global};
 use std::collections::BTreeMap;
 
-/// Where strings stand: one of those that share both hashes by these alone, so that numbers are compared, and the
-/// others by their bytes.
+/// Where strings stand: one of those that share the second hash by that alone, so that numbers are compared, and
+/// the others by their bytes.
 #[derive(Drop)]
 pub(crate) struct Ordered {
-    pub(crate) firsts: BTreeMap<u128, u32>,
+    pub(crate) firsts: BTreeMap<u64, u32>,
     pub(crate) others: BTreeMap<Vec<u8>, u32>,
 }
 
@@ -47,8 +46,8 @@ impl Ordered {
         requires { Finds self.now strings.now }
         ensures { MatchOption result (list_any (bytes_eq string.now) strings.now ≡ false) (λ at. slice_get strings.now at ≡ Some string.now) }
     {
-        let hashes = both_hashes(string);
-        let first = *self.firsts.get(&hashes)? as usize;
+        let hash = second_hash(string);
+        let first = *self.firsts.get(&hash)? as usize;
         if string == strings.at(first) {
             return Some(first);
         }
@@ -61,31 +60,25 @@ impl Ordered {
         ensures added { OnOk result ((strings : List (List ℕ)) → at ≡ length strings → Finds self.old strings → Finds self.new (strings ++ string.now ∷ [])) }
         ensures same { OnErr result ((strings : List (List ℕ)) → Finds self.old strings → Finds self.new strings) }
     {
-        let hashes = both_hashes(string);
-        if self.firsts.contains_key(&hashes) {
+        let hash = second_hash(string);
+        if self.firsts.contains_key(&hash) {
             let key = Vec::from_slice(alloc, string)?;
             self.others.insert(key, at)?;
         } else {
-            self.firsts.insert(hashes, at)?;
+            self.firsts.insert(hash, at)?;
         }
         Ok(())
     }
 
-    /// Puts a string that has this hash behind all others, and adds where it stands.
-    pub(crate) fn push(
-        &mut self,
-        strings: &mut Strings,
-        hash: u32,
-        string: &[u8],
-    ) -> Result<(), AllocError>
-        requires finds { Finds self.old strings.old }
-        requires hash { hash ≡ hash_of string.now }
+    /// Puts a string behind all others, and adds where it stands.
+    pub(crate) fn push(&mut self, strings: &mut Strings, string: &[u8]) -> Result<(), AllocError>
+        requires { Finds self.old strings.old }
         ensures finds { Finds self.new strings.new }
         ensures added { OnOk result (strings.new ≡ strings.old ++ string.now ∷ []) }
         ensures same { OnErr result (strings.new ≡ strings.old) }
     {
         let count = strings.len();
-        strings.push(hash, string)?;
+        strings.push(hash_of(string), string)?;
         match self.add(strings.allocator(), string, count as u32) {
             Ok(()) => Ok(()),
             Err(failed) => {
@@ -93,5 +86,24 @@ impl Ordered {
                 Err(failed)
             }
         }
+    }
+
+    /// Puts a string behind all others, and answers nothing; or answers where it stands among them.
+    pub(crate) fn insert(
+        &mut self,
+        strings: &mut Strings,
+        string: &[u8],
+    ) -> Result<Option<usize>, AllocError>
+        requires { Finds self.old strings.old }
+        ensures finds { Finds self.new strings.new }
+        ensures found { IfOk result (λ found. MatchOption found (list_any (bytes_eq string.now) strings.old ≡ false) (λ at. slice_get strings.old at ≡ Some string.now)) }
+        ensures added { IfOk result (λ found. MatchOption found (strings.new ≡ strings.old ++ string.now ∷ []) (λ at. strings.new ≡ strings.old)) }
+        ensures same { OnErr result (strings.new ≡ strings.old) }
+    {
+        if let Some(at) = self.find(strings, string) {
+            return Ok(Some(at));
+        }
+        self.push(strings, string)?;
+        Ok(None)
     }
 }

@@ -72,6 +72,29 @@ cmp_in_unit a b i j k e f =
     let y : size_beside b a * 10 ^ k ≡ b.digits * 10 ^ (b.up + a.down + k) = times_zeros b.digits (b.up + a.down) k in
     rw (e, f, ← x, ← y) (sym (signed_cmp-times a.negative b.negative (size_beside a b) (size_beside b a) (10 ^ k) (one_le_ten k)))
 
+-- three decimals in one unit: with these factors each two of them compare as their sizes do
+record InOneUnit (a b c : DecimalValue) : Type 0 where
+  x : ℕ
+  y : ℕ
+  z : ℕ
+  first : decimal_cmp a b ≡ signed_cmp a.negative x b.negative y
+  second : decimal_cmp b c ≡ signed_cmp b.negative y c.negative z
+  outer : decimal_cmp a c ≡ signed_cmp a.negative x c.negative z
+
+in_one_unit : (a b c : DecimalValue) → InOneUnit a b c
+in_one_unit a b c =
+    let i : ℕ = a.up + b.down + c.down in
+    let j : ℕ = b.up + a.down + c.down in
+    let k : ℕ = c.up + a.down + b.down in
+    record {
+      x = a.digits * 10 ^ i;
+      y = b.digits * 10 ^ j;
+      z = c.digits * 10 ^ k;
+      first = cmp_in_unit a b i j c.down (omega arith) (omega arith);
+      second = cmp_in_unit b c j k a.down (omega arith) (omega arith);
+      outer = cmp_in_unit a c i k b.down (omega arith) (omega arith);
+    }
+
 -- turned round
 decimal_reverse : (a b : DecimalValue) → decimal_cmp a b ≡ ordering_reverse (decimal_cmp b a)
 unfolding decimal_cmp
@@ -80,24 +103,14 @@ decimal_reverse a b = signed_reverse a.negative b.negative (size_beside a b) (si
 -- one below the next, and that one below a third
 decimal_trans : (a b c : DecimalValue) → decimal_cmp a b ≡ Less → decimal_cmp b c ≡ Less → decimal_cmp a c ≡ Less
 decimal_trans a b c p q =
-    let i : ℕ = a.up + b.down + c.down in
-    let j : ℕ = b.up + a.down + c.down in
-    let k : ℕ = c.up + a.down + b.down in
-    cmp_in_unit a c i k b.down (omega arith) (omega arith)
-    ∙ signed_trans a.negative b.negative c.negative (a.digits * 10 ^ i) (b.digits * 10 ^ j) (c.digits * 10 ^ k)
-    (sym (cmp_in_unit a b i j c.down (omega arith) (omega arith)) ∙ p)
-    (sym (cmp_in_unit b c j k a.down (omega arith) (omega arith)) ∙ q)
+    let u = in_one_unit a b c in
+    u.outer ∙ signed_trans a.negative b.negative c.negative u.x u.y u.z (sym u.first ∙ p) (sym u.second ∙ q)
 
 -- what is equal compares alike with a third
 decimal_congr : (a b c : DecimalValue) → decimal_cmp a b ≡ Equal → decimal_cmp a c ≡ decimal_cmp b c
 decimal_congr a b c p =
-    let i : ℕ = a.up + b.down + c.down in
-    let j : ℕ = b.up + a.down + c.down in
-    let k : ℕ = c.up + a.down + b.down in
-    cmp_in_unit a c i k b.down (omega arith) (omega arith)
-    ∙ signed_congr a.negative b.negative c.negative (a.digits * 10 ^ i) (b.digits * 10 ^ j) (c.digits * 10 ^ k)
-    (sym (cmp_in_unit a b i j c.down (omega arith) (omega arith)) ∙ p)
-    ∙ sym (cmp_in_unit b c j k a.down (omega arith) (omega arith))
+    let u = in_one_unit a b c in
+    u.outer ∙ signed_congr a.negative b.negative c.negative u.x u.y u.z (sym u.first ∙ p) ∙ sym u.second
 
 -- the order is total
 pub decimal_cmp_total : IsTotalOrder decimal_cmp

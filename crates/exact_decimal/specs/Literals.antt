@@ -1,7 +1,7 @@
 -- How a number is printed: plainly where its leading digit stands at a power of ten from -5 to 20, else with an exponent.
 -- RFC 8259 (JSON), section 6; ProtoJSON, whose strings stand for the infinities and NaN; OpenMetrics 1.0, "ABNF" (number).
 -- Which of a value's literals is taken is the bridge's own.
-use Rattle.std.specs.Prelude.{ℕ, ◌+◌, ◌-◌, Bool, true, false, ◌&&◌, List, [], ◌∷◌, ◌++◌, length, take, drop, replicate, codes, nat_le, if◌then◌else◌}
+use Rattle.std.specs.Prelude.{◌≡◌, ℕ, ◌+◌, ◌-◌, ◌*◌, ◌^◌, ◌<◌, Bool, true, false, ◌&&◌, List, [], ◌∷◌, ◌++◌, length, take, drop, replicate, codes, nat_le, if◌then◌else◌}
 use Rattle.std.specs.Fmt.{decimal}
 use Rattle.exact_decimal.specs.declared.number.Number.{Number}
 use Rattle.exact_decimal.specs.declared.number.Number.TheVariants.{Finite, Up, Down, NotANumber}
@@ -36,6 +36,14 @@ exponent_text digits up down = pointed digits 1 ++ (101 ∷ difference_text (up 
 -- the first of so many digits stands at a power of ten from -5 to 20, as that of zero does
 unfoldable pub is_plain : ℕ → ℕ → ℕ → Bool
 is_plain places up down = nat_le down (up + (places - 1) + 5) && nat_le (up + (places - 1)) (down + 20)
+
+-- a digit at least and two powers of ten, of which one is 0, and whose sums 32 bits hold
+abbrev pub IsSize : ℕ → ℕ → ℕ → Type 0
+IsSize places up down = (0 < places) × (up + down + places < 2 ^ 32) × (up * down ≡ 0)
+
+-- the most characters of a literal beside its digits and zeros: `0.` or a point, `e`, and a power with its sign
+abbrev pub most_beside : ℕ
+most_beside = 24
 
 -- the literal of digits × 10 ^ up / 10 ^ down
 unfoldable pub size_text : List ℕ → ℕ → ℕ → List ℕ

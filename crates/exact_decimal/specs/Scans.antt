@@ -46,18 +46,22 @@ unfoldable pub tail_text : List ℕ → List ℕ
 tail_text [] = []
 tail_text (c ∷ cs) = cs
 
--- the value of digits, up to 10,000
+-- an exponent past this breaks a limit whatever the digits are
+abbrev pub most_exponent : ℕ
+most_exponent = 10000
+
+-- the value of digits, up to the most exponent
 pub record IsCapped (ds : List ℕ) (value : ℕ) : Type 0 where
   pub digits : is_digits ds ≡ true
-  pub capped : value ≡ min (digits_value 10 ds) 10000
+  pub capped : value ≡ min (digits_value 10 ds) most_exponent
 
--- the powers of ten of a tail, up to 10,000
+-- the powers of ten of a tail, up to the most exponent
 pub record IsExponent (tail : List ℕ) (up down : ℕ) : Type 0 where
   pub tail_is : is_tail tail ≡ true
-  pub up_is : up ≡ min (multiplies_by (tail_text tail)) 10000
-  pub down_is : down ≡ min (divides_by (tail_text tail)) 10000
+  pub up_is : up ≡ min (multiplies_by (tail_text tail)) most_exponent
+  pub down_is : down ≡ min (divides_by (tail_text tail)) most_exponent
 
--- the parts of a real; its value is exact below 2 ^ 64 - 1, and its powers up to 10,000
+-- the parts of a real; its value is exact below 2 ^ 64 - 1, and its powers up to the most exponent
 pub record IsScanned (token : List ℕ) (negative : Bool) (whole fraction : List ℕ) (value up down : ℕ) : Type 0 where
   pub real : is_real token ≡ true
   pub sign : negative ≡ has_minus token
@@ -66,8 +70,8 @@ pub record IsScanned (token : List ℕ) (negative : Bool) (whole fraction : List
   pub are_digits : AreDigits (whole ++ fraction)
   pub fits : length whole + length fraction ≤ length token
   pub exact : value < 2 ^ 64 - 1 → value ≡ digits_value 10 (whole ++ fraction)
-  pub up_is : up ≡ min (multiplies_by (exponent_part token)) 10000
-  pub down_is : down ≡ min (divides_by (exponent_part token)) 10000
+  pub up_is : up ≡ min (multiplies_by (exponent_part token)) most_exponent
+  pub down_is : down ≡ min (divides_by (exponent_part token)) most_exponent
 
 -- digits without their outer zeros, how many zeros were left out at the end, and how many digits are kept
 pub record Keeps (ds : List ℕ) (digits zeros places : ℕ) : Type 0 where

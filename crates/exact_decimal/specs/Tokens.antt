@@ -161,6 +161,10 @@ is_within ds up down = digits_value 10 ds == 0
 unfoldable pub decimal_of : List ℕ → DecimalValue
 decimal_of token = one_form (has_minus token) (digits_part token) (power_up token) (power_down token)
 
--- a real keeps the limits: at most 128 bytes, and those on its digits and power
+-- the most bytes that a token may have
+abbrev pub most_bytes : ℕ
+most_bytes = 128
+
+-- a real keeps the limits: that on its bytes, and those on its digits and power
 unfoldable pub is_in_limits : List ℕ → Bool
-is_in_limits token = nat_le (length token) 128 && is_within (digits_part token) (power_up token) (power_down token)
+is_in_limits token = nat_le (length token) most_bytes && is_within (digits_part token) (power_up token) (power_down token)

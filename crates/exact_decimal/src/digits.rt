@@ -2,7 +2,7 @@
 
 ghost use Rattle.std.specs.Prelude.{◌≡◌, ◌≢◌, ℕ, List, ◌+◌, ◌-◌, ◌*◌, ◌^◌, ◌%◌, ◌<◌, ◌≤◌, ◌++◌, ◌∷◌, [], true, length, MatchOption, IfSome};
 ghost use Rattle.std.specs.Char.{is_ascii_digit};
-ghost use Rattle.exact_decimal.specs.Tokens.{significant_digits};
+ghost use Rattle.exact_decimal.specs.Tokens.{significant_digits, most_bytes};
 ghost use Rattle.exact_decimal.specs.Scans.{AreDigits, Keeps};
 
 /// The most significant digits that a number may have.
@@ -27,7 +27,7 @@ impl Kept {
     /// One digit more; nothing where more than 38 would be kept.
     fn push(self, digit: u8) -> Option<Kept>
         requires digit { is_ascii_digit digit ≡ true }
-        requires room { self.zeros < 1000 }
+        requires room { self.zeros < most_bytes }
         ensures keeps { (ds : List ℕ) → Keeps ds self.digits self.zeros self.places →
             MatchOption result (38 < length (significant_digits (ds ++ digit ∷ [])))
             (λ k. Keeps (ds ++ digit ∷ []) k.digits k.zeros k.places) }
@@ -58,7 +58,7 @@ impl Kept {
     /// More digits; nothing where more than 38 would be kept.
     fn push_all(self, digits: &[u8]) -> Option<Kept>
         requires digits { AreDigits digits.now }
-        requires room { self.zeros + length digits.now < 1000 }
+        requires room { self.zeros + length digits.now ≤ most_bytes }
         ensures keeps { (ds : List ℕ) → AreDigits ds → Keeps ds self.digits self.zeros self.places →
             MatchOption result (38 < length (significant_digits (ds ++ digits.now)))
             (λ k. Keeps (ds ++ digits.now) k.digits k.zeros k.places) }
@@ -77,10 +77,10 @@ impl Kept {
     /// The digits on both sides of a point; nothing where more than 38 would be kept.
     pub(crate) fn of(whole: &[u8], fraction: &[u8]) -> Option<Kept>
         requires digits { AreDigits (whole.now ++ fraction.now) }
-        requires room { length whole.now + length fraction.now ≤ 128 }
+        requires room { length whole.now + length fraction.now ≤ most_bytes }
         ensures keeps { MatchOption result (38 < length (significant_digits (whole.now ++ fraction.now)))
             (λ k. Keeps (whole.now ++ fraction.now) k.digits k.zeros k.places) }
-        ensures room { IfSome result (λ k. k.zeros ≤ 128) }
+        ensures room { IfSome result (λ k. k.zeros ≤ most_bytes) }
     {
         let none = Kept {
             digits: 0,

@@ -2,7 +2,7 @@
 
 ghost use Rattle.std.specs.Prelude.{◌≡◌, ℕ, List, ◌+◌, ◌*◌, ◌^◌, ◌<◌, ◌≤◌, length};
 ghost use Rattle.std.specs.Fmt.{decimal};
-ghost use Rattle.exact_decimal.specs.Literals.{sign_text, pointed, plain_text, difference_text, exponent_text, size_text, decimal_text, number_json};
+ghost use Rattle.exact_decimal.specs.Literals.{sign_text, pointed, plain_text, difference_text, exponent_text, IsSize, most_beside, size_text, decimal_text, number_json};
 
 use crate::decimal::Decimal;
 use crate::number::Number;
@@ -62,11 +62,9 @@ fn sign_len(negative: bool) -> usize
 
 #[tactic(auto, unfolding(crate::specs::Literals::size_text))]
 fn size_len(places: usize, up: usize, down: usize) -> usize
-    requires some { 0 < places }
-    requires small { up + down + places < 2 ^ 32 }
-    requires one_power { up * down ≡ 0 }
+    requires { IsSize places up down }
     ensures size { (digits : List ℕ) → length digits ≡ places → result ≡ length (size_text digits up down) }
-    ensures few { result < 2 ^ 33 }
+    ensures few { result ≤ places + up + down + most_beside }
 {
     if prints_plainly(places, up, down) {
         plain_len(places, up, down)
@@ -76,11 +74,9 @@ fn size_len(places: usize, up: usize, down: usize) -> usize
 }
 
 fn plain_len(places: usize, up: usize, down: usize) -> usize
-    requires some { 0 < places }
-    requires small { up + down + places < 2 ^ 32 }
-    requires one_power { up * down ≡ 0 }
+    requires { IsSize places up down }
     ensures plain { (digits : List ℕ) → length digits ≡ places → result ≡ length (plain_text digits up down) }
-    ensures few { result < 2 ^ 33 }
+    ensures few { result ≤ places + up + down + most_beside }
 {
     if down < places {
         pointed_len(places, places - down) + up
@@ -94,7 +90,7 @@ fn exponent_len(places: usize, up: usize, down: usize) -> usize
     requires some { 0 < places }
     requires small { up + down + places < 2 ^ 32 }
     ensures exponent { (digits : List ℕ) → length digits ≡ places → result ≡ length (exponent_text digits up down) }
-    ensures few { result < 2 ^ 33 }
+    ensures few { result ≤ places + up + down + most_beside }
 {
     pointed_len(places, 1) + b"e".len() + difference_len(up + (places - 1), down)
 }

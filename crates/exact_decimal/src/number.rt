@@ -3,9 +3,9 @@
 
 ghost use Rattle.std.specs.Prelude.{◌≡◌, ℕ, List, ◌+◌, ◌-◌, ◌^◌, ◌<◌, ◌≤◌, ◌++◌, false, length};
 ghost use Rattle.std.specs.Str.Parse.{digits_value};
-ghost use Rattle.exact_decimal.specs.Tokens.{is_real};
+ghost use Rattle.exact_decimal.specs.Tokens.{is_real, most_bytes};
 ghost use Rattle.exact_decimal.specs.Numbers.{number_read, number_of};
-ghost use Rattle.exact_decimal.specs.Scans.{AreDigits, Keeps, within_limits};
+ghost use Rattle.exact_decimal.specs.Scans.{AreDigits, Keeps, most_exponent, within_limits};
 
 use crate::decimal::Decimal;
 use crate::digits::Kept;
@@ -48,9 +48,9 @@ pub enum NumberFault {
 
 /// The number of a sign, the digits that are kept and the powers of ten that multiply and divide them.
 fn kept_number(kept: Kept, negative: bool, up: u32, down: u32) -> Result<Number, NumberFault>
-    requires up { up ≤ 10000 }
-    requires down { down ≤ 20000 }
-    requires zeros { kept.zeros ≤ 128 }
+    requires up { up ≤ most_exponent }
+    requires down { down ≤ most_exponent + most_exponent }
+    requires zeros { kept.zeros ≤ most_bytes }
     ensures { (ds : List ℕ) → Keeps ds kept.digits kept.zeros kept.places → result ≡ within_limits negative ds up down }
 {
     if kept.places == 0 {
@@ -77,9 +77,9 @@ fn kept_number(kept: Kept, negative: bool, up: u32, down: u32) -> Result<Number,
 fn real_number(real: Real<'_>) -> Result<Number, NumberFault>
     requires digits { AreDigits (real.whole.now ++ real.fraction.now) }
     requires exact { real.value < 2 ^ 64 - 1 → real.value ≡ digits_value 10 (real.whole.now ++ real.fraction.now) }
-    requires few { length real.whole.now + length real.fraction.now ≤ 128 }
-    requires up { real.up ≤ 10000 }
-    requires down { real.down ≤ 10000 }
+    requires few { length real.whole.now + length real.fraction.now ≤ most_bytes }
+    requires up { real.up ≤ most_exponent }
+    requires down { real.down ≤ most_exponent }
     ensures { let r = real.entry in result ≡ within_limits r.negative (r.whole.now ++ r.fraction.now) r.up (r.down + length r.fraction.now) }
 {
     let down = real.down + real.fraction.len() as u32;

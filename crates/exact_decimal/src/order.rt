@@ -93,13 +93,10 @@ pub fn whole(n: &Number) -> Option<u64>
 pub fn nanos(n: &Number) -> Option<u64>
     ensures { result ≡ nanos n.now }
 {
-    let Number::Finite(d) = n else {
-        return None;
-    };
-    if d.negative() {
-        return None;
+    match n {
+        Number::Finite(d) if !d.negative() => floor_in_64_bits(d, 9),
+        _ => None,
     }
-    floor_in_64_bits(d, 9)
 }
 
 // The greatest whole number not above `10 ^ more` times the value without its sign, where 64 bits hold it.

@@ -1,123 +1,44 @@
 -- The page of what a checker keeps is the page of the lines that it took.
-use Rattle.std.proofs.Common.{◌≡◌, ℕ, Bool, true, false, cond, not, ◌&&◌, ◌||◌, List, [], ◌∷◌, ◌++◌, map, filter, filter_map, drop, length, Option, Some, None, refl, sym, ap, subst, ◌∙◌, reverse, is_some}
+use Rattle.std.proofs.Common.{◌≡◌, ℕ, Bool, true, false, cond, not, ◌&&◌, ◌||◌, List, [], ◌∷◌, ◌++◌, map, filter, filter_map, drop, length, Option, Some, None, refl, sym, ap, ◌∙◌, reverse}
 use Rattle.std.specs.Prelude.{codes, option_map, unwrap_or}
 use Rattle.std.specs.List.{list_any, flat_map, cons_option}
-use Rattle.std.specs.Option.{option_or, option_to_list}
+use Rattle.std.specs.Option.{option_to_list}
 use Rattle.std.specs.Str.{bytes_eq}
 use Rattle.std.specs.Cmp.Lexicographic.{bytes_decides}
 use Rattle.std.proofs.lemmas.List.{append-nil, map-append, append_assoc}
 use Rattle.std.proofs.lemmas.List.Elements.{filter-append, filter_map-append}
 use Rattle.std.proofs.lemmas.Grind.{flat_map-append}
 use Rattle.label_sets.specs.declared.kind.Kind.{Kind}
-use Rattle.label_sets.specs.declared.kind.Kind.TheVariants.{Counter, Gauge, Histogram, GaugeHistogram, StateSet, Info, Summary, Unknown}
+use Rattle.label_sets.specs.declared.kind.Kind.TheVariants.{Counter, Gauge, StateSet, Info, Unknown}
 use Rattle.label_sets.specs.declared.label_set.LabelSet.{LabelSet}
 use Rattle.label_sets.specs.Labels.{label_sets_eq}
 use Rattle.label_sets.specs.Lists.{first_of_each, first_some, some_passes}
-use Rattle.page_model.specs.declared.format.Format.{Format}
-use Rattle.page_model.specs.declared.format.Format.TheVariants.{Text}
 use Rattle.page_model.specs.declared.item.Item.{Item}
-use Rattle.page_model.specs.declared.item.Item.TheVariants as items
 use Rattle.page_model.specs.declared.item.Sample.{Sample}
 use Rattle.page_model.specs.declared.page.Reading.{Reading}
-use Rattle.page_model.specs.declared.rule.Rule.{Rule}
 use Rattle.page_model.specs.declared.rule.Rule.TheVariants as rules
 use Rattle.page_model.specs.Faults.{end_fault, end_breaks}
 use Rattle.page_model.specs.Written.{Setting}
-use Rattle.page_model.specs.Items.{is_eof, sample_of_line, kind_of_line, help_of_line, unit_of_line, is_descriptor}
+use Rattle.page_model.specs.Items.{sample_of_line, kind_of_line, help_of_line, unit_of_line}
 use Rattle.page_model.specs.Owners.{Owned, is_of, declared_kind, kind_of, owned_lines, samples_of, kept_labels}
-use Rattle.page_model.specs.Rules.{is_late_descriptor, is_split, is_same_series, is_duplicate, is_open_metrics, is_without_eof}
-use Rattle.page_model.specs.Readings.{value_with, value_of, stamp_of, exemplars_of, reading_labels, key_name, reading_of, readings_of, help_in, unit_in, family_of, families_of, page_of}
+use Rattle.page_model.specs.Rules.{is_split, is_same_series, is_duplicate, is_open_metrics, is_without_eof, has_suffix}
+use Rattle.page_model.specs.Readings.{value_with, counter_suffix, value_of, stamp_of, exemplars_of, reading_labels, key_name, reading_of, readings_of, help_in, unit_in, family_of, families_of, page_of}
 use Rattle.packed_keys.specs.declared.sample_key.SampleKey.{SampleKey}
 use Rattle.sample_groups.specs.Groups.{groups_from, reading_from}
 use Rattle.sample_groups.specs.Parts.{is_grouped, entry_of}
 use Rattle.sample_groups.specs.Sound.{AreSound}
 use Rattle.sample_groups.proofs.Laws.{readings_made}
-use Rattle.family_rules.specs.Checking.{has_sort, has_samples, groups_so_far, so_far, left_before, key_of, keys_above, Checking, Stands, left_families, current_family}
-use Rattle.family_rules.specs.Steps.{left_stop, page_at, with_left, plain_reading, readings_at, readings_in, family_at, families_at}
-use Rattle.family_rules.proofs.Lists.{bytes_same, reverse-cons, first_of_each-snoc, first_some-append, list_any-map, list_any-reverse, pairs, lookup-map, insert_entry-last}
-use Rattle.family_rules.proofs.Standing.{label_sets_swap, left_at_end}
+use Rattle.family_rules.specs.Checking.{groups_so_far, so_far, left_before, key_of, keys_above, Checking, Stands, left_families, current_family}
+use Rattle.family_rules.specs.Steps.{with_left, end_stop}
+use Rattle.family_rules.specs.Made.{page_at, plain_reading, readings_at, readings_in, family_at, families_at}
+use Rattle.page_model.specs.declared.page.Value.TheVariants as values
+use Rattle.family_rules.proofs.Plain.{single_suffix, suffix_is, no_created, plain_name, ungrouped_counter}
+use Rattle.family_rules.proofs.Lists.{bytes_same, label_sets_swap, reverse-cons, first_of_each-snoc, list_any-map, list_any-reverse, pairs, lookup-map, insert_entry-last}
+use Rattle.family_rules.proofs.Standing.{left_at_end}
 use Rattle.std.specs.Map.{lookup}
-use Rattle.family_rules.proofs.Faults.{fit_lines, or_parts, is_plain, plain_or_grouped, plain_name, text_family, sound_samples, left_fault, AreFit, drop_all}
-use Rattle.family_rules.proofs.Kept.{fresh, families_of-reverse, samples_of-reverse, reversed_samples, own_samples, none_of_other, late_known}
-
--- ---- one descriptor of a sort
-
-none_of_some : {A : Type 0} (o : Option A) → is_some o ≡ false → o ≡ None
-none_of_some None h = refl
-none_of_some (Some x) h = absurd (let f : true ≡ false = h in cc)
-
--- a late descriptor would have one before it
-no_earlier : (st : Setting) (above : List Owned) (o : Owned) → is_descriptor o.item ≡ true → is_late_descriptor above o ≡ false → has_sort o.item (so_far st above o.family) ≡ false
-no_earlier st above o d h = (or_parts (has_sort o.item (so_far st above o.family)) (has_samples (so_far st above o.family)) (sym (late_known st above o.family o.item d) ∙ h)).0
-
--- what one line says of a family is said by no earlier line
-module _ {A : Type 0} (of_line : Item → Option A) where
-  abbrev said : List ℕ → Owned → Option A
-  said F o = cond (is_of F o) (of_line o.item) None
-
-  abbrev Once : List Owned → Type 0
-  Once [] = Unit {0}
-  Once (o ∷ above) = ((x : A) → of_line o.item ≡ Some x → first_some (said o.family) above ≡ None) × Once above
-
-  join : (b : Bool) (o : Option A) (rest : Option A) → ((x : A) → b ≡ true → o ≡ Some x → rest ≡ None) → option_or rest (option_or (cond b o None) None) ≡ option_or (cond b o None) rest
-  join false o None h = refl
-  join false o (Some y) h = refl
-  join true None None h = refl
-  join true None (Some y) h = refl
-  join true (Some x) rest h = ap (λ r. option_or r (Some x)) (h x refl refl) ∙ sym (ap (λ r. option_or (Some x) r) (h x refl refl))
-
-  once_reverse : (above : List Owned) (F : List ℕ) → Once above → first_some (said F) (reverse above) ≡ first_some (said F) above
-  once_reverse [] F h = refl
-  once_reverse (o ∷ above) F h =
-      ap (first_some (said F)) (reverse-cons o above) ∙ first_some-append (said F) (reverse above) (o ∷ [])
-      ∙ ap (λ r. option_or r (option_or (said F o) None)) (once_reverse above F h.1)
-      ∙ join (is_of F o) (of_line o.item) (first_some (said F) above) (λ x own says.
-      subst (λ G. first_some (said G) above ≡ None) ((bytes_decides o.family F).0 own) (h.0 x says))
-
-help_first : (st : Setting) (above : List Owned) (F : List ℕ) (item : Item) (x : List ℕ) → is_late_descriptor above (record { family = F; item = item }) ≡ false → help_of_line item ≡ Some x
-    → first_some (said help_of_line F) above ≡ None
-unfolding so_far
-help_first st above F (items.Help n t) x late says = none_of_some (first_some (said help_of_line F) above) (no_earlier st above (record { family = F; item = items.Help n t }) refl late)
-help_first st above F items.Blank x late says = absurd (let f : None ≡ Some x = says in cc)
-help_first st above F items.Comment x late says = absurd (let f : None ≡ Some x = says in cc)
-help_first st above F items.Eof x late says = absurd (let f : None ≡ Some x = says in cc)
-help_first st above F (items.KindOf n k) x late says = absurd (let f : None ≡ Some x = says in cc)
-help_first st above F (items.Unit n u) x late says = absurd (let f : None ≡ Some x = says in cc)
-help_first st above F (items.Sample s) x late says = absurd (let f : None ≡ Some x = says in cc)
-
-kind_first : (st : Setting) (above : List Owned) (F : List ℕ) (item : Item) (x : Kind) → is_late_descriptor above (record { family = F; item = item }) ≡ false → kind_of_line item ≡ Some x
-    → first_some (said kind_of_line F) above ≡ None
-unfolding so_far
-kind_first st above F (items.KindOf n k) x late says = none_of_some (first_some (said kind_of_line F) above) (no_earlier st above (record { family = F; item = items.KindOf n k }) refl late)
-kind_first st above F items.Blank x late says = absurd (let f : None ≡ Some x = says in cc)
-kind_first st above F items.Comment x late says = absurd (let f : None ≡ Some x = says in cc)
-kind_first st above F items.Eof x late says = absurd (let f : None ≡ Some x = says in cc)
-kind_first st above F (items.Help n t) x late says = absurd (let f : None ≡ Some x = says in cc)
-kind_first st above F (items.Unit n u) x late says = absurd (let f : None ≡ Some x = says in cc)
-kind_first st above F (items.Sample s) x late says = absurd (let f : None ≡ Some x = says in cc)
-
-unit_first : (st : Setting) (above : List Owned) (F : List ℕ) (item : Item) (x : List ℕ) → is_late_descriptor above (record { family = F; item = item }) ≡ false → unit_of_line item ≡ Some x
-    → first_some (said unit_of_line F) above ≡ None
-unfolding so_far
-unit_first st above F (items.Unit n u) x late says = none_of_some (first_some (said unit_of_line F) above) (no_earlier st above (record { family = F; item = items.Unit n u }) refl late)
-unit_first st above F items.Blank x late says = absurd (let f : None ≡ Some x = says in cc)
-unit_first st above F items.Comment x late says = absurd (let f : None ≡ Some x = says in cc)
-unit_first st above F items.Eof x late says = absurd (let f : None ≡ Some x = says in cc)
-unit_first st above F (items.Help n t) x late says = absurd (let f : None ≡ Some x = says in cc)
-unit_first st above F (items.KindOf n k) x late says = absurd (let f : None ≡ Some x = says in cc)
-unit_first st above F (items.Sample s) x late says = absurd (let f : None ≡ Some x = says in cc)
-
-help_once : (st : Setting) (above : List Owned) → AreFit st above → Once help_of_line above
-help_once st [] fit = tt
-help_once st (o ∷ above) fit = (λ x says. help_first st above o.family o.item x fit.0.descriptor says, help_once st above fit.1)
-
-kind_once : (st : Setting) (above : List Owned) → AreFit st above → Once kind_of_line above
-kind_once st [] fit = tt
-kind_once st (o ∷ above) fit = (λ x says. kind_first st above o.family o.item x fit.0.descriptor says, kind_once st above fit.1)
-
-unit_once : (st : Setting) (above : List Owned) → AreFit st above → Once unit_of_line above
-unit_once st [] fit = tt
-unit_once st (o ∷ above) fit = (λ x says. unit_first st above o.family o.item x fit.0.descriptor says, unit_once st above fit.1)
+use Rattle.family_rules.proofs.Faults.{fit_lines, or_parts, sound_samples, AreFit}
+use Rattle.family_rules.proofs.Once.{help_sort, kind_sort, unit_sort, said_once}
+use Rattle.family_rules.proofs.Kept.{fresh, families_of-reverse, samples_of-reverse, reversed_samples, own_samples, none_of_other, no_samples}
 
 -- ---- lists
 
@@ -186,40 +107,41 @@ module _ (st : Setting) where
   AreFresh F [] = Unit {0}
   AreFresh F (y ∷ samples) = (list_any (λ t. label_sets_eq (kept t) (kept y)) samples ≡ false) × (y.name ≡ F) × AreFresh F samples
 
-  plain_names : (k : Kind) (F : List ℕ) (samples : List Sample) → st.format ≡ Text → is_plain k ≡ true → AreSound st k F samples → AreNamed F samples
-  plain_names k F [] text plain sound = tt
-  plain_names k F (y ∷ samples) text plain sound = (plain_name st k F y text plain sound.0.named, plain_names k F samples text plain sound.1)
+  plain_names : (k : Kind) (F : List ℕ) (samples : List Sample) → is_grouped st.format k ≡ false → AreSound st k F samples → AreNamed (F ++ single_suffix k) samples
+  plain_names k F [] plain sound = tt
+  plain_names k F (y ∷ samples) plain sound = (plain_name st k F y plain sound.0.named, plain_names k F samples plain sound.1)
 
-  other_labels : (t y : Sample) (F : List ℕ) → t.name ≡ F → y.name ≡ F → is_same_series st y t ≡ false → label_sets_eq (kept t) (kept y) ≡ false
-  other_labels t y F n m h =
+  other_labels : (t y : Sample) (name : List ℕ) → t.name ≡ name → y.name ≡ name → is_same_series st y t ≡ false → label_sets_eq (kept t) (kept y) ≡ false
+  other_labels t y name n m h =
       let names : bytes_eq t.name y.name ≡ true = (bytes_decides t.name y.name).1 (n ∙ sym m) in
       sym (ap (λ b. b && label_sets_eq (kept t) (kept y)) names) ∙ h
 
-  no_same : (above : List Owned) (y : Sample) (F : List ℕ) → AreNamed F (samples_of above F) → y.name ≡ F → is_duplicate st above y ≡ false → list_any (λ t. label_sets_eq (kept t) (kept y)) (samples_of above F) ≡ false
-  unfolding is_duplicate samples_of
-  no_same [] y F names name h = refl
-  no_same (o ∷ above) y F names name h = by (is_of F o) (sample_of_line o.item) names h (λ n. no_same above y F n name)
-    where
-      by : (b : Bool) (s : Option Sample) → AreNamed F (cons_option (cond b s None) (samples_of above F)) → (some_passes (is_same_series st y) s || is_duplicate st above y) ≡ false
-          → (AreNamed F (samples_of above F) → is_duplicate st above y ≡ false → list_any (λ t. label_sets_eq (kept t) (kept y)) (samples_of above F) ≡ false)
-          → list_any (λ t. label_sets_eq (kept t) (kept y)) (cons_option (cond b s None) (samples_of above F)) ≡ false
-      by false s n h more = more n (or_parts (some_passes (is_same_series st y) s) (is_duplicate st above y) h).1
-      by true None n h more = more n h
-      by true (Some t) n h more =
-          let parts = or_parts (is_same_series st y t) (is_duplicate st above y) h in
-          ap (λ b. b || list_any (λ t. label_sets_eq (kept t) (kept y)) (samples_of above F)) (other_labels t y F n.0 name parts.0) ∙ more n.1 parts.1
+  module _ (F name : List ℕ) where
+    no_same : (above : List Owned) (y : Sample) → AreNamed name (samples_of above F) → y.name ≡ name → is_duplicate st above y ≡ false → list_any (λ t. label_sets_eq (kept t) (kept y)) (samples_of above F) ≡ false
+    unfolding is_duplicate samples_of
+    no_same [] y names own h = refl
+    no_same (o ∷ above) y names own h = by (is_of F o) (sample_of_line o.item) names h (λ n. no_same above y n own)
+      where
+        by : (b : Bool) (s : Option Sample) → AreNamed name (cons_option (cond b s None) (samples_of above F)) → (some_passes (is_same_series st y) s || is_duplicate st above y) ≡ false
+            → (AreNamed name (samples_of above F) → is_duplicate st above y ≡ false → list_any (λ t. label_sets_eq (kept t) (kept y)) (samples_of above F) ≡ false)
+            → list_any (λ t. label_sets_eq (kept t) (kept y)) (cons_option (cond b s None) (samples_of above F)) ≡ false
+        by false s n h more = more n (or_parts (some_passes (is_same_series st y) s) (is_duplicate st above y) h).1
+        by true None n h more = more n h
+        by true (Some t) n h more =
+            let parts = or_parts (is_same_series st y t) (is_duplicate st above y) h in
+            ap (λ b. b || list_any (λ t. label_sets_eq (kept t) (kept y)) (samples_of above F)) (other_labels t y name n.0 own parts.0) ∙ more n.1 parts.1
 
-  fresh_samples : (above : List Owned) (F : List ℕ) → AreFit st above → AreNamed F (samples_of above F) → AreFresh F (samples_of above F)
-  unfolding samples_of
-  fresh_samples [] F fit names = tt
-  fresh_samples (o ∷ above) F fit names = by (is_of F o) (sample_of_line o.item) names fit.0.single (fresh_samples above F fit.1)
-    where
-      by : (b : Bool) (s : Option Sample) → AreNamed F (cons_option (cond b s None) (samples_of above F)) → some_passes (is_duplicate st above) s ≡ false
-          → (AreNamed F (samples_of above F) → AreFresh F (samples_of above F))
-          → AreFresh F (cons_option (cond b s None) (samples_of above F))
-      by false s n h more = more n
-      by true None n h more = more n
-      by true (Some y) n h more = (no_same above y F n.1 n.0 h, n.0, more n.1)
+    fresh_samples : (above : List Owned) → AreFit st above → AreNamed name (samples_of above F) → AreFresh name (samples_of above F)
+    unfolding samples_of
+    fresh_samples [] fit names = tt
+    fresh_samples (o ∷ above) fit names = by (is_of F o) (sample_of_line o.item) names fit.0.single (fresh_samples above fit.1)
+      where
+        by : (b : Bool) (s : Option Sample) → AreNamed name (cons_option (cond b s None) (samples_of above F)) → some_passes (is_duplicate st above) s ≡ false
+            → (AreNamed name (samples_of above F) → AreFresh name (samples_of above F))
+            → AreFresh name (cons_option (cond b s None) (samples_of above F))
+        by false s n h more = more n
+        by true None n h more = more n
+        by true (Some y) n h more = (no_same above y n.1 n.0 h, n.0, more n.1)
 
   -- the reading of the samples of one label set
   abbrev made : Kind → List ℕ → List ℕ → List Sample → LabelSet → Option Reading
@@ -231,31 +153,59 @@ module _ (st : Setting) where
     exemplars = exemplars_of k F own;
   }) (value_of st.format k F own)
 
-  -- that of one plain sample of its own name
-  own_made : (k : Kind) (unit : List ℕ) (s : Sample) → st.format ≡ Text → is_plain k ≡ true → made k s.name unit (s ∷ []) (kept s) ≡ Some (plain_reading k unit (key_of st s) s.value)
-  unfolding value_of value_with stamp_of exemplars_of
-  own_made Counter unit s text h = rw (text, drop_all s.name, append-nil s.name) refl
-  own_made Gauge unit s text h = rw (drop_all s.name) refl
-  own_made Unknown unit s text h = rw (drop_all s.name) refl
-  own_made Histogram unit s text h = absurd (let f : false ≡ true = h in cc)
-  own_made GaugeHistogram unit s text h = absurd (let f : false ≡ true = h in cc)
-  own_made StateSet unit s text h = absurd (let f : false ≡ true = h in cc)
-  own_made Info unit s text h = absurd (let f : false ≡ true = h in cc)
-  own_made Summary unit s text h = absurd (let f : false ≡ true = h in cc)
+  -- the value of one sample, by whether it has a suffix
+  one_value : (F suffix : List ℕ) (s : Sample) (b : Bool) → has_suffix F suffix s ≡ b → value_with F suffix (s ∷ []) ≡ cond b (Some s.value) None
+  unfolding value_with
+  one_value F suffix s b h = ap (λ c. option_map (λ (t : Sample). t.value) (cond c (Some s) None)) h ∙ by b
+    where
+      by : (b : Bool) → option_map (λ (t : Sample). t.value) (cond b (Some s) None) ≡ cond b (Some s.value) None
+      by true = refl
+      by false = refl
 
-  module _ (text : st.format ≡ Text) (k : Kind) (plain : is_plain k ≡ true) (F unit : List ℕ) where
+  -- that of one plain sample
+  own_made : (k : Kind) (F unit : List ℕ) (s : Sample) → is_grouped st.format k ≡ false → s.name ≡ F ++ single_suffix k → made k F unit (s ∷ []) (kept s) ≡ Some (plain_reading k unit (key_of st s) s.value)
+  unfolding value_of stamp_of exemplars_of
+  own_made k F unit s h name = λ i. option_map (λ value. record {
+    key = record { name = (key_is k h ∙ sym name) i; kind = k; unit = unit; labels = kept s };
+    value = value;
+    created = (one_value F (codes "_created") s false (suffix_is F (single_suffix k) (codes "_created") s name ∙ no_created k)) i;
+    stamp = None;
+    exemplars = [];
+  }) (valued k h name i)
+    where
+      key_is : (k : Kind) → is_grouped st.format k ≡ false → key_name st.format k F ≡ F ++ single_suffix k
+      key_is Counter h = ap (λ f. F ++ counter_suffix f) (ungrouped_counter st.format h)
+      key_is Info h = refl
+      key_is Gauge h = sym (append-nil F)
+      key_is Unknown h = sym (append-nil F)
+      key_is StateSet h = sym (append-nil F)
+      key_is _ h = absurd (let f : true ≡ false = h in cc)
+
+      own_value : (suffix : List ℕ) → has_suffix F suffix s ≡ true → option_map values.Plain (value_with F suffix (s ∷ [])) ≡ Some (values.Plain s.value)
+      own_value suffix e = ap (option_map values.Plain) (one_value F suffix s true e)
+
+      valued : (k : Kind) → is_grouped st.format k ≡ false → s.name ≡ F ++ single_suffix k → value_of st.format k F (s ∷ []) ≡ Some (values.Plain s.value)
+      valued Counter h name = ap (λ f. option_map values.Plain (value_with F (counter_suffix f) (s ∷ []))) (ungrouped_counter st.format h) ∙ own_value [] (suffix_is F [] [] s name)
+      valued Info h name = own_value (codes "_info") (suffix_is F (codes "_info") (codes "_info") s name)
+      valued Gauge h name = own_value [] (suffix_is F [] [] s name)
+      valued Unknown h name = own_value [] (suffix_is F [] [] s name)
+      valued StateSet h name = own_value [] (suffix_is F [] [] s name)
+      valued _ h name = absurd (let f : true ≡ false = h in cc)
+
+  module _ (k : Kind) (plain : is_grouped st.format k ≡ false) (F unit : List ℕ) where
+    abbrev own_name : List ℕ
+    own_name = F ++ single_suffix k
+
     plain_labels : (s : Sample) → reading_labels st k F s ≡ kept s
     plain_labels s = by k plain
       where
-        by : (k : Kind) → is_plain k ≡ true → reading_labels st k F s ≡ kept s
+        by : (k : Kind) → is_grouped st.format k ≡ false → reading_labels st k F s ≡ kept s
         by Counter h = refl
         by Gauge h = refl
         by Unknown h = refl
-        by Histogram h = absurd (let f : false ≡ true = h in cc)
-        by GaugeHistogram h = absurd (let f : false ≡ true = h in cc)
-        by StateSet h = absurd (let f : false ≡ true = h in cc)
-        by Info h = absurd (let f : false ≡ true = h in cc)
-        by Summary h = absurd (let f : false ≡ true = h in cc)
+        by StateSet h = refl
+        by Info h = refl
+        by _ h = absurd (let f : true ≡ false = h in cc)
 
     -- the readings, with the labels as they are kept
     abbrev by_labels : List Sample → List Reading
@@ -269,11 +219,11 @@ module _ (st : Setting) where
     abbrev read : Sample → Reading
     read s = plain_reading k unit (key_of st s) s.value
 
-    one_made : (s : Sample) → s.name ≡ F → made k F unit (s ∷ []) (kept s) ≡ Some (read s)
-    one_made s name = subst (λ G. made k G unit (s ∷ []) (kept s) ≡ Some (plain_reading k unit (key_of st s) s.value)) name (own_made k unit s text plain)
+    one_made : (s : Sample) → s.name ≡ own_name → made k F unit (s ∷ []) (kept s) ≡ Some (read s)
+    one_made s name = own_made k F unit s plain name
 
     -- one sample more, of labels that no other has
-    snoc_read : (samples : List Sample) (y : Sample) → list_any (λ t. label_sets_eq (kept t) (kept y)) samples ≡ false → y.name ≡ F → by_labels (samples ++ y ∷ []) ≡ by_labels samples ++ read y ∷ []
+    snoc_read : (samples : List Sample) (y : Sample) → list_any (λ t. label_sets_eq (kept t) (kept y)) samples ≡ false → y.name ≡ own_name → by_labels (samples ++ y ∷ []) ≡ by_labels samples ++ read y ∷ []
     snoc_read samples y new name =
         let f : LabelSet → Option Reading = λ labels. made k F unit (filter (λ s. label_sets_eq (kept s) labels) (samples ++ y ∷ [])) labels in
         let g : LabelSet → Option Reading = λ labels. made k F unit (filter (λ s. label_sets_eq (kept s) labels) samples) labels in
@@ -295,7 +245,7 @@ module _ (st : Setting) where
         ∙ ap (λ l. l ++ filter_map f (kept y ∷ [])) (filter_map-same f g (λ l. label_sets_eq (kept y) l) firsts others same)
         ∙ ap (λ o. filter_map g firsts ++ cons_option o []) last
 
-    all_read : (samples : List Sample) → AreFresh F samples → by_labels (reverse samples) ≡ map read (reverse samples)
+    all_read : (samples : List Sample) → AreFresh own_name samples → by_labels (reverse samples) ≡ map read (reverse samples)
     all_read [] h = refl
     all_read (y ∷ samples) h =
         ap by_labels (reverse-cons y samples) ∙ snoc_read (reverse samples) y (list_any-reverse (λ t. label_sets_eq (kept t) (kept y)) samples ∙ h.0) h.1
@@ -305,19 +255,13 @@ module _ (st : Setting) where
     readings_read : (above : List Owned) → AreFit st above → AreSound st k F (samples_of above F) → readings_of st k F unit (samples_of (reverse above) F) ≡ map read (samples_of (reverse above) F)
     readings_read above fit sound =
         readings_by_labels (samples_of (reverse above) F) ∙ ap by_labels (reversed_samples above F)
-        ∙ all_read (samples_of above F) (fresh_samples above F fit (plain_names k F (samples_of above F) text plain sound))
+        ∙ all_read (samples_of above F) (fresh_samples F own_name above fit (plain_names k F (samples_of above F) plain sound))
         ∙ ap (map read) (sym (reversed_samples above F))
 
 -- ---- the lines of a family stand together
 
 samples_none : (above : List Owned) (F : List ℕ) → list_any (is_of F) above ≡ false → samples_of (reverse above) F ≡ []
-unfolding samples_of
-samples_none [] F none = refl
-samples_none (o ∷ above) F none = by (bytes_eq o.family F) refl none (samples_none above F)
-  where
-    by : (b : Bool) → bytes_eq o.family F ≡ b → (b || list_any (is_of F) above) ≡ false → (list_any (is_of F) above ≡ false → samples_of (reverse above) F ≡ []) → samples_of (reverse (o ∷ above)) F ≡ []
-    by true e h more = absurd (let f : true ≡ false = h in cc)
-    by false e h more = samples_of-reverse o above F ∙ ap (λ l. samples_of (reverse above) F ++ l) (none_of_other o F e) ∙ append-nil (samples_of (reverse above) F) ∙ more h
+samples_none above F none = reversed_samples above F ∙ ap reverse (no_samples above F none)
 
 module _ (st : Setting) where
   -- the keys of a family's samples
@@ -383,36 +327,36 @@ dropped st [] (key ∷ more) = refl
 dropped st (s ∷ samples) more = dropped st samples more
 
 -- the readings of what is known of a family are those of its samples
-made_readings : (st : Setting) (above : List Owned) (F : List ℕ) (more : List SampleKey) → st.format ≡ Text → AreFit st above
-    → readings_in F (so_far st above F) (keys_in st above F ++ more) ≡ readings_of st (kind_of above F) F (unwrap_or (first_some (unit_in F) above) []) (samples_of (reverse above) F)
+made_readings : (st : Setting) (above : List Owned) (F : List ℕ) (more : List SampleKey) → AreFit st above
+    → readings_in st.format F (so_far st above F) (keys_in st above F ++ more) ≡ readings_of st (kind_of above F) F (unwrap_or (first_some (unit_in F) above) []) (samples_of (reverse above) F)
 unfolding so_far kind_of groups_so_far
-made_readings st above F more text fit = by (is_grouped (kind_of above F)) refl
+made_readings st above F more fit = by (is_grouped st.format (kind_of above F)) refl
   where
     unit : List ℕ
     unit = unwrap_or (first_some (unit_in F) above) []
 
-    by : (b : Bool) → is_grouped (kind_of above F) ≡ b
-        → cond b (map (reading_from (kind_of above F) F (unwrap_or (first_some (unit_in F) above) [])) (cond b (groups_from (map (entry_of st (kind_of above F) F) (samples_of (reverse above) F))) []))
+    by : (b : Bool) → is_grouped st.format (kind_of above F) ≡ b
+        → cond b (filter_map (reading_from st.format (kind_of above F) F (unwrap_or (first_some (unit_in F) above) [])) (cond b (groups_from (map (entry_of st (kind_of above F) F) (samples_of (reverse above) F))) []))
         (readings_at (kind_of above F) (unwrap_or (first_some (unit_in F) above) []) (keys_in st above F ++ more) (map (λ (s : Sample). s.value) (samples_of (reverse above) F)))
         ≡ readings_of st (kind_of above F) F (unwrap_or (first_some (unit_in F) above) []) (samples_of (reverse above) F)
     by true e =
         let k : Kind = kind_of above F in
-        ap (λ l. map (reading_from k F unit) (groups_from (map (entry_of st k F) l))) (reversed_samples above F)
-        ∙ sym (readings_made st k F unit (samples_of above F) e text (sound_samples st above F fit))
+        ap (λ l. filter_map (reading_from st.format k F unit) (groups_from (map (entry_of st k F) l))) (reversed_samples above F)
+        ∙ sym (readings_made st k F unit (samples_of above F) e (sound_samples st above F fit))
         ∙ ap (readings_of st k F unit) (sym (reversed_samples above F))
     by false e =
         let k : Kind = kind_of above F in
         taken st k unit (samples_of (reverse above) F) more
-        ∙ sym (readings_read st text k (plain_or_grouped k (text_family st above F fit) e) F unit above fit (sound_samples st above F fit))
+        ∙ sym (readings_read st k e F unit above fit (sound_samples st above F fit))
 
-one_family : (st : Setting) (above : List Owned) (F : List ℕ) (more : List SampleKey) → st.format ≡ Text → AreFit st above
-    → family_at F (so_far st above F) (keys_in st above F ++ more) ≡ family_of st (reverse above) F
+one_family : (st : Setting) (above : List Owned) (F : List ℕ) (more : List SampleKey) → AreFit st above
+    → family_at st.format F (so_far st above F) (keys_in st above F ++ more) ≡ family_of st (reverse above) F
 unfolding family_of so_far kind_of
-one_family st above F more text fit =
-    let help : first_some (help_in F) above ≡ first_some (help_in F) (reverse above) = sym (once_reverse help_of_line above F (help_once st above fit)) in
-    let kinds : first_some (declared_kind F) above ≡ first_some (declared_kind F) (reverse above) = sym (once_reverse kind_of_line above F (kind_once st above fit)) in
-    let units : first_some (unit_in F) above ≡ first_some (unit_in F) (reverse above) = sym (once_reverse unit_of_line above F (unit_once st above fit)) in
-    let rs = made_readings st above F more text fit in
+one_family st above F more fit =
+    let help : first_some (help_in F) above ≡ first_some (help_in F) (reverse above) = sym (said_once help_of_line help_sort st above F fit) in
+    let kinds : first_some (declared_kind F) above ≡ first_some (declared_kind F) (reverse above) = sym (said_once kind_of_line kind_sort st above F fit) in
+    let units : first_some (unit_in F) above ≡ first_some (unit_in F) (reverse above) = sym (said_once unit_of_line unit_sort st above F fit) in
+    let rs = made_readings st above F more fit in
     (λ i. record { name = F; kind = kind_of above F; help = unwrap_or (first_some (help_in F) above) []; unit = unwrap_or (first_some (unit_in F) above) []; readings = rs i })
     ∙ (λ i. record {
       name = F;
@@ -422,14 +366,14 @@ one_family st above F more text fit =
       readings = readings_of st (unwrap_or (kinds i) Unknown) F (unwrap_or (units i) []) (samples_of (reverse above) F);
     })
 
-all_families : (st : Setting) (above : List Owned) (names : List (List ℕ)) → st.format ≡ Text → AreFit st above
-    → families_at (pairs (so_far st above) names) (flat_map (keys_in st above) names) ≡ map (family_of st (reverse above)) names
+all_families : (st : Setting) (above : List Owned) (names : List (List ℕ)) → AreFit st above
+    → families_at st.format (pairs (so_far st above) names) (flat_map (keys_in st above) names) ≡ map (family_of st (reverse above)) names
 unfolding families_at so_far
-all_families st above [] text fit = refl
-all_families st above (F ∷ names) text fit =
-    let first : family_at F (so_far st above F) (keys_in st above F ++ flat_map (keys_in st above) names) ≡ family_of st (reverse above) F = one_family st above F (flat_map (keys_in st above) names) text fit in
-    let rest : families_at (pairs (so_far st above) names) (drop (length (so_far st above F).values) (keys_in st above F ++ flat_map (keys_in st above) names)) ≡ map (family_of st (reverse above)) names =
-    ap (families_at (pairs (so_far st above) names)) (dropped st (samples_of (reverse above) F) (flat_map (keys_in st above) names)) ∙ all_families st above names text fit in
+all_families st above [] fit = refl
+all_families st above (F ∷ names) fit =
+    let first : family_at st.format F (so_far st above F) (keys_in st above F ++ flat_map (keys_in st above) names) ≡ family_of st (reverse above) F = one_family st above F (flat_map (keys_in st above) names) fit in
+    let rest : families_at st.format (pairs (so_far st above) names) (drop (length (so_far st above F).values) (keys_in st above F ++ flat_map (keys_in st above) names)) ≡ map (family_of st (reverse above)) names =
+    ap (families_at st.format (pairs (so_far st above) names)) (dropped st (samples_of (reverse above) F) (flat_map (keys_in st above) names)) ∙ all_families st above names fit in
     λ i. first i ∷ rest i
 
 -- the families that were left, with the current one, are those of the lines
@@ -443,26 +387,20 @@ all_pairs st (n ∷ above) fit =
     ∙ sym (map-append (λ name. (name, so_far st (n ∷ above) name)) (left_before n.family above) (n.family ∷ []))
     ∙ ap (pairs (so_far st (n ∷ above))) (sym (families_of-reverse st n above fit))
 
--- the rules of the end of a text page
-end_by : (f : Format) (clean ended : Bool) (left : Option Rule) → f ≡ Text
-    → cond (not (is_open_metrics f) && not clean) (Some rules.NoNewline) (cond (is_open_metrics f && not ended) (Some rules.NoEof) left) ≡ cond (not clean) (Some rules.NoNewline) left
-end_by f clean ended left text = rw text refl
-
--- the fault of the end: a missing line feed, then a histogram that is left
-pub end_text : (st : Setting) (c : Checking) (earlier : List Item) (clean : Bool) → Stands st c earlier → end_fault st earlier clean ≡ cond (not clean) (Some rules.NoNewline) (left_stop c.current)
-unfolding end_fault end_breaks is_without_eof
-end_text st c earlier clean s =
-    end_by st.format clean (list_any is_eof earlier) (left_fault st (owned_lines st.format earlier) None) s.text
-    ∙ ap (cond (not clean) (Some rules.NoNewline)) (sym (left_at_end st c earlier s))
+-- the fault of the end, by what is kept
+pub end_kept : (st : Setting) (c : Checking) (earlier : List Item) (clean : Bool) → Stands st c earlier → end_fault st earlier clean ≡ end_stop c clean
+unfolding end_fault end_breaks is_without_eof end_stop
+end_kept st c earlier clean s = sym (λ i. cond (not (is_open_metrics (s.setting i).format) && not clean) (Some rules.NoNewline)
+    (cond (is_open_metrics (s.setting i).format && not (s.ended i)) (Some rules.NoEof) (left_at_end st c earlier s i)))
 
 -- the page of what is kept is that of the lines
 pub page_built : (st : Setting) (c : Checking) (earlier : List Item) → Stands st c earlier → page_at c ≡ page_of st earlier
 unfolding page_at page_of
 page_built st c earlier s =
     let above : List Owned = owned_lines st.format earlier in
-    let fit : AreFit st above = fit_lines st earlier s.text s.text_items s.faultless in
+    let fit : AreFit st above = fit_lines st earlier s.faultless in
     let kept_is : with_left c.left c.current ≡ pairs (so_far st above) (families_of (reverse above)) = (λ i. with_left (s.left i) (s.current i)) ∙ all_pairs st above fit in
     let seen_is : c.seen ≡ flat_map (keys_in st above) (families_of (reverse above)) = s.seen ∙ together st above fit in
-    let families : families_at (with_left c.left c.current) c.seen ≡ map (family_of st (reverse above)) (families_of (reverse above)) =
-    (λ i. families_at (kept_is i) (seen_is i)) ∙ all_families st above (families_of (reverse above)) s.text fit in
+    let families : families_at c.setting.format (with_left c.left c.current) c.seen ≡ map (family_of st (reverse above)) (families_of (reverse above)) =
+    (λ i. families_at (s.setting i).format (kept_is i) (seen_is i)) ∙ all_families st above (families_of (reverse above)) fit in
     λ i. record { families = families i; samples = s.samples i }

@@ -1,5 +1,5 @@
--- A name that is a front and an ending.
-use Rattle.std.proofs.Common.{◌≡◌, ℕ, Bool, true, false, ◌&&◌, List, [], ◌∷◌, ◌++◌, take, drop, length, refl, sym, ap, ◌∙◌, not, ◌-◌, append_assoc}
+-- A name that ends with an underscore and a unit.
+use Rattle.std.proofs.Common.{◌≡◌, ℕ, Bool, true, false, ◌&&◌, List, [], ◌∷◌, ◌++◌, take, length, refl, sym, ap, ◌∙◌, not, ◌-◌, append_assoc}
 use Rattle.std.specs.Prelude.{◌==◌}
 use Rattle.std.specs.Str.{bytes_eq}
 use Rattle.std.specs.List.{ends_with}
@@ -7,32 +7,6 @@ use Rattle.std.proofs.lemmas.Slice.Eq.{ends_is}
 use Rattle.std.proofs.lemmas.Bool.Decides.{Decides-eqb}
 use Rattle.std.proofs.lemmas.List.{append_cancel_right}
 use Rattle.page_model.specs.Rules.{is_foreign_unit}
-
-both : (a b : Bool) → (a && b) ≡ true → (a ≡ true) × (b ≡ true)
-both true b e = (refl, e)
-both false b e = absurd (let f : false ≡ true = e in cc)
-
--- behind the front that it has, the ending decides
-pub ending_decides : (front name ending : List ℕ) → bytes_eq (take (length front) name) front ≡ true → bytes_eq (drop (length front) name) ending ≡ bytes_eq name (front ++ ending)
-ending_decides [] [] ending h = refl
-ending_decides [] (x ∷ xs) ending h = refl
-ending_decides (f ∷ fs) [] ending h = absurd (let e : false ≡ true = h in cc)
-ending_decides (f ∷ fs) (x ∷ xs) ending h =
-    let parts = both (x == f) (bytes_eq (take (length fs) xs) fs) h in
-    rw parts.0 (ending_decides fs xs ending parts.1)
-
--- without the front it isn't
-pub other_front : (front name ending : List ℕ) → bytes_eq (take (length front) name) front ≡ false → false ≡ bytes_eq name (front ++ ending)
-other_front [] [] ending h = absurd (let e : true ≡ false = h in cc)
-other_front [] (x ∷ xs) ending h = absurd (let e : true ≡ false = h in cc)
-other_front (f ∷ fs) [] ending h = refl
-other_front (f ∷ fs) (x ∷ xs) ending h = by (x == f) h (other_front fs xs ending)
-  where
-    by : (b : Bool) → (b && bytes_eq (take (length fs) xs) fs) ≡ false → (bytes_eq (take (length fs) xs) fs ≡ false → false ≡ bytes_eq xs (fs ++ ending)) → false ≡ (b && bytes_eq xs (fs ++ ending))
-    by true e more = more e
-    by false e more = refl
-
--- ---- a unit behind an underscore
 
 bool_same : (a b : Bool) → (a ≡ true → b ≡ true) → (b ≡ true → a ≡ true) → a ≡ b
 bool_same true b f g = sym (f refl)

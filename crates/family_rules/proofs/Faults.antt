@@ -1,72 +1,30 @@
--- The fault of an item of the text format, by the few rules that such an item can break, and what the lines above keep.
-use Rattle.std.proofs.Common.{◌≡◌, ℕ, Bool, true, false, cond, not, ◌&&◌, ◌||◌, List, [], ◌∷◌, ◌++◌, drop, length, Option, Some, None, refl, sym, ap, subst, ◌∙◌, IfSome}
-use Rattle.std.specs.Prelude.{unwrap_or, ⊤}
+-- The fault of an item, by the rules that an item of its sort can break, and what the lines above keep.
+use Rattle.std.proofs.Common.{◌≡◌, ℕ, Bool, true, false, cond, not, ◌&&◌, ◌||◌, List, [], ◌∷◌, Option, Some, None, refl, sym, ap, subst, ◌∙◌, IfSome, inl}
+use Rattle.std.specs.Prelude.{unwrap_or, find, ⊤}
 use Rattle.std.specs.List.{list_any, cons_option}
 use Rattle.std.specs.Option.{option_or}
 use Rattle.std.specs.Str.{bytes_eq}
 use Rattle.std.specs.Cmp.Lexicographic.{bytes_decides}
-use Rattle.std.proofs.lemmas.List.{append-nil}
 use Rattle.label_sets.specs.declared.kind.Kind.{Kind}
-use Rattle.label_sets.specs.declared.kind.Kind.TheVariants.{Counter, Gauge, Histogram, GaugeHistogram, StateSet, Info, Summary, Unknown}
+use Rattle.label_sets.specs.declared.kind.Kind.TheVariants.{Unknown}
 use Rattle.label_sets.specs.Lists.{first_some, some_passes}
-use Rattle.page_model.specs.declared.format.Format.TheVariants.{Text}
 use Rattle.page_model.specs.declared.item.Item.{Item}
 use Rattle.page_model.specs.declared.item.Item.TheVariants as items
 use Rattle.page_model.specs.declared.item.Sample.{Sample}
 use Rattle.page_model.specs.declared.rule.Rule.{Rule}
 use Rattle.page_model.specs.declared.rule.Rule.TheVariants as rules
 use Rattle.page_model.specs.Written.{Setting}
-use Rattle.page_model.specs.Items.{is_sample, sample_of_line, kind_of_line, are_one_sort, is_descriptor}
-use Rattle.page_model.specs.Suffixes.{is_sample_name}
+use Rattle.page_model.specs.Items.{is_sample, sample_of_line, kind_of_line, unit_of_line, are_one_sort, is_descriptor}
 use Rattle.page_model.specs.Owners.{Owned, is_of, declared_kind, kind_of, sample_owner, owner_of, with_owner, owned_lines, samples_of}
-use Rattle.page_model.specs.Rules.{is_info_or_state_set, is_after_eof, is_late_descriptor, is_split, is_foreign_unit, has_forbidden_unit, is_bad_unit, is_bad_exemplar, is_interleaved, has_wrong_suffix, is_duplicate, has_forbidden_value, has_bad_value, has_bad_threshold, is_out_of_order, is_past_limit, leaves_incomplete}
+use Rattle.page_model.specs.Rules.{is_after_eof, is_late_descriptor, is_split, is_foreign_unit, has_forbidden_unit, is_bad_unit, is_bad_exemplar, is_interleaved, has_wrong_suffix, is_duplicate, has_bad_value, has_bad_threshold, is_out_of_order, is_past_limit, leaves_incomplete}
 use Rattle.page_model.specs.Pages.{AreFaultless}
-use Rattle.page_model.specs.Faults.{sample_breaks, owned_breaks, item_breaks, item_fault}
-use Rattle.sample_groups.specs.Parts.{is_grouped}
+use Rattle.page_model.specs.Faults.{sample_breaks, owned_breaks, item_breaks, item_rules, item_fault}
+use Rattle.page_model.proofs.Laws.{none_found}
 use Rattle.sample_groups.specs.Sound.{IsSoundSample, AreSound}
-use Rattle.family_rules.specs.Checking.{IsTextItem, AreTextItems}
-use Rattle.family_rules.proofs.Lists.{or_false, cond_none}
-
--- ---- the kinds of the text format
-
--- one value a sample, and no suffix
-abbrev pub is_plain : Kind → Bool
-is_plain Counter = true
-is_plain Gauge = true
-is_plain Unknown = true
-is_plain _ = false
-
-pub plain_or_grouped : (k : Kind) → not (is_info_or_state_set k) ≡ true → is_grouped k ≡ false → is_plain k ≡ true
-plain_or_grouped Counter h g = refl
-plain_or_grouped Gauge h g = refl
-plain_or_grouped Unknown h g = refl
-plain_or_grouped Histogram h g = absurd cc
-plain_or_grouped GaugeHistogram h g = absurd cc
-plain_or_grouped StateSet h g = absurd cc
-plain_or_grouped Info h g = absurd cc
-plain_or_grouped Summary h g = absurd cc
-
-plain_suffix : (k : Kind) (F name : List ℕ) → is_plain k ≡ true → is_sample_name Text k F name ≡ (bytes_eq name (F ++ []) || false)
-plain_suffix Counter F name h = refl
-plain_suffix Gauge F name h = refl
-plain_suffix Unknown F name h = refl
-plain_suffix Histogram F name h = absurd cc
-plain_suffix GaugeHistogram F name h = absurd cc
-plain_suffix StateSet F name h = absurd cc
-plain_suffix Info F name h = absurd cc
-plain_suffix Summary F name h = absurd cc
-
-not_false : (b : Bool) → not b ≡ false → b ≡ true
-not_false true h = refl
-not_false false h = absurd (let f : true ≡ false = h in cc)
-
--- a sample of a plain kind has the name of its family
-pub plain_name : (st : Setting) (k : Kind) (F : List ℕ) (s : Sample) → st.format ≡ Text → is_plain k ≡ true → has_wrong_suffix st k F s ≡ false → s.name ≡ F
-unfolding has_wrong_suffix
-plain_name st k F s text plain h =
-    let fits : is_sample_name Text k F s.name ≡ true = ap (λ f. is_sample_name f k F s.name) (sym text) ∙ not_false (is_sample_name st.format k F s.name) h in
-    let same : bytes_eq s.name (F ++ []) ≡ true = sym (or_false (bytes_eq s.name (F ++ []))) ∙ sym (plain_suffix k F s.name plain) ∙ fits in
-    (bytes_decides s.name (F ++ [])).0 same ∙ append-nil F
+use Rattle.family_rules.specs.declared.family.Descriptor.{Descriptor}
+use Rattle.family_rules.specs.declared.family.Descriptor.TheVariants as sorts
+use Rattle.family_rules.specs.Steps.{line_of}
+use Rattle.family_rules.proofs.Lists.{cond_none, bytes_same}
 
 -- ---- what the lines above keep
 
@@ -76,26 +34,12 @@ pub record Fits (st : Setting) (above : List Owned) (o : Owned) : Type 0 where
   pub together : is_split above o ≡ false
   pub single : some_passes (is_duplicate st above) (sample_of_line o.item) ≡ false
   pub sound : IfSome (sample_of_line o.item) (IsSoundSample st (kind_of above o.family) o.family (samples_of above o.family))
-  pub kind : IfSome (kind_of_line o.item) (λ k. not (is_info_or_state_set k) ≡ true)
+  pub unit : is_bad_unit above o ≡ false
 
 -- each of the owned lines breaks no rule under those above it
 abbrev pub AreFit : Setting → List Owned → Type 0
 AreFit st [] = ⊤
 AreFit st (o ∷ above) = Fits st above o × AreFit st above
-
--- what holds of each kind that is declared, and of an unknown one, holds of the kind of a family
-module _ (P : Kind → Bool) (F : List ℕ) where
-  first_kind : (b : Bool) (k : Option Kind) (rest : Option Kind) → IfSome k (λ k. P k ≡ true) → P (unwrap_or rest Unknown) ≡ true
-      → P (unwrap_or (option_or (cond b k None) rest) Unknown) ≡ true
-  first_kind false k rest h r = r
-  first_kind true None rest h r = r
-  first_kind true (Some k) rest h r = h
-
--- the kind of a family is one of the text format
-pub text_family : (st : Setting) (above : List Owned) (F : List ℕ) → AreFit st above → not (is_info_or_state_set (kind_of above F)) ≡ true
-unfolding kind_of
-text_family st [] F fit = refl
-text_family st (o ∷ above) F fit = first_kind (λ k. not (is_info_or_state_set k)) F (is_of F o) (kind_of_line o.item) (first_some (declared_kind F) above) fit.0.kind (text_family st above F fit.1)
 
 pub or_parts : (a b : Bool) → (a || b) ≡ false → (a ≡ false) × (b ≡ false)
 or_parts true b h = absurd (let f : true ≡ false = h in cc)
@@ -146,94 +90,42 @@ sound_samples st (o ∷ above) F fit = by (is_of F o) o.item refl refl (sound_sa
         subst (λ i. IfSome (sample_of_line i) (IsSoundSample st (kind_of above o.family) o.family (samples_of above o.family))) same fit.0.sound in
         (subst (λ G. IsSoundSample st (kind_of above G) G (samples_of above G) s) ((bytes_decides o.family F).0 e) own, ih)
 
--- ---- rules that no line of these breaks
+-- ---- units
 
-pub not_behind_end : (st : Setting) (earlier : List Item) → st.format ≡ Text → is_after_eof st earlier ≡ false
-unfolding is_after_eof
-not_behind_end st earlier text = rw text refl
+-- no family of these lines has a unit that its kind forbids
+pub no_forbidden : (st : Setting) (above : List Owned) (F : List ℕ) → AreFit st above → has_forbidden_unit above F ≡ false
+unfolding has_forbidden_unit kind_of is_bad_unit
+no_forbidden st [] F fit = refl
+no_forbidden st (o ∷ above) F fit = by (bytes_eq o.family F) refl (no_forbidden st above F fit.1)
+  where
+    silent : (item : Item) → is_descriptor item ≡ false → (kind_of_line item ≡ None) × (unit_of_line item ≡ None)
+    silent (items.Help n t) h = absurd (let f : true ≡ false = h in cc)
+    silent (items.KindOf n t) h = absurd (let f : true ≡ false = h in cc)
+    silent (items.Unit n t) h = absurd (let f : true ≡ false = h in cc)
+    silent _ h = (refl, refl)
 
-text_kind : (item : Item) → IsTextItem item → IfSome (kind_of_line item) (λ k. not (is_info_or_state_set k) ≡ true)
-text_kind (items.KindOf name kind) h = h
-text_kind items.Blank h = tt
-text_kind items.Comment h = tt
-text_kind items.Eof h = tt
-text_kind (items.Help name text) h = tt
-text_kind (items.Unit name unit) h = tt
-text_kind (items.Sample s) h = tt
+    other : (d g : Bool) → (d && g && not false) ≡ false → d ≡ true → g ≡ false
+    other true true h e = absurd (let f : true ≡ false = h in cc)
+    other true false h e = refl
+    other false g h e = absurd (let f : false ≡ true = e in cc)
 
-not_true : (b : Bool) → not b ≡ true → b ≡ false
-not_true true h = absurd (let f : false ≡ true = h in cc)
-not_true false h = refl
+    here : (d : Bool) → is_descriptor o.item ≡ d → has_forbidden_unit above o.family ≡ false → has_forbidden_unit (o ∷ above) o.family ≡ false
+    here false e ih = let none = silent o.item e in rw (bytes_same o.family, none.0, none.1) ih
+    here true e ih =
+        let bad = or_parts (some_passes (is_foreign_unit o.family) (unit_of_line o.item)) (is_descriptor o.item && has_forbidden_unit (o ∷ above) o.family && not (has_forbidden_unit above o.family)) fit.0.unit in
+        other (is_descriptor o.item) (has_forbidden_unit (o ∷ above) o.family) (rw ih at bad.1) e
 
-no_unit_forbidden : (st : Setting) (above : List Owned) (line : Owned) → AreFit st above → IsTextItem line.item → has_forbidden_unit (line ∷ above) line.family ≡ false
-unfolding has_forbidden_unit kind_of
-no_unit_forbidden st above line fit text =
-    let allowed : not (is_info_or_state_set (kind_of (line ∷ above) line.family)) ≡ true =
-    first_kind (λ k. not (is_info_or_state_set k)) line.family (is_of line.family line) (kind_of_line line.item) (first_some (declared_kind line.family) above)
-    (text_kind line.item text) (text_family st above line.family fit) in
-    rw (not_true (is_info_or_state_set (kind_of (line ∷ above) line.family)) allowed) refl
-
-pub drop_all : (xs : List ℕ) → drop (length xs) xs ≡ []
-drop_all [] = refl
-drop_all (x ∷ xs) = drop_all xs
-
-plain_value : (k : Kind) (s : Sample) → is_plain k ≡ true → has_forbidden_value k s.name s ≡ false
-unfolding has_forbidden_value
-plain_value Counter s h = rw (drop_all s.name) refl
-plain_value Gauge s h = refl
-plain_value Unknown s h = refl
-plain_value Histogram s h = absurd cc
-plain_value GaugeHistogram s h = absurd cc
-plain_value StateSet s h = absurd cc
-plain_value Info s h = absurd cc
-plain_value Summary s h = absurd cc
-
-plain_threshold : (k : Kind) (F : List ℕ) (s : Sample) → is_plain k ≡ true → has_bad_threshold k F s ≡ false
-unfolding has_bad_threshold
-plain_threshold Counter F s h = refl
-plain_threshold Gauge F s h = refl
-plain_threshold Unknown F s h = refl
-plain_threshold Histogram F s h = absurd cc
-plain_threshold GaugeHistogram F s h = absurd cc
-plain_threshold StateSet F s h = absurd cc
-plain_threshold Info F s h = absurd cc
-plain_threshold Summary F s h = absurd cc
-
-plain_order : (st : Setting) (k : Kind) (F : List ℕ) (samples : List Sample) (s : Sample) → is_plain k ≡ true → is_out_of_order st k F samples s ≡ false
-unfolding is_out_of_order
-plain_order st Counter F samples s h = refl
-plain_order st Gauge F samples s h = refl
-plain_order st Unknown F samples s h = refl
-plain_order st Histogram F samples s h = absurd cc
-plain_order st GaugeHistogram F samples s h = absurd cc
-plain_order st StateSet F samples s h = absurd cc
-plain_order st Info F samples s h = absurd cc
-plain_order st Summary F samples s h = absurd cc
-
-not_interleaved : (st : Setting) (k : Kind) (F : List ℕ) (samples : List Sample) (s : Sample) → st.format ≡ Text → is_interleaved st k F samples s ≡ false
-unfolding is_interleaved
-not_interleaved st k F [] s text = refl
-not_interleaved st k F (n ∷ samples) s text = rw text refl
-
-no_exemplar : (k : Kind) (F : List ℕ) (s : Sample) → s.exemplar ≡ None → is_bad_exemplar k F s ≡ false
-unfolding is_bad_exemplar
-no_exemplar k F s h = rw h refl
-
-value_allowed : (st : Setting) (k : Kind) (s : Sample) → st.format ≡ Text → is_plain k ≡ true → has_bad_value st.format k s.name s ≡ false
-unfolding has_bad_value
-value_allowed st k s text plain = rw (plain_value k s plain, text) refl
+    by : (b : Bool) → bytes_eq o.family F ≡ b → has_forbidden_unit above F ≡ false → has_forbidden_unit (o ∷ above) F ≡ false
+    by false e ih = rw e ih
+    by true e ih =
+        let same : o.family ≡ F = (bytes_decides o.family F).0 e in
+        subst (λ G. has_forbidden_unit (o ∷ above) G ≡ false) same (here (is_descriptor o.item) refl (subst (λ G. has_forbidden_unit above G ≡ false) (sym same) ih))
 
 -- ---- the fault of an item
 
 -- Value, Threshold or Order, under the samples of the family above it
 abbrev pub measure_fault : Setting → Kind → List ℕ → List Sample → Sample → Option Rule
 measure_fault st k F samples s = cond (has_bad_value st.format k F s) (Some rules.Value) (cond (has_bad_threshold k F s) (Some rules.Threshold) (cond (is_out_of_order st k F samples s) (Some rules.Order) None))
-
--- a sample of a plain kind breaks none of them
-pub plain_measure : (st : Setting) (k : Kind) (F : List ℕ) (samples : List Sample) (s : Sample) → st.format ≡ Text → is_plain k ≡ true → s.name ≡ F → measure_fault st k F samples s ≡ None
-plain_measure st k F samples s text plain name =
-    let valued : has_bad_value st.format k F s ≡ false = subst (λ G. has_bad_value st.format k G s ≡ false) name (value_allowed st k s text plain) in
-    rw (valued, plain_threshold k F s plain, plain_order st k F samples s plain) refl
 
 -- Incomplete
 abbrev pub left_fault : Setting → List Owned → Option (List ℕ) → Option Rule
@@ -243,17 +135,9 @@ left_fault st above owner = cond (leaves_incomplete st above owner) (Some rules.
 abbrev pub place_fault : Setting → List Owned → Owned → Option Rule
 place_fault st above line = cond (is_late_descriptor above line) (Some rules.Descriptor) (cond (is_split above line) (Some rules.Split) (left_fault st above (Some line.family)))
 
--- the family of a descriptor
-abbrev pub described : Item → List ℕ
-described (items.Help name text) = name
-described (items.KindOf name kind) = name
-described (items.Unit name unit) = name
-described _ = []
-
--- Unit, of a UNIT line
-abbrev pub unit_fault : Item → Option Rule
-unit_fault (items.Unit name unit) = cond (is_foreign_unit name unit) (Some rules.Unit) None
-unit_fault _ = None
+-- Unit
+abbrev pub unit_fault : List Owned → Owned → Option Rule
+unit_fault above line = cond (is_bad_unit above line) (Some rules.Unit) None
 
 -- the rules of a sample of an allowed name
 abbrev pub rest_fault : Setting → List Item → List ℕ → Sample → Option Rule
@@ -277,58 +161,77 @@ chain_unit false true c rest = refl
 chain_unit false false true rest = refl
 chain_unit false false false rest = refl
 
-module _ (st : Setting) (earlier : List Item) (format : st.format ≡ Text) (fit : AreFit st (owned_lines st.format earlier)) where
+module _ (st : Setting) (earlier : List Item) (before : is_after_eof st earlier ≡ false) where
   abbrev lines : List Owned
   lines = owned_lines st.format earlier
 
-  pub described_fault : (item : Item) → is_descriptor item ≡ true → IsTextItem item
-      → item_fault st earlier item ≡ option_or (place_fault st lines (record { family = described item; item = item })) (unit_fault item)
-  unfolding item_fault item_breaks owned_breaks is_bad_unit
-  described_fault (items.Help name text) d t =
-      let line : Owned = record { family = name; item = items.Help name text } in
-      rw (not_behind_end st earlier format, no_unit_forbidden st lines line fit tt)
-      (chain_unit (is_late_descriptor lines line) (is_split lines line) (leaves_incomplete st lines (Some name)) None)
-  described_fault (items.KindOf name kind) d t =
-      let line : Owned = record { family = name; item = items.KindOf name kind } in
-      rw (not_behind_end st earlier format, no_unit_forbidden st lines line fit t)
-      (chain_unit (is_late_descriptor lines line) (is_split lines line) (leaves_incomplete st lines (Some name)) None)
-  described_fault (items.Unit name unit) d t =
-      let line : Owned = record { family = name; item = items.Unit name unit } in
-      rw (not_behind_end st earlier format, no_unit_forbidden st lines line fit tt, or_false (is_foreign_unit name unit))
-      (chain_unit (is_late_descriptor lines line) (is_split lines line) (leaves_incomplete st lines (Some name)) (cond (is_foreign_unit name unit) (Some rules.Unit) None))
-  described_fault items.Blank d t = absurd (let f : false ≡ true = d in cc)
-  described_fault items.Comment d t = absurd (let f : false ≡ true = d in cc)
-  described_fault items.Eof d t = absurd (let f : false ≡ true = d in cc)
-  described_fault (items.Sample s) d t = absurd (let f : false ≡ true = d in cc)
+  all_three : (line : Owned) → cond (is_late_descriptor lines line) (Some rules.Descriptor) (cond (is_split lines line) (Some rules.Split) (cond (leaves_incomplete st lines (Some line.family)) (Some rules.Incomplete) (unit_fault lines line)))
+      ≡ option_or (place_fault st lines line) (unit_fault lines line)
+  all_three line = chain_unit (is_late_descriptor lines line) (is_split lines line) (leaves_incomplete st lines (Some line.family)) (unit_fault lines line)
 
-  pub sample_fault : (s : Sample) (F : List ℕ) → s.exemplar ≡ None → sample_owner st.format lines s.name ≡ F
+  pub described_fault : (F : List ℕ) (d : Descriptor)
+      → item_fault st earlier (line_of F d) ≡ option_or (place_fault st lines (record { family = F; item = line_of F d })) (unit_fault lines (record { family = F; item = line_of F d }))
+  unfolding item_fault item_breaks owned_breaks
+  described_fault F (sorts.Help text) = rw before (all_three (record { family = F; item = items.Help F text }))
+  described_fault F (sorts.Type kind) = rw before (all_three (record { family = F; item = items.KindOf F kind }))
+  described_fault F (sorts.Unit unit) = rw before (all_three (record { family = F; item = items.Unit F unit }))
+
+  pub sample_fault : (s : Sample) (F : List ℕ) → sample_owner st.format lines s.name ≡ F
       → item_fault st earlier (items.Sample s)
-      ≡ cond (is_split lines (record { family = F; item = items.Sample s })) (Some rules.Split) (cond (has_wrong_suffix st (kind_of lines F) F s) (Some rules.Suffix) (rest_fault st earlier F s))
+      ≡ cond (is_bad_exemplar (kind_of lines F) F s) (Some rules.Exemplar) (cond (is_split lines (record { family = F; item = items.Sample s })) (Some rules.Split)
+      (cond (is_interleaved st (kind_of lines F) F (samples_of lines F) s) (Some rules.Interleaved) (cond (has_wrong_suffix st (kind_of lines F) F s) (Some rules.Suffix) (rest_fault st earlier F s))))
   unfolding item_fault item_breaks owned_breaks sample_breaks is_late_descriptor is_bad_unit
-  sample_fault s F plain owner =
-      rw (
-        owner,
-        not_behind_end st earlier format,
-        no_exemplar (kind_of lines F) F s plain,
-        not_interleaved st (kind_of lines F) F (samples_of lines F) s format,
-      )
-      (ap (λ r. cond (is_split lines (record { family = F; item = items.Sample s })) (Some rules.Split) (cond (has_wrong_suffix st (kind_of lines F) F s) (Some rules.Suffix) (cond (is_duplicate st lines s) (Some rules.Duplicate) r)))
+  sample_fault s F owner =
+      rw (owner, before)
+      (ap (λ r. cond (is_bad_exemplar (kind_of lines F) F s) (Some rules.Exemplar) (cond (is_split lines (record { family = F; item = items.Sample s })) (Some rules.Split)
+      (cond (is_interleaved st (kind_of lines F) F (samples_of lines F) s) (Some rules.Interleaved) (cond (has_wrong_suffix st (kind_of lines F) F s) (Some rules.Suffix) (cond (is_duplicate st lines s) (Some rules.Duplicate) r)))))
       (chain (has_bad_value st.format (kind_of lines F) F s) (has_bad_threshold (kind_of lines F) F s) (is_out_of_order st (kind_of lines F) F (samples_of lines F) s)
       (leaves_incomplete st lines (Some F)) (is_past_limit st earlier)))
 
   pub comment_fault : item_fault st earlier items.Comment ≡ None
   unfolding item_fault item_breaks
-  comment_fault = rw (not_behind_end st earlier format) refl
+  comment_fault = rw before refl
 
   pub blank_fault : item_fault st earlier items.Blank ≡ None
   unfolding item_fault item_breaks
-  blank_fault = rw (not_behind_end st earlier format) refl
+  blank_fault = rw before refl
 
   pub eof_fault : item_fault st earlier items.Eof ≡ left_fault st lines None
   unfolding item_fault item_breaks
-  eof_fault = rw (not_behind_end st earlier format) refl
+  eof_fault = rw before refl
 
 -- ---- lines without a fault
+
+after_eof : (st : Setting) (earlier : List Item) (item : Item) → item_breaks st earlier item rules.AfterEof ≡ is_after_eof st earlier
+unfolding item_breaks
+after_eof st earlier items.Blank = refl
+after_eof st earlier items.Comment = refl
+after_eof st earlier items.Eof = refl
+after_eof st earlier (items.Help n t) = refl
+after_eof st earlier (items.KindOf n k) = refl
+after_eof st earlier (items.Unit n u) = refl
+after_eof st earlier (items.Sample s) = refl
+
+-- the rules behind that one
+abbrev behind_end : List Rule
+behind_end = rules.Descriptor ∷ rules.Exemplar ∷ rules.Split ∷ rules.Interleaved ∷ rules.Suffix ∷ rules.Duplicate ∷ rules.Value ∷ rules.Threshold ∷ rules.Order ∷ rules.Incomplete ∷ rules.Unit ∷ rules.TooMany ∷ []
+
+-- a line behind the end
+pub ended_fault : (st : Setting) (earlier : List Item) (item : Item) → is_after_eof st earlier ≡ true → item_fault st earlier item ≡ Some rules.AfterEof
+unfolding item_fault
+ended_fault st earlier item h = ap (λ b. cond b (Some rules.AfterEof) (find (item_breaks st earlier item) behind_end)) (after_eof st earlier item ∙ h)
+
+-- a line without a fault stands in front of the end
+pub goes_on : (st : Setting) (earlier : List Item) (item : Item) → item_fault st earlier item ≡ None → is_after_eof st earlier ≡ false
+unfolding item_fault
+goes_on st earlier item none = by (is_after_eof st earlier) refl
+  where
+    first : (item : Item) → item_breaks st earlier item rules.AfterEof ≡ is_after_eof st earlier
+    first item = after_eof st earlier item
+
+    by : (b : Bool) → is_after_eof st earlier ≡ b → b ≡ false
+    by false e = refl
+    by true e = absurd (none_found (item_breaks st earlier item) item_rules none rules.AfterEof (inl refl) (first item ∙ e))
 
 late_sample : (above : List Owned) (F : List ℕ) (s : Sample) → is_late_descriptor above (record { family = F; item = items.Sample s }) ≡ false
 unfolding is_late_descriptor
@@ -338,26 +241,35 @@ option_none : (a b : Option Rule) → option_or a b ≡ None → (a ≡ None) ×
 option_none None b h = (refl, h)
 option_none (Some r) b h = absurd (let f : Some r ≡ None = h in cc)
 
-module _ (st : Setting) (earlier : List Item) (format : st.format ≡ Text) (fit : AreFit st (owned_lines st.format earlier)) where
+module _ (st : Setting) (earlier : List Item) (before : is_after_eof st earlier ≡ false) (fit : AreFit st (owned_lines st.format earlier)) where
   abbrev above : List Owned
   above = owned_lines st.format earlier
 
-  -- a descriptor without a fault by its place
-  fit_described : (item : Item) → is_descriptor item ≡ true → IsTextItem item → item_fault st earlier item ≡ None
-      → (is_late_descriptor above (record { family = described item; item = item }) ≡ false) × (is_split above (record { family = described item; item = item }) ≡ false)
-  fit_described item d text none =
-      let line : Owned = record { family = described item; item = item } in
-      let place = option_none (place_fault st above line) (unit_fault item) (sym (described_fault st earlier format fit item d text) ∙ none) in
-      let late = cond_none (is_late_descriptor above line) rules.Descriptor (cond (is_split above line) (Some rules.Split) (left_fault st above (Some (described item)))) place.0 in
-      let split = cond_none (is_split above line) rules.Split (left_fault st above (Some (described item))) late.1 in
-      (late.0, split.0)
+  -- a descriptor without a fault
+  fit_described : (F : List ℕ) (d : Descriptor) → item_fault st earlier (line_of F d) ≡ None → Fits st above (record { family = F; item = line_of F d })
+  fit_described F d none =
+      let line : Owned = record { family = F; item = line_of F d } in
+      let faults = option_none (place_fault st above line) (unit_fault above line) (sym (described_fault st earlier before F d) ∙ none) in
+      let late = cond_none (is_late_descriptor above line) rules.Descriptor (cond (is_split above line) (Some rules.Split) (left_fault st above (Some F))) faults.0 in
+      let split = cond_none (is_split above line) rules.Split (left_fault st above (Some F)) late.1 in
+      let unit = cond_none (is_bad_unit above line) rules.Unit None faults.1 in
+      by d late.0 split.0 unit.0
+    where
+      by : (d : Descriptor) → is_late_descriptor above (record { family = F; item = line_of F d }) ≡ false → is_split above (record { family = F; item = line_of F d }) ≡ false
+          → is_bad_unit above (record { family = F; item = line_of F d }) ≡ false → Fits st above (record { family = F; item = line_of F d })
+      by (sorts.Help t) late split unit = record { descriptor = late; together = split; single = refl; sound = tt; unit = unit }
+      by (sorts.Type k) late split unit = record { descriptor = late; together = split; single = refl; sound = tt; unit = unit }
+      by (sorts.Unit u) late split unit = record { descriptor = late; together = split; single = refl; sound = tt; unit = unit }
 
-  fit_sample : (s : Sample) (F : List ℕ) → s.exemplar ≡ None → sample_owner st.format above s.name ≡ F → item_fault st earlier (items.Sample s) ≡ None → Fits st above (record { family = F; item = items.Sample s })
-  fit_sample s F plain owner none =
+  fit_sample : (s : Sample) (F : List ℕ) → sample_owner st.format above s.name ≡ F → item_fault st earlier (items.Sample s) ≡ None → Fits st above (record { family = F; item = items.Sample s })
+  unfolding is_bad_unit
+  fit_sample s F owner none =
       let o : Owned = record { family = F; item = items.Sample s } in
       let k : Kind = kind_of above F in
-      let split = cond_none (is_split above o) rules.Split _ (sym (sample_fault st earlier format fit s F plain owner) ∙ none) in
-      let suffix = cond_none (has_wrong_suffix st k F s) rules.Suffix _ split.1 in
+      let exemplar = cond_none (is_bad_exemplar k F s) rules.Exemplar _ (sym (sample_fault st earlier before s F owner) ∙ none) in
+      let split = cond_none (is_split above o) rules.Split _ exemplar.1 in
+      let back = cond_none (is_interleaved st k F (samples_of above F) s) rules.Interleaved _ split.1 in
+      let suffix = cond_none (has_wrong_suffix st k F s) rules.Suffix _ back.1 in
       let double = cond_none (is_duplicate st above s) rules.Duplicate _ suffix.1 in
       let rest = option_none (option_or (measure_fault st k F (samples_of above F) s) (left_fault st above (Some F))) _ double.1 in
       let measure = option_none (measure_fault st k F (samples_of above F) s) (left_fault st above (Some F)) rest.0 in
@@ -369,26 +281,19 @@ module _ (st : Setting) (earlier : List Item) (format : st.format ≡ Text) (fit
         together = split.0;
         single = double.0;
         sound = record { named = suffix.0; valued = value.0; placed = place.0; ordered = order.0 };
-        kind = tt;
+        unit = refl;
       }
 
-  fit_item : (item : Item) → IsTextItem item → item_fault st earlier item ≡ None
-      → AreFit st (with_owner (owner_of st.format (owned_lines st.format earlier) item) item (owned_lines st.format earlier))
-  fit_item items.Blank text none = fit
-  fit_item items.Comment text none = fit
-  fit_item items.Eof text none = fit
-  fit_item (items.Help name t) text none =
-      let place = fit_described (items.Help name t) refl text none in
-      (record { descriptor = place.0; together = place.1; single = refl; sound = tt; kind = tt }, fit)
-  fit_item (items.KindOf name k) text none =
-      let place = fit_described (items.KindOf name k) refl text none in
-      (record { descriptor = place.0; together = place.1; single = refl; sound = tt; kind = text }, fit)
-  fit_item (items.Unit name u) text none =
-      let place = fit_described (items.Unit name u) refl text none in
-      (record { descriptor = place.0; together = place.1; single = refl; sound = tt; kind = tt }, fit)
-  fit_item (items.Sample s) text none = (fit_sample s (sample_owner st.format (owned_lines st.format earlier) s.name) text refl none, fit)
+  fit_item : (item : Item) → item_fault st earlier item ≡ None → AreFit st (with_owner (owner_of st.format (owned_lines st.format earlier) item) item (owned_lines st.format earlier))
+  fit_item items.Blank none = fit
+  fit_item items.Comment none = fit
+  fit_item items.Eof none = fit
+  fit_item (items.Help F t) none = (fit_described F (sorts.Help t) none, fit)
+  fit_item (items.KindOf F k) none = (fit_described F (sorts.Type k) none, fit)
+  fit_item (items.Unit F u) none = (fit_described F (sorts.Unit u) none, fit)
+  fit_item (items.Sample s) none = (fit_sample s (sample_owner st.format (owned_lines st.format earlier) s.name) refl none, fit)
 
-pub fit_lines : (st : Setting) (earlier : List Item) → st.format ≡ Text → AreTextItems earlier → AreFaultless st earlier → AreFit st (owned_lines st.format earlier)
+pub fit_lines : (st : Setting) (earlier : List Item) → AreFaultless st earlier → AreFit st (owned_lines st.format earlier)
 unfolding owned_lines
-fit_lines st [] format texts h = tt
-fit_lines st (item ∷ earlier) format texts h = fit_item st earlier format (fit_lines st earlier format texts.1 h.1) item texts.0 h.0
+fit_lines st [] h = tt
+fit_lines st (item ∷ earlier) h = fit_item st earlier (goes_on st earlier item h.0) (fit_lines st earlier h.1) item h.0

@@ -23,8 +23,11 @@ use Rattle.sample_groups.specs.Groups.{Gathered, groups_from, with_part}
 use Rattle.sample_groups.specs.Parts.{is_grouped, entry_of, part_of}
 use Rattle.sample_groups.proofs.Laws.{one_part_more}
 use Rattle.family_rules.specs.declared.family.FamilySoFar.{FamilySoFar}
-use Rattle.family_rules.specs.Checking.{groups_so_far, so_far, no_lines, left_before, has_samples, has_sort}
-use Rattle.family_rules.proofs.Lists.{or_false, bytes_same, bytes_swap, reverse-cons, first_of_each-snoc, list_any-map, list_any-reverse}
+use Rattle.family_rules.specs.declared.family.Descriptor.{Descriptor}
+use Rattle.family_rules.specs.declared.family.Descriptor.TheVariants as sorts
+use Rattle.family_rules.specs.Checking.{groups_so_far, so_far, no_lines, left_before, has_samples}
+use Rattle.family_rules.specs.Steps.{has, line_of, family_with}
+use Rattle.family_rules.proofs.Lists.{or_false, or_comm, bytes_same, bytes_swap, reverse-cons, first_of_each-snoc, list_any-map, list_any-reverse}
 use Rattle.family_rules.proofs.Faults.{AreFit}
 
 -- ---- which families were left
@@ -134,7 +137,7 @@ own_samples F item above = samples_of-reverse (record { family = F; item = item 
 -- no samples make no groups
 no_groups : (st : Setting) (k : Kind) (F : List ℕ) → groups_so_far st k F [] ≡ []
 unfolding groups_so_far groups_from
-no_groups st k F = by (is_grouped k)
+no_groups st k F = by (is_grouped st.format k)
   where
     by : (b : Bool) → cond {A = List (LabelSet × Gathered)} b [] [] ≡ []
     by true = refl
@@ -142,11 +145,11 @@ no_groups st k F = by (is_grouped k)
 
 -- the groups of a kind with one sample more
 abbrev pub grown : Setting → Kind → List ℕ → Sample → List (LabelSet × Gathered) → List (LabelSet × Gathered)
-grown st k F s groups = cond (is_grouped k) (with_part groups (sample_group st k F s) (part_of F s)) []
+grown st k F s groups = cond (is_grouped st.format k) (with_part groups (sample_group st k F s) (part_of F s)) []
 
 groups_more : (st : Setting) (k : Kind) (F : List ℕ) (samples : List Sample) (s : Sample) → groups_so_far st k F (samples ++ s ∷ []) ≡ grown st k F s (groups_so_far st k F samples)
 unfolding groups_so_far
-groups_more st k F samples s = by (is_grouped k)
+groups_more st k F samples s = by (is_grouped st.format k)
   where
     by : (b : Bool) → cond b (groups_from (map (entry_of st k F) (samples ++ s ∷ []))) []
         ≡ cond b (with_part (cond b (groups_from (map (entry_of st k F) samples)) []) (sample_group st k F s) (part_of F s)) []
@@ -164,25 +167,19 @@ module _ (st : Setting) where
       samples_of-reverse o above G ∙ ap (λ l. samples_of (reverse above) G ++ l) (none_of_other o G e) ∙ append-nil (samples_of (reverse above) G) in
       rw (e, values) refl
 
-  pub so_far-help : (F text : List ℕ) (above : List Owned) → so_far st (record { family = F; item = items.Help F text } ∷ above) F ≡ record (so_far st above F) { help = Some text }
+  -- a TYPE line stands above all samples
+  pub so_far-descriptor : (F : List ℕ) (d : Descriptor) (above : List Owned) → samples_of (reverse above) F ≡ []
+      → so_far st (record { family = F; item = line_of F d } ∷ above) F ≡ family_with d (so_far st above F)
   unfolding so_far kind_of
-  so_far-help F text above =
+  so_far-descriptor F (sorts.Help text) above none =
       let values = own_samples F (items.Help F text) above ∙ append-nil (samples_of (reverse above) F) in
       rw (bytes_same F, values) refl
-
-  -- a TYPE line stands above all samples
-  pub so_far-kind : (F : List ℕ) (kind : Kind) (above : List Owned) → samples_of (reverse above) F ≡ []
-      → so_far st (record { family = F; item = items.KindOf F kind } ∷ above) F ≡ record (so_far st above F) { kind = Some kind }
-  unfolding so_far kind_of
-  so_far-kind F kind above none =
+  so_far-descriptor F (sorts.Type kind) above none =
       let values = own_samples F (items.KindOf F kind) above ∙ append-nil (samples_of (reverse above) F) in
       let groups : groups_so_far st kind F (samples_of (reverse above) F) ≡ groups_so_far st (kind_of above F) F (samples_of (reverse above) F) =
       ap (groups_so_far st kind F) none ∙ no_groups st kind F ∙ sym (ap (groups_so_far st (kind_of above F) F) none ∙ no_groups st (kind_of above F) F) in
       rw (bytes_same F, values, groups) refl
-
-  pub so_far-unit : (F unit : List ℕ) (above : List Owned) → so_far st (record { family = F; item = items.Unit F unit } ∷ above) F ≡ record (so_far st above F) { unit = Some unit }
-  unfolding so_far kind_of
-  so_far-unit F unit above =
+  so_far-descriptor F (sorts.Unit unit) above none =
       let values = own_samples F (items.Unit F unit) above ∙ append-nil (samples_of (reverse above) F) in
       rw (bytes_same F, values) refl
 
@@ -207,6 +204,16 @@ module _ (st : Setting) where
       by true e h ih = absurd (let f : true ≡ false = h in cc)
       by false e h ih = so_far-other o above F e ∙ ih h
 
+-- a family without lines has no samples
+pub no_samples : (above : List Owned) (F : List ℕ) → list_any (is_of F) above ≡ false → samples_of above F ≡ []
+unfolding samples_of
+no_samples [] F none = refl
+no_samples (o ∷ above) F none = by (bytes_eq o.family F) none (no_samples above F)
+  where
+    by : (b : Bool) → (b || list_any (is_of F) above) ≡ false → (list_any (is_of F) above ≡ false → samples_of above F ≡ []) → cons_option (cond b (sample_of_line o.item) None) (samples_of above F) ≡ []
+    by true h more = absurd (let f : true ≡ false = h in cc)
+    by false h more = more h
+
 -- ---- descriptors
 
 suc_zero : (n : ℕ) → (suc n == 0) ≡ false
@@ -216,21 +223,10 @@ not_zero-append : {A : Type 0} (xs ys : List A) → not (length (xs ++ ys) == 0)
 not_zero-append [] ys = refl
 not_zero-append (x ∷ xs) ys = rw (suc_zero (length (xs ++ ys)), suc_zero (length xs)) refl
 
-or_swap : (a b : Bool) → (a || b) ≡ (b || a)
-or_swap true true = refl
-or_swap true false = refl
-or_swap false true = refl
-or_swap false false = refl
-
 some_value : (b : Bool) (item : Item) → not (length (map (λ (s : Sample). s.value) (cons_option (cond b (sample_of_line item) None) [])) == 0) ≡ (b && is_sample item)
 some_value false item = refl
 some_value true (items.Sample s) = refl
-some_value true items.Blank = refl
-some_value true items.Comment = refl
-some_value true items.Eof = refl
-some_value true (items.Help n t) = refl
-some_value true (items.KindOf n k) = refl
-some_value true (items.Unit n u) = refl
+some_value true _ = refl
 
 some_sample : (st : Setting) (above : List Owned) (F : List ℕ) → has_samples (so_far st above F) ≡ list_any (λ o. is_of F o && is_sample o.item) above
 unfolding so_far samples_of
@@ -239,82 +235,43 @@ some_sample st (o ∷ above) F =
     ap (λ l. not (length (map (λ (s : Sample). s.value) l) == 0)) (samples_of-reverse o above F)
     ∙ ap (λ l. not (length l == 0)) (map-append (λ (s : Sample). s.value) (samples_of (reverse above) F) (samples_of (o ∷ []) F))
     ∙ not_zero-append (map (λ (s : Sample). s.value) (samples_of (reverse above) F)) (map (λ (s : Sample). s.value) (samples_of (o ∷ []) F))
-    ∙ or_swap (has_samples (so_far st above F)) (not (length (map (λ (s : Sample). s.value) (samples_of (o ∷ []) F)) == 0))
+    ∙ or_comm (has_samples (so_far st above F)) (not (length (map (λ (s : Sample). s.value) (samples_of (o ∷ []) F)) == 0))
     ∙ ap (λ b. b || has_samples (so_far st above F)) (some_value (is_of F o) o.item)
     ∙ ap (λ b. (is_of F o && is_sample o.item) || b) (some_sample st above F)
 
 -- a descriptor of the same sort, by the sorts
-sort_step : (item other : Item) (b : Bool) (f : FamilySoFar)
-    → is_descriptor item ≡ true → has_sort item (record f {
+sort_step : (F : List ℕ) (d : Descriptor) (other : Item) (b : Bool) (f : FamilySoFar)
+    → has d (record f {
       help = option_or (cond b (help_of_line other) None) f.help;
       kind = option_or (cond b (kind_of_line other) None) f.kind;
       unit = option_or (cond b (unit_of_line other) None) f.unit;
-    }) ≡ ((b && are_one_sort item other) || has_sort item f)
-sort_step item other false f h = same item
-  where
-    same : (item : Item) → has_sort item (record f { help = f.help; kind = f.kind; unit = f.unit }) ≡ has_sort item f
-    same items.Blank = refl
-    same items.Comment = refl
-    same items.Eof = refl
-    same (items.Help n t) = refl
-    same (items.KindOf n k) = refl
-    same (items.Unit n u) = refl
-    same (items.Sample s) = refl
-sort_step (items.Help n t) (items.Help m u) true f h = refl
-sort_step (items.Help n t) (items.KindOf m u) true f h = refl
-sort_step (items.Help n t) (items.Unit m u) true f h = refl
-sort_step (items.Help n t) (items.Sample s) true f h = refl
-sort_step (items.Help n t) items.Blank true f h = refl
-sort_step (items.Help n t) items.Comment true f h = refl
-sort_step (items.Help n t) items.Eof true f h = refl
-sort_step (items.KindOf n t) (items.Help m u) true f h = refl
-sort_step (items.KindOf n t) (items.KindOf m u) true f h = refl
-sort_step (items.KindOf n t) (items.Unit m u) true f h = refl
-sort_step (items.KindOf n t) (items.Sample s) true f h = refl
-sort_step (items.KindOf n t) items.Blank true f h = refl
-sort_step (items.KindOf n t) items.Comment true f h = refl
-sort_step (items.KindOf n t) items.Eof true f h = refl
-sort_step (items.Unit n t) (items.Help m u) true f h = refl
-sort_step (items.Unit n t) (items.KindOf m u) true f h = refl
-sort_step (items.Unit n t) (items.Unit m u) true f h = refl
-sort_step (items.Unit n t) (items.Sample s) true f h = refl
-sort_step (items.Unit n t) items.Blank true f h = refl
-sort_step (items.Unit n t) items.Comment true f h = refl
-sort_step (items.Unit n t) items.Eof true f h = refl
-sort_step (items.Sample s) other true f h = absurd (let e : false ≡ true = h in cc)
-sort_step items.Blank other true f h = absurd (let e : false ≡ true = h in cc)
-sort_step items.Comment other true f h = absurd (let e : false ≡ true = h in cc)
-sort_step items.Eof other true f h = absurd (let e : false ≡ true = h in cc)
+    }) ≡ ((b && are_one_sort (line_of F d) other) || has d f)
+sort_step F (sorts.Help t) other false f = refl
+sort_step F (sorts.Type t) other false f = refl
+sort_step F (sorts.Unit t) other false f = refl
+sort_step F (sorts.Help t) (items.Help m u) true f = refl
+sort_step F (sorts.Type t) (items.KindOf m u) true f = refl
+sort_step F (sorts.Unit t) (items.Unit m u) true f = refl
+sort_step F _ _ true f = refl
 
-sort_alike : (item : Item) (f g : FamilySoFar) → f.help ≡ g.help → f.kind ≡ g.kind → f.unit ≡ g.unit → has_sort item f ≡ has_sort item g
-sort_alike items.Blank f g h k u = refl
-sort_alike items.Comment f g h k u = refl
-sort_alike items.Eof f g h k u = refl
-sort_alike (items.Help n t) f g h k u = ap is_some h
-sort_alike (items.KindOf n t) f g h k u = ap is_some k
-sort_alike (items.Unit n t) f g h k u = ap is_some u
-sort_alike (items.Sample s) f g h k u = refl
+sort_alike : (d : Descriptor) (f g : FamilySoFar) → f.help ≡ g.help → f.kind ≡ g.kind → f.unit ≡ g.unit → has d f ≡ has d g
+sort_alike (sorts.Help t) f g h k u = ap is_some h
+sort_alike (sorts.Type t) f g h k u = ap is_some k
+sort_alike (sorts.Unit t) f g h k u = ap is_some u
 
-same_sort : (st : Setting) (above : List Owned) (F : List ℕ) (item : Item) → is_descriptor item ≡ true → has_sort item (so_far st above F) ≡ list_any (λ o. is_of F o && are_one_sort item o.item) above
+same_sort : (st : Setting) (above : List Owned) (F : List ℕ) (d : Descriptor) → has d (so_far st above F) ≡ list_any (λ o. is_of F o && are_one_sort (line_of F d) o.item) above
 unfolding so_far
-same_sort st [] F item h = by item
-  where
-    by : (item : Item) → has_sort item (so_far st [] F) ≡ false
-    by items.Blank = refl
-    by items.Comment = refl
-    by items.Eof = refl
-    by (items.Help n t) = refl
-    by (items.KindOf n k) = refl
-    by (items.Unit n u) = refl
-    by (items.Sample s) = refl
-same_sort st (o ∷ above) F item h =
-    sort_alike item (so_far st (o ∷ above) F) (record (so_far st above F) {
+same_sort st [] F (sorts.Help t) = refl
+same_sort st [] F (sorts.Type t) = refl
+same_sort st [] F (sorts.Unit t) = refl
+same_sort st (o ∷ above) F d =
+    sort_alike d (so_far st (o ∷ above) F) (record (so_far st above F) {
       help = option_or (cond (is_of F o) (help_of_line o.item) None) (so_far st above F).help;
       kind = option_or (cond (is_of F o) (kind_of_line o.item) None) (so_far st above F).kind;
       unit = option_or (cond (is_of F o) (unit_of_line o.item) None) (so_far st above F).unit;
     }) refl refl refl
-    ∙ sort_step item o.item (is_of F o) (so_far st above F) h
-    ∙ ap (λ b. (is_of F o && are_one_sort item o.item) || b) (same_sort st above F item h)
+    ∙ sort_step F d o.item (is_of F o) (so_far st above F)
+    ∙ ap (λ b. (is_of F o && are_one_sort (line_of F d) o.item) || b) (same_sort st above F d)
 
 any_split : {A : Type 0} (p a b : A → Bool) (xs : List A) → list_any (λ x. p x && (a x || b x)) xs ≡ (list_any (λ x. p x && a x) xs || list_any (λ x. p x && b x) xs)
 any_split p a b [] = refl
@@ -327,12 +284,17 @@ any_split p a b (x ∷ xs) = ap (λ c. (p x && (a x || b x)) || c) (any_split p 
     by true false true false d = refl
     by true false false c d = refl
 
+pub is_one : (F : List ℕ) (d : Descriptor) → is_descriptor (line_of F d) ≡ true
+is_one F (sorts.Help t) = refl
+is_one F (sorts.Type t) = refl
+is_one F (sorts.Unit t) = refl
+
 -- a late descriptor, by what is known of its family
-pub late_known : (st : Setting) (above : List Owned) (F : List ℕ) (item : Item) → is_descriptor item ≡ true
-    → is_late_descriptor above (record { family = F; item = item }) ≡ (has_sort item (so_far st above F) || has_samples (so_far st above F))
+pub late_known : (st : Setting) (above : List Owned) (F : List ℕ) (d : Descriptor)
+    → is_late_descriptor above (record { family = F; item = line_of F d }) ≡ (has d (so_far st above F) || has_samples (so_far st above F))
 unfolding is_late_descriptor
-late_known st above F item h =
-    ap (λ b. b && list_any (λ o. is_of F o && (are_one_sort item o.item || is_sample o.item)) above) h
-    ∙ any_split (is_of F) (λ o. are_one_sort item o.item) (λ o. is_sample o.item) above
-    ∙ ap (λ b. b || list_any (λ o. is_of F o && is_sample o.item) above) (sym (same_sort st above F item h))
-    ∙ ap (λ b. has_sort item (so_far st above F) || b) (sym (some_sample st above F))
+late_known st above F d =
+    ap (λ b. b && list_any (λ o. is_of F o && (are_one_sort (line_of F d) o.item || is_sample o.item)) above) (is_one F d)
+    ∙ any_split (is_of F) (λ o. are_one_sort (line_of F d) o.item) (λ o. is_sample o.item) above
+    ∙ ap (λ b. b || list_any (λ o. is_of F o && is_sample o.item) above) (sym (same_sort st above F d))
+    ∙ ap (λ b. has d (so_far st above F) || b) (sym (some_sample st above F))

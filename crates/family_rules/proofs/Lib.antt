@@ -1,10 +1,16 @@
 pub mod Lists
 pub mod Named
 pub mod Faults
+pub mod Once
+pub mod Units
+pub mod Plain
+pub mod RunLaws
 pub mod Kept
+pub mod Seen
 pub mod Standing
 pub mod Endings
 pub mod Taking
+pub mod Sampled
 pub mod Loops
 pub mod Built
 pub mod Complete

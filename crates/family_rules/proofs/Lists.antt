@@ -1,5 +1,5 @@
 -- Laws on lists: one element more at the end, and look-ups in a list of pairs that is made from names.
-use Rattle.std.proofs.Common.{◌≡◌, ℕ, Bool, true, false, cond, not, ◌||◌, List, [], ◌∷◌, ◌++◌, map, filter, Option, Some, None, refl, sym, ap, ◌∙◌, reverse}
+use Rattle.std.proofs.Common.{◌≡◌, ℕ, Bool, true, false, cond, not, ◌&&◌, ◌||◌, List, [], ◌∷◌, ◌++◌, map, filter, Option, Some, None, refl, sym, ap, ◌∙◌, reverse}
 use Rattle.std.proofs.lemmas.List.{append-nil, reverse-append}
 use Rattle.std.proofs.lemmas.List.Elements.{filter-append}
 use Rattle.std.proofs.lemmas.List.Sorted.{IsPermutation-reverse, list_any-IsPermutation}
@@ -9,6 +9,8 @@ use Rattle.std.specs.Str.{bytes_eq}
 use Rattle.std.specs.Map.{lookup}
 use Rattle.std.specs.Cmp.Lexicographic.{bytes_decides, nat_list_eq_equiv}
 use Rattle.indexmap.specs.IndexMap.{insert_entry}
+use Rattle.label_sets.specs.declared.label_set.LabelSet.{LabelSet}
+use Rattle.label_sets.specs.Labels.{label_sets_eq}
 use Rattle.label_sets.specs.Lists.{first_of_each, first_some}
 
 -- ---- tests
@@ -16,6 +18,12 @@ use Rattle.label_sets.specs.Lists.{first_of_each, first_some}
 pub or_false : (a : Bool) → (a || false) ≡ a
 or_false true = refl
 or_false false = refl
+
+pub or_comm : (a b : Bool) → (a || b) ≡ (b || a)
+or_comm true true = refl
+or_comm true false = refl
+or_comm false true = refl
+or_comm false false = refl
 
 -- a choice that answers nothing took the second branch, which answers nothing
 pub cond_none : {A : Type 0} (b : Bool) (x : A) (r : Option A) → cond b (Some x) r ≡ None → (b ≡ false) × (r ≡ None)
@@ -27,6 +35,14 @@ bytes_same a = (bytes_decides a a).1 refl
 
 pub bytes_swap : (a b : List ℕ) → bytes_eq a b ≡ bytes_eq b a
 bytes_swap a b = nat_list_eq_equiv.symm a b
+
+pub label_sets_swap : (a b : LabelSet) → label_sets_eq a b ≡ label_sets_eq b a
+label_sets_swap [] [] = refl
+label_sets_swap [] (y ∷ ys) = refl
+label_sets_swap (x ∷ xs) [] = refl
+label_sets_swap (x ∷ xs) (y ∷ ys) = ap (λ b. (b && bytes_eq x.value y.value) && label_sets_eq xs ys) (bytes_swap x.name y.name)
+    ∙ ap (λ b. (bytes_eq y.name x.name && b) && label_sets_eq xs ys) (bytes_swap x.value y.value)
+    ∙ ap (λ b. (bytes_eq y.name x.name && bytes_eq y.value x.value) && b) (label_sets_swap xs ys)
 
 -- ---- one element more at the end
 
@@ -47,6 +63,24 @@ first_of_each-snoc {A = A} eq (x ∷ xs) y =
         ∙ ap (λ b. filter (λ z. not (eq x z)) (first_of_each eq xs) ++ cond (not b) (y ∷ []) []) e ∙ append-nil (filter (λ z. not (eq x z)) (first_of_each eq xs)))
     by false false e = ap (λ l. x ∷ l) (filter-append (λ z. not (eq x z)) (first_of_each eq xs) (y ∷ [])
         ∙ ap (λ b. filter (λ z. not (eq x z)) (first_of_each eq xs) ++ cond (not b) (y ∷ []) []) e)
+
+-- what is alike to one that fails a test fails it too
+others_any : {A : Type 0} (eq : A → A → Bool) (p : A → Bool) → ((x y : A) → eq x y ≡ true → p x ≡ p y) → (x : A) (ys : List A) → p x ≡ false → list_any p (filter (λ y. not (eq x y)) ys) ≡ list_any p ys
+others_any eq p alike x [] e = refl
+others_any {A = A} eq p alike x (y ∷ ys) e = step (eq x y) refl (others_any eq p alike x ys e)
+  where
+    step : (c : Bool) → eq x y ≡ c → list_any p (filter (λ z. not (eq x z)) ys) ≡ list_any p ys → list_any p (cond (not c) (y ∷ filter (λ z. not (eq x z)) ys) (filter (λ z. not (eq x z)) ys)) ≡ (p y || list_any p ys)
+    step false f ih = ap (λ b. p y || b) ih
+    step true f ih = ih ∙ ap (λ b. b || list_any p ys) (sym (sym (alike x y f) ∙ e))
+
+-- a test that what is alike passes alike finds the same among the first of each
+pub any_firsts : {A : Type 0} (eq : A → A → Bool) (p : A → Bool) → ((x y : A) → eq x y ≡ true → p x ≡ p y) → (xs : List A) → list_any p (first_of_each eq xs) ≡ list_any p xs
+any_firsts eq p alike [] = refl
+any_firsts {A = A} eq p alike (x ∷ xs) = by (p x) refl (any_firsts eq p alike xs)
+  where
+    by : (b : Bool) → p x ≡ b → list_any p (first_of_each eq xs) ≡ list_any p xs → (p x || list_any p (filter (λ y. not (eq x y)) (first_of_each eq xs))) ≡ (p x || list_any p xs)
+    by true e ih = rw e refl
+    by false e ih = ap (λ b. p x || b) (others_any eq p alike x (first_of_each eq xs) e ∙ ih)
 
 pub list_any-map : {A B : Type 0} (p : B → Bool) (f : A → B) (xs : List A) → list_any p (map f xs) ≡ list_any (λ x. p (f x)) xs
 list_any-map p f [] = refl

@@ -7,11 +7,12 @@ use Rattle.std.specs.declared.alloc.Global.{Global}
 use Rattle.std.proofs.lemmas.List.{append-nil, append_assoc, drop_all, drop-drop}
 use Rattle.family_rules.specs.LeftFamilies.{named}
 use Rattle.label_sets.specs.declared.kind.Kind.{Kind}
+use Rattle.page_model.specs.declared.format.Format.{Format}
 use Rattle.page_model.specs.declared.page.Family.{Family}
 use Rattle.page_model.specs.declared.page.Reading.{Reading}
 use Rattle.family_rules.specs.declared.family.FamilySoFar.{FamilySoFar}
 use Rattle.packed_keys.specs.declared.sample_key.SampleKey.{SampleKey}
-use Rattle.family_rules.specs.Steps.{readings_at, family_at, families_at}
+use Rattle.family_rules.specs.Made.{readings_at, family_at, families_at}
 
 pub no_length : {A : Type 0} (xs : List A) → length xs ≡ 0 → xs ≡ []
 no_length [] h = refl
@@ -25,24 +26,24 @@ pub readings_end : (rs rest whole : List Reading) → rest ≡ [] → rs ++ rest
 readings_end rs rest whole none h = sym (append-nil rs) ∙ ap (λ l. rs ++ l) (sym none) ∙ h
 
 -- one family more
-pub families_step : (it next : List (List ℕ × FamilySoFar)) (name : List ℕ) (known : FamilySoFar) (keys rest : List SampleKey) (f : Family) (fs new whole : List Family)
-    → it ≡ (name, known) ∷ next → f ≡ family_at name known keys → rest ≡ drop (length known.values) keys → new ≡ fs ++ f ∷ [] → fs ++ families_at it keys ≡ whole
-    → new ++ families_at next rest ≡ whole
+pub families_step : (format : Format) (it next : List (List ℕ × FamilySoFar)) (name : List ℕ) (known : FamilySoFar) (keys rest : List SampleKey) (f : Family) (fs new whole : List Family)
+    → it ≡ (name, known) ∷ next → f ≡ family_at format name known keys → rest ≡ drop (length known.values) keys → new ≡ fs ++ f ∷ [] → fs ++ families_at format it keys ≡ whole
+    → new ++ families_at format next rest ≡ whole
 unfolding families_at
-families_step it next name known keys rest f fs new whole items family_is rest_is new_is h =
-    ap (λ l. l ++ families_at next rest) new_is ∙ append_assoc fs (f ∷ []) (families_at next rest)
-    ∙ (λ i. fs ++ (family_is i ∷ families_at next (rest_is i)))
-    ∙ ap (λ es. fs ++ families_at es keys) (sym items) ∙ h
+families_step format it next name known keys rest f fs new whole items family_is rest_is new_is h =
+    ap (λ l. l ++ families_at format next rest) new_is ∙ append_assoc fs (f ∷ []) (families_at format next rest)
+    ∙ (λ i. fs ++ (family_is i ∷ families_at format next (rest_is i)))
+    ∙ ap (λ es. fs ++ families_at format es keys) (sym items) ∙ h
 
-pub families_end : (it : List (List ℕ × FamilySoFar)) (keys : List SampleKey) (fs whole : List Family) → it ≡ [] → fs ++ families_at it keys ≡ whole → fs ≡ whole
+pub families_end : (format : Format) (it : List (List ℕ × FamilySoFar)) (keys : List SampleKey) (fs whole : List Family) → it ≡ [] → fs ++ families_at format it keys ≡ whole → fs ≡ whole
 unfolding families_at
-families_end it keys fs whole none h = sym (append-nil fs) ∙ ap (λ es. fs ++ families_at es keys) (sym none) ∙ h
+families_end format it keys fs whole none h = sym (append-nil fs) ∙ ap (λ es. fs ++ families_at format es keys) (sym none) ∙ h
 
 -- each family that is kept is one of the page
-pub families_count : (es : List (List ℕ × FamilySoFar)) (keys : List SampleKey) → length (families_at es keys) ≡ length es
+pub families_count : (format : Format) (es : List (List ℕ × FamilySoFar)) (keys : List SampleKey) → length (families_at format es keys) ≡ length es
 unfolding families_at
-families_count [] keys = refl
-families_count (e ∷ es) keys = ap suc (families_count es (drop (length e.1.values) keys))
+families_count format [] keys = refl
+families_count format (e ∷ es) keys = ap suc (families_count format es (drop (length e.1.values) keys))
 
 -- the next of the values that are to come has the next of the names
 pub next_named : {V : Type 0} (names : List (List ℕ)) (at : ℕ) (name : List ℕ) (v : V) (values : List V) → slice_get names at ≡ Some name

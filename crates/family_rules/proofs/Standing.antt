@@ -1,31 +1,27 @@
 -- What a checker keeps answers the rules, and each step keeps what it stands for.
-use Rattle.std.proofs.Common.{◌≡◌, ℕ, ◌+◌, arith, Bool, true, false, cond, not, ◌&&◌, ◌||◌, List, [], ◌∷◌, ◌++◌, map, reverse, Option, Some, None, refl, sym, ap, subst, ◌∙◌, is_some, count_by}
+use Rattle.std.proofs.Common.{◌≡◌, ℕ, ◌+◌, arith, Bool, true, false, cond, not, ◌&&◌, ◌||◌, List, [], ◌∷◌, ◌++◌, map, reverse, Option, Some, None, refl, sym, ap, subst, ◌∙◌, is_some, count_by, Ok}
 use Rattle.std.specs.Prelude.{option_map}
-use Rattle.std.specs.List.{list_any, list_all}
+use Rattle.std.specs.List.{list_any, list_all, cons_option}
 use Rattle.std.specs.Option.{option_to_list}
 use Rattle.std.specs.Str.{bytes_eq}
 use Rattle.std.specs.Map.{lookup}
 use Rattle.std.specs.Cmp.Lexicographic.{bytes_decides}
 use Rattle.std.proofs.lemmas.List.{append-nil, map-append}
-use Rattle.std.proofs.lemmas.List.Folds.{list_any-append}
 use Rattle.std.proofs.lemmas.List.Sums.{sum_by-cons}
 use Rattle.indexmap.specs.IndexMap.{insert_entry}
 use Rattle.label_sets.specs.declared.kind.Kind.{Kind}
 use Rattle.label_sets.specs.declared.label_set.LabelSet.{LabelSet}
-use Rattle.label_sets.specs.Labels.{label_sets_eq}
 use Rattle.label_sets.specs.Lists.{some_passes}
-use Rattle.page_model.specs.declared.format.Format.TheVariants.{Text}
 use Rattle.page_model.specs.declared.item.Item.{Item}
 use Rattle.page_model.specs.declared.item.Item.TheVariants as items
 use Rattle.page_model.specs.declared.item.Sample.{Sample}
 use Rattle.page_model.specs.Written.{Setting}
 use Rattle.page_model.specs.declared.rule.Rule.TheVariants as rules
-use Rattle.page_model.specs.Items.{is_sample, sample_of_line, is_descriptor}
+use Rattle.page_model.specs.Items.{is_eof, is_sample, sample_of_line}
 use Rattle.page_model.specs.Suffixes.{is_sample_name}
 use Rattle.page_model.specs.Owners.{Owned, is_of, kind_of, sample_owner, owner_of, with_owner, owned_lines, samples_of, kept_labels}
-use Rattle.page_model.specs.Rules.{is_histogram, is_late_descriptor, is_split, is_same_series, is_duplicate, is_complete_at, is_incomplete, leaves_incomplete, sample_group}
+use Rattle.page_model.specs.Rules.{is_histogram, is_late_descriptor, is_split, is_complete_at, is_incomplete, leaves_incomplete, sample_group}
 use Rattle.page_model.specs.Faults.{item_fault}
-use Rattle.sample_groups.specs.declared.part.Part.{Part}
 use Rattle.sample_groups.specs.Groups.{Gathered, groups_from, shared_labels, with_part, is_whole_group}
 use Rattle.sample_groups.specs.Parts.{is_grouped, entry_of, part_of}
 use Rattle.sample_groups.specs.Sound.{AreSound}
@@ -34,19 +30,17 @@ use Rattle.family_rules.specs.declared.family.Current.{Current}
 use Rattle.family_rules.specs.declared.family.Descriptor.{Descriptor}
 use Rattle.family_rules.specs.declared.family.Descriptor.TheVariants as sorts
 use Rattle.family_rules.specs.declared.family.FamilySoFar.{FamilySoFar}
-use Rattle.family_rules.specs.Checking.{Checking, no_lines, has_samples, has_sort, groups_so_far, so_far, left_before, left_families, current_family, key_of, keys_above, IsTextItem, Stands}
-use Rattle.family_rules.specs.Steps.{is_of_sort, is_late_in, current_kind, is_current_family, known_in, is_current_sample, has_incomplete, left_stop, place_stop, with_left, begun, reached, current_with, with_current, with_part_in, with_sample, IsReady}
-use Rattle.packed_keys.specs.Packing.{sample_key_eq}
-use Rattle.family_rules.proofs.Lists.{or_false, bytes_same, bytes_swap, pairs, lookup-map, map-pairs, insert_entry-last}
-use Rattle.family_rules.proofs.Faults.{AreFit, fit_lines, sound_samples, none_above, left_fault, place_fault}
-use Rattle.family_rules.proofs.Kept.{known_lines, fresh, reversed_samples, grown, so_far-other, so_far-help, so_far-kind, so_far-unit, so_far-sample, so_far-none, late_known}
+use Rattle.family_rules.specs.Checking.{Checking, no_lines, has_samples, groups_so_far, so_far, left_before, left_families, current_family, key_of, keys_above, Stands}
+use Rattle.family_rules.specs.Steps.{has, line_of, unit_stop, family_with, with_descriptor, is_late_in, current_kind, is_current_family, known_in, has_incomplete, left_stop, place_stop, with_left, begun, reached, current_with, IsReady}
+use Rattle.family_rules.specs.Samples.{is_current_sample, family_with_value, with_part_in, with_part_at, with_told, runs_with, entered_by, with_sample}
+use Rattle.family_rules.specs.GroupRuns.{no_runs, runs_of, nearest_runs}
+use Rattle.family_rules.proofs.RunLaws.{no_samples_no_runs, runs_sample}
+use Rattle.family_rules.proofs.Lists.{or_false, bytes_same, pairs, lookup-map, map-pairs, insert_entry-last}
+use Rattle.family_rules.proofs.Faults.{AreFit, fit_lines, sound_samples, none_above, left_fault, place_fault, unit_fault}
+use Rattle.family_rules.proofs.Units.{bad_unit_above}
+use Rattle.family_rules.proofs.Kept.{known_lines, fresh, reversed_samples, grown, is_one, so_far-other, so_far-descriptor, so_far-sample, so_far-none, no_samples, late_known}
 
 -- ---- what is known
-
--- late, by what is known
-abbrev pub is_late : Item → Option FamilySoFar → Bool
-is_late item None = false
-is_late item (Some f) = has_sort item f || has_samples f
 
 module _ (st : Setting) where
   -- the pairs of the left families
@@ -85,53 +79,49 @@ module _ (st : Setting) where
           sym (ap is_some (lookup-map (so_far st (n ∷ above)) F (left_before n.family above)) ∙ some_cond (list_any (bytes_eq F) (left_before n.family above)) (so_far st (n ∷ above) F)
           ∙ sym (or_false (list_any (bytes_eq F) (left_before n.family above))) ∙ known)
 
-  late_above : (above : List Owned) (F : List ℕ) (item : Item) → is_descriptor item ≡ true
-      → is_late_descriptor above (record { family = F; item = item }) ≡ is_late item (known_in (left_pairs above) (current_family st above) F)
-  late_above above F item h = late_known st above F item h ∙ by (list_any (is_of F) above) refl ∙ sym (ap (is_late item) (known_above above F))
+  late_above : (above : List Owned) (F : List ℕ) (d : Descriptor)
+      → is_late_descriptor above (record { family = F; item = line_of F d }) ≡ is_late_in d (known_in (left_pairs above) (current_family st above) F)
+  late_above above F d = late_known st above F d ∙ by (list_any (is_of F) above) refl ∙ sym (ap (is_late_in d) (known_above above F))
     where
-      nothing : (item : Item) → (has_sort item no_lines || has_samples no_lines) ≡ false
-      nothing items.Blank = refl
-      nothing items.Comment = refl
-      nothing items.Eof = refl
-      nothing (items.Help n t) = refl
-      nothing (items.KindOf n k) = refl
-      nothing (items.Unit n u) = refl
-      nothing (items.Sample s) = refl
+      nothing : (d : Descriptor) → (has d no_lines || has_samples no_lines) ≡ false
+      nothing (sorts.Help t) = refl
+      nothing (sorts.Type k) = refl
+      nothing (sorts.Unit u) = refl
 
-      by : (b : Bool) → list_any (is_of F) above ≡ b → (has_sort item (so_far st above F) || has_samples (so_far st above F)) ≡ is_late item (cond b (Some (so_far st above F)) None)
+      by : (b : Bool) → list_any (is_of F) above ≡ b → (has d (so_far st above F) || has_samples (so_far st above F)) ≡ is_late_in d (cond b (Some (so_far st above F)) None)
       by true e = refl
-      by false e = ap (λ f. has_sort item f || has_samples f) (so_far-none st above F e) ∙ nothing item
+      by false e = ap (λ f. has d f || has_samples f) (so_far-none st above F e) ∙ nothing d
 
   -- ---- a family that is left
 
   -- a histogram that isn't complete, by its groups
-  incomplete_groups : (k : Kind) (F : List ℕ) (samples : List Sample) → st.format ≡ Text → AreSound st k F samples
+  incomplete_groups : (k : Kind) (F : List ℕ) (samples : List Sample) → AreSound st k F samples
       → (is_histogram k && not (list_all (is_complete_at st k F samples) samples)) ≡ (is_histogram k && not (list_all (λ (g : LabelSet × Gathered). is_whole_group g.1) (groups_so_far st k F (reverse samples))))
   unfolding groups_so_far
-  incomplete_groups k F samples text sound = by (is_histogram k) refl
+  incomplete_groups k F samples sound = by (is_histogram k) refl
     where
       by : (b : Bool) → is_histogram k ≡ b
           → (b && not (list_all (is_complete_at st k F samples) samples)) ≡ (b && not (list_all (λ (g : LabelSet × Gathered). is_whole_group g.1) (groups_so_far st k F (reverse samples))))
       by false e = refl
-      by true e = ap not (whole_kept st k F samples e text sound
+      by true e = ap not (whole_kept st k F samples e sound
           ∙ ap (λ b. list_all (λ (g : LabelSet × Gathered). is_whole_group g.1) (cond b (groups_from (map (entry_of st k F) (reverse samples))) [])) (sym (grouped e)))
         where
-          grouped : is_histogram k ≡ true → is_grouped k ≡ true
+          grouped : is_histogram k ≡ true → is_grouped st.format k ≡ true
           grouped e = rw e refl
 
-  incomplete_above : (above : List Owned) (F : List ℕ) → st.format ≡ Text → AreFit st above → is_incomplete st above F ≡ has_incomplete (so_far st above F)
+  incomplete_above : (above : List Owned) (F : List ℕ) → AreFit st above → is_incomplete st above F ≡ has_incomplete (so_far st above F)
   unfolding is_incomplete so_far kind_of
-  incomplete_above above F text fit =
-      incomplete_groups (kind_of above F) F (samples_of above F) text (sound_samples st above F fit)
+  incomplete_above above F fit =
+      incomplete_groups (kind_of above F) F (samples_of above F) (sound_samples st above F fit)
       ∙ ap (λ l. is_histogram (kind_of above F) && not (list_all (λ (g : LabelSet × Gathered). is_whole_group g.1) (groups_so_far st (kind_of above F) F l))) (sym (reversed_samples above F))
 
   -- Incomplete, at a line of another family or of none
-  left_other : (above : List Owned) (owner : Option (List ℕ)) → st.format ≡ Text → AreFit st above → some_passes (λ F. is_current_family (current_family st above) F) owner ≡ false
+  left_other : (above : List Owned) (owner : Option (List ℕ)) → AreFit st above → some_passes (λ F. is_current_family (current_family st above) F) owner ≡ false
       → left_stop (current_family st above) ≡ left_fault st above owner
   unfolding leaves_incomplete current_family
-  left_other [] owner text fit h = refl
-  left_other (n ∷ above) owner text fit h =
-      rw h (ap (λ b. cond b (Some rules.Incomplete) None) (sym (incomplete_above (n ∷ above) n.family text fit)))
+  left_other [] owner fit h = refl
+  left_other (n ∷ above) owner fit h =
+      rw h (ap (λ b. cond b (Some rules.Incomplete) None) (sym (incomplete_above (n ∷ above) n.family fit)))
 
   -- no line leaves its own family
   left_own : (above : List Owned) (F : List ℕ) → is_current_family (current_family st above) F ≡ true → leaves_incomplete st above (Some F) ≡ false
@@ -174,12 +164,22 @@ ready_current st F item (n ∷ above) h = by (bytes_eq n.family F) refl h
     by true e none = ap (λ G. Some (record { name = G; family = so_far st (n ∷ above) G })) ((bytes_decides n.family F).0 e)
     by false e none = ap (λ f. Some (record { name = F; family = f })) (sym (so_far-none st (n ∷ above) F (rw e none)))
 
+ready_runs : (st : Setting) (F : List ℕ) (item : Item) (above : List Owned) → is_split above (record { family = F; item = item }) ≡ false
+    → cond (is_current_family (current_family st above) F) (nearest_runs st above) no_runs ≡ runs_of st above F
+unfolding is_split current_family nearest_runs
+ready_runs st F item [] h = sym (no_samples_no_runs st [] F (no_samples [] F refl))
+ready_runs st F item (n ∷ above) h = by (bytes_eq n.family F) refl h
+  where
+    by : (b : Bool) → bytes_eq n.family F ≡ b → (not b && list_any (is_of F) above) ≡ false → cond b (runs_of st (n ∷ above) n.family) no_runs ≡ runs_of st (n ∷ above) F
+    by true e none = ap (runs_of st (n ∷ above)) ((bytes_decides n.family F).0 e)
+    by false e none = sym (no_samples_no_runs st (n ∷ above) F (no_samples (n ∷ above) F (rw e none)))
+
 module _ (st : Setting) (c : Checking) (earlier : List Item) (s : Stands st c earlier) where
   abbrev lines : List Owned
   lines = owned_lines st.format earlier
 
   fit : AreFit st lines
-  fit = fit_lines st earlier s.text s.text_items s.faultless
+  fit = fit_lines st earlier s.faultless
 
   -- Split, by what is kept
   split_kept : (F : List ℕ) (item : Item) → (not (is_current_family c.current F) && is_some (lookup (bytes_eq F) c.left)) ≡ is_split lines (record { family = F; item = item })
@@ -192,15 +192,15 @@ module _ (st : Setting) (c : Checking) (earlier : List Item) (s : Stands st c ea
   split_own F item h = sym (split_kept F item) ∙ ap (λ b. not b && is_some (lookup (bytes_eq F) c.left)) h
 
   -- Descriptor, by what is kept
-  late_kept : (F : List ℕ) (item : Item) → is_descriptor item ≡ true → is_late item (known_in c.left c.current F) ≡ is_late_descriptor lines (record { family = F; item = item })
-  late_kept F item h = sym (rw (s.left, s.current) (late_above st lines F item h))
+  late_kept : (F : List ℕ) (d : Descriptor) → is_late_in d (known_in c.left c.current F) ≡ is_late_descriptor lines (record { family = F; item = line_of F d })
+  late_kept F d = sym (rw (s.left, s.current) (late_above st lines F d))
 
   -- Incomplete, by what is kept
   pub left_kept : (F : List ℕ) → is_current_family c.current F ≡ false → left_stop c.current ≡ left_fault st lines (Some F)
-  left_kept F h = ap left_stop s.current ∙ left_other st lines (Some F) s.text fit (ap (λ k. is_current_family k F) (sym s.current) ∙ h)
+  left_kept F h = ap left_stop s.current ∙ left_other st lines (Some F) fit (ap (λ k. is_current_family k F) (sym s.current) ∙ h)
 
   pub left_at_end : left_stop c.current ≡ left_fault st lines None
-  left_at_end = ap left_stop s.current ∙ left_other st lines None s.text fit refl
+  left_at_end = ap left_stop s.current ∙ left_other st lines None fit refl
 
   pub stays : (F : List ℕ) → is_current_family c.current F ≡ true → leaves_incomplete st lines (Some F) ≡ false
   stays F h = left_own st lines F (ap (λ k. is_current_family k F) (sym s.current) ∙ h)
@@ -216,56 +216,55 @@ module _ (st : Setting) (c : Checking) (earlier : List Item) (s : Stands st c ea
       current : cond (is_current_family c.current F) c.current (first_line F) ≡ Some (record { name = F; family = so_far st lines F })
       current = rw s.current (ready_current st F item lines h)
 
+      runs : cond (is_current_family c.current F) c.runs no_runs ≡ runs_of st lines F
+      runs = rw (s.runs, s.current) (ready_runs st F item lines h)
+
+      -- the same checker but for its families
+      ready_for : (d : Checking) → d.setting ≡ c.setting → d.seen ≡ c.seen → d.samples ≡ c.samples → d.ended ≡ c.ended → d.stopped ≡ c.stopped
+          → d.runs ≡ cond (is_current_family c.current F) c.runs no_runs → d.left ≡ cond (is_current_family c.current F) c.left (with_left c.left c.current) → d.current ≡ cond (is_current_family c.current F) c.current (first_line F) → IsReady st d earlier F
+      ready_for d setting seen samples ended stopped runs_is left_is current_is = record {
+        setting = setting ∙ s.setting;
+        left = left_is ∙ left;
+        current = current_is ∙ current;
+        runs = runs_is ∙ runs;
+        seen = seen ∙ s.seen;
+        samples = samples ∙ s.samples;
+        ended = ended ∙ s.ended;
+        working = stopped ∙ s.working;
+        faultless = s.faultless;
+      }
+
       by : (b : Bool) → is_current_family c.current F ≡ b
           → IsReady st (cond b c (begun c F)) earlier F
-      by true e = record {
-        setting = s.setting;
-        text = s.text;
-        left = ap (λ b. cond b c.left (with_left c.left c.current)) (sym e) ∙ left;
-        current = ap (λ b. cond b c.current (first_line F)) (sym e) ∙ current;
-        seen = s.seen;
-        samples = s.samples;
-        working = s.working;
-        text_items = s.text_items;
-        faultless = s.faultless;
-      }
-      by false e = record {
-        setting = s.setting;
-        text = s.text;
-        left = ap (λ b. cond b c.left (with_left c.left c.current)) (sym e) ∙ left;
-        current = ap (λ b. cond b c.current (first_line F)) (sym e) ∙ current;
-        seen = s.seen;
-        samples = s.samples;
-        working = s.working;
-        text_items = s.text_items;
-        faultless = s.faultless;
-      }
+      by true e = ready_for c refl refl refl refl refl (ap (λ b. cond b c.runs no_runs) (sym e)) (ap (λ b. cond b c.left (with_left c.left c.current)) (sym e)) (ap (λ b. cond b c.current (first_line F)) (sym e))
+      by false e = ready_for (begun c F) refl refl refl refl refl (ap (λ b. cond b c.runs no_runs) (sym e)) (ap (λ b. cond b c.left (with_left c.left c.current)) (sym e)) (ap (λ b. cond b c.current (first_line F)) (sym e))
 
 -- ---- a line more
 
 module _ (st : Setting) (c : Checking) (earlier : List Item) (F : List ℕ) (r : IsReady st c earlier F) where
   -- another checker, in which only the current family, the seen samples and their number have changed
-  stands_with : (item : Item) → IsTextItem item → item_fault st earlier item ≡ None → owner_of st.format (owned_lines st.format earlier) item ≡ Some F
+  stands_with : (item : Item) → item_fault st earlier item ≡ None → is_eof item ≡ false → owner_of st.format (owned_lines st.format earlier) item ≡ Some F
       → (d : Checking) → d.setting ≡ c.setting → d.left ≡ c.left → d.current ≡ Some (record { name = F; family = so_far st (record { family = F; item = item } ∷ owned_lines st.format earlier) F })
-      → d.seen ≡ keys_above st (record { family = F; item = item } ∷ owned_lines st.format earlier) → d.samples ≡ count_by is_sample (item ∷ earlier) → d.stopped ≡ c.stopped
+      → d.runs ≡ runs_of st (record { family = F; item = item } ∷ owned_lines st.format earlier) F
+      → d.seen ≡ keys_above st (record { family = F; item = item } ∷ owned_lines st.format earlier) → d.samples ≡ count_by is_sample (item ∷ earlier) → d.ended ≡ c.ended → d.stopped ≡ c.stopped
       → Stands st d (item ∷ earlier)
-  unfolding left_families current_family owned_lines
-  stands_with item text none owner d setting left current seen samples stopped =
+  unfolding left_families current_family nearest_runs owned_lines
+  stands_with item none more owner d setting left current runs seen samples ended stopped =
       let above : List Owned = owned_lines st.format earlier in
       let o : Owned = record { family = F; item = item } in
       let lines : owned_lines st.format (item ∷ earlier) ≡ o ∷ above = ap (λ w. with_owner w item above) owner in
-      let fit : AreFit st (o ∷ above) = subst (AreFit st) lines (fit_lines st (item ∷ earlier) r.text (text, r.text_items) (none, r.faultless)) in
+      let fit : AreFit st (o ∷ above) = subst (AreFit st) lines (fit_lines st (item ∷ earlier) (none, r.faultless)) in
       let pairs_same : pairs (so_far st above) (left_before F above) ≡ pairs (so_far st (o ∷ above)) (left_before F above) =
       map-pairs (so_far st above) (so_far st (o ∷ above)) F (left_before F above) (fresh st F item above fit.1 fit.0.together) (λ name e. sym (so_far-other st o above name e)) in
       let placed : Stands st d (item ∷ earlier) = record {
         setting = setting ∙ r.setting;
-        text = r.text;
         left = left ∙ r.left ∙ pairs_same ∙ ap (λ l. pairs (so_far st l) (left_families l)) (sym lines);
         current = current ∙ ap (current_family st) (sym lines);
+        runs = runs ∙ ap (nearest_runs st) (sym lines);
         seen = seen ∙ ap (keys_above st) (sym lines);
         samples = samples;
+        ended = ended ∙ r.ended ∙ ap (λ b. b || list_any is_eof earlier) (sym more);
         working = stopped ∙ r.working;
-        text_items = (text, r.text_items);
         faultless = (none, r.faultless);
       } in placed
 
@@ -281,116 +280,118 @@ module _ (st : Setting) (c : Checking) (earlier : List Item) (F : List ℕ) (r :
   unfolding so_far kind_of
   ready_kind = ap current_kind r.current
 
-  pub stands_help : (text : List ℕ) → item_fault st earlier (items.Help F text) ≡ None
-      → Stands st (with_current c (current_with (λ f. record f { help = Some text }) c.current)) (items.Help F text ∷ earlier)
-  stands_help text none = stands_with (items.Help F text) tt none refl (with_current c (current_with (λ f. record f { help = Some text }) c.current)) refl refl
-      (changed (λ f. record f { help = Some text }) (so_far st (record { family = F; item = items.Help F text } ∷ owned_lines st.format earlier) F) (so_far-help st F text (owned_lines st.format earlier)))
-      (unseen (items.Help F text) refl) r.samples refl
-
-  pub stands_kind : (kind : Kind) → IsTextItem (items.KindOf F kind) → item_fault st earlier (items.KindOf F kind) ≡ None
-      → is_late_descriptor (owned_lines st.format earlier) (record { family = F; item = items.KindOf F kind }) ≡ false
-      → Stands st (with_current c (current_with (λ f. record f { kind = Some kind }) c.current)) (items.KindOf F kind ∷ earlier)
-  stands_kind kind text none late =
+  -- a descriptor more
+  pub stands_described : (d : Descriptor) → item_fault st earlier (line_of F d) ≡ None
+      → is_late_descriptor (owned_lines st.format earlier) (record { family = F; item = line_of F d }) ≡ false
+      → Stands st (with_descriptor c d) (line_of F d ∷ earlier)
+  unfolding samples_of
+  stands_described d none late =
       let above : List Owned = owned_lines st.format earlier in
-      let first : samples_of (reverse above) F ≡ [] = reversed_samples above F ∙ ap reverse (none_above above F (items.KindOf F kind) refl late) in
-      stands_with (items.KindOf F kind) text none refl (with_current c (current_with (λ f. record f { kind = Some kind }) c.current)) refl refl
-      (changed (λ f. record f { kind = Some kind }) (so_far st (record { family = F; item = items.KindOf F kind } ∷ above) F) (so_far-kind st F kind above first))
-      (unseen (items.KindOf F kind) refl) r.samples refl
+      let o : Owned = record { family = F; item = line_of F d } in
+      let unsampled : samples_of above F ≡ [] = none_above above F (line_of F d) (is_one F d) late in
+      let first : samples_of (reverse above) F ≡ [] = reversed_samples above F ∙ ap reverse unsampled in
+      let still : samples_of (o ∷ above) F ≡ [] = (λ i. cons_option (cond (bytes_same F i) (no_sample d i) None) (samples_of above F)) ∙ unsampled in
+      let runs : runs_of st above F ≡ runs_of st (o ∷ above) F = no_samples_no_runs st above F unsampled ∙ sym (no_samples_no_runs st (o ∷ above) F still) in
+      stands_with (line_of F d) none (more d) (owner d) (with_descriptor c d) refl refl
+      (changed (family_with d) (so_far st (o ∷ above) F) (so_far-descriptor st F d above first))
+      (r.runs ∙ runs) (unseen (line_of F d) (no_sample d)) (r.samples ∙ uncounted d) refl refl
+    where
+      owner : (d : Descriptor) → owner_of st.format (owned_lines st.format earlier) (line_of F d) ≡ Some F
+      owner (sorts.Help t) = refl
+      owner (sorts.Type k) = refl
+      owner (sorts.Unit u) = refl
 
-  pub stands_unit : (unit : List ℕ) → item_fault st earlier (items.Unit F unit) ≡ None
-      → Stands st (with_current c (current_with (λ f. record f { unit = Some unit }) c.current)) (items.Unit F unit ∷ earlier)
-  stands_unit unit none = stands_with (items.Unit F unit) tt none refl (with_current c (current_with (λ f. record f { unit = Some unit }) c.current)) refl refl
-      (changed (λ f. record f { unit = Some unit }) (so_far st (record { family = F; item = items.Unit F unit } ∷ owned_lines st.format earlier) F) (so_far-unit st F unit (owned_lines st.format earlier)))
-      (unseen (items.Unit F unit) refl) r.samples refl
+      more : (d : Descriptor) → is_eof (line_of F d) ≡ false
+      more (sorts.Help t) = refl
+      more (sorts.Type k) = refl
+      more (sorts.Unit u) = refl
+
+      no_sample : (d : Descriptor) → sample_of_line (line_of F d) ≡ None
+      no_sample (sorts.Help t) = refl
+      no_sample (sorts.Type k) = refl
+      no_sample (sorts.Unit u) = refl
+
+      uncounted : (d : Descriptor) → count_by is_sample earlier ≡ count_by is_sample (line_of F d ∷ earlier)
+      uncounted (sorts.Help t) = refl
+      uncounted (sorts.Type k) = refl
+      uncounted (sorts.Unit u) = refl
+
+  -- Unit, by what is kept
+  pub unit_kept : (d : Descriptor) → unit_stop c.current d ≡ unit_fault (owned_lines st.format earlier) (record { family = F; item = line_of F d })
+  unit_kept d = ap (λ k. unit_stop k d) r.current
+      ∙ ap (λ b. cond b (Some rules.Unit) None) (bad_unit_above st (owned_lines st.format earlier) F d (fit_lines st earlier r.faultless))
 
   -- a sample more, whose groups are these
-  sampled : (s : Sample) (groups : List (LabelSet × Gathered)) → s.exemplar ≡ None → sample_owner st.format (owned_lines st.format earlier) s.name ≡ F → item_fault st earlier (items.Sample s) ≡ None
-      → (d : Checking) → d.setting ≡ c.setting → d.left ≡ c.left → d.seen ≡ c.seen → d.samples ≡ c.samples → d.stopped ≡ c.stopped
+  sampled : (s : Sample) (groups : List (LabelSet × Gathered)) → sample_owner st.format (owned_lines st.format earlier) s.name ≡ F → item_fault st earlier (items.Sample s) ≡ None
+      → (d : Checking) → d.setting ≡ c.setting → d.left ≡ c.left → d.seen ≡ c.seen → d.samples ≡ c.samples → d.ended ≡ c.ended → d.stopped ≡ c.stopped
+      → d.runs ≡ runs_of st (record { family = F; item = items.Sample s } ∷ owned_lines st.format earlier) F
       → d.current ≡ current_with (λ f. record f { groups = groups }) c.current
       → groups ≡ grown st (kind_of (owned_lines st.format earlier) F) F s (so_far st (owned_lines st.format earlier) F).groups
       → Stands st (with_sample d (key_of st s) s.value) (items.Sample s ∷ earlier)
   unfolding with_sample keys_above
-  sampled s groups text owner none d setting left seen samples stopped current groups_are =
+  sampled s groups owner none d setting left seen samples ended stopped runs current groups_are =
       let above : List Owned = owned_lines st.format earlier in
       let change : FamilySoFar → FamilySoFar = λ f. record f { values = f.values ++ s.value ∷ []; groups = groups } in
       let more : count_by is_sample (items.Sample s ∷ earlier) ≡ 1 + count_by is_sample earlier = sum_by-cons (λ x. cond (is_sample x) 1 0) (items.Sample s) earlier in
       let counted : c.samples ≡ count_by is_sample earlier = r.samples in
-      stands_with (items.Sample s) text none (ap Some owner) (with_sample d (key_of st s) s.value) setting left
-      (ap (current_with (λ f. record f { values = f.values ++ s.value ∷ [] })) current ∙ twice c.current
+      stands_with (items.Sample s) none refl (ap Some owner) (with_sample d (key_of st s) s.value) setting left
+      (ap (current_with (family_with_value s.value)) current ∙ twice c.current
       ∙ changed change (so_far st (record { family = F; item = items.Sample s } ∷ above) F)
       (so_far-sample st F s above ∙ ap (λ g. record (so_far st above F) { values = (so_far st above F).values ++ s.value ∷ []; groups = g }) (sym groups_are)))
-      (ap (λ l. l ++ key_of st s ∷ []) (seen ∙ r.seen)) (omega (arith, samples, counted, more)) stopped
+      runs (ap (λ l. l ++ key_of st s ∷ []) (seen ∙ r.seen)) (omega (arith, samples, counted, more)) ended stopped
     where
-      twice : (k : Option Current) → current_with (λ f. record f { values = f.values ++ s.value ∷ [] }) (current_with (λ f. record f { groups = groups }) k)
+      twice : (k : Option Current) → current_with (family_with_value s.value) (current_with (λ f. record f { groups = groups }) k)
           ≡ current_with (λ f. record f { values = f.values ++ s.value ∷ []; groups = groups }) k
       twice None = refl
       twice (Some k) = refl
 
-  -- a sample of a kind without groups
-  pub stands_sample : (s : Sample) → s.exemplar ≡ None → sample_owner st.format (owned_lines st.format earlier) s.name ≡ F → item_fault st earlier (items.Sample s) ≡ None
-      → is_grouped (kind_of (owned_lines st.format earlier) F) ≡ false
-      → Stands st (with_sample c (key_of st s) s.value) (items.Sample s ∷ earlier)
-  unfolding so_far groups_so_far
-  stands_sample s text owner none plain =
+  -- the groups that have begun, with a sample more
+  entered_runs : (s : Sample) (k : Kind) → k ≡ kind_of (owned_lines st.format earlier) F
+      → runs_with c.setting.format c.current k (kept_labels st.treatment s.labels) c.runs ≡ runs_of st (record { family = F; item = items.Sample s } ∷ owned_lines st.format earlier) F
+  entered_runs s k kind =
       let above : List Owned = owned_lines st.format earlier in
-      let groups : (so_far st above F).groups ≡ grown st (kind_of above F) F s (so_far st above F).groups = rw plain refl in
-      let same : c.current ≡ current_with (λ f. record f { groups = (so_far st above F).groups }) c.current = r.current ∙ sym (ap (current_with (λ f. record f { groups = (so_far st above F).groups })) r.current) in
-      sampled s (so_far st above F).groups text owner none c refl refl refl refl refl same groups
+      (λ i. runs_with (r.setting i).format (r.current i) (kind i) (kept_labels st.treatment s.labels) (r.runs i)) ∙ sym (runs_sample st F s above)
 
-  -- a sample of a kind with groups, in its group
-  pub stands_grouped : (s : Sample) (part : Part) → s.exemplar ≡ None → sample_owner st.format (owned_lines st.format earlier) s.name ≡ F → item_fault st earlier (items.Sample s) ≡ None
-      → (k : Kind) → k ≡ kind_of (owned_lines st.format earlier) F → is_grouped k ≡ true → part ≡ part_of F s
-      → Stands st (with_sample (with_current c (current_with (with_part_in k (kept_labels st.treatment s.labels) part) c.current)) (key_of st s) s.value) (items.Sample s ∷ earlier)
-  stands_grouped s part text owner none k kind grouped part_is =
+  -- a sample more, in its group where its kind has groups
+  pub stands_sample : (s : Sample) → sample_owner st.format (owned_lines st.format earlier) s.name ≡ F → item_fault st earlier (items.Sample s) ≡ None
+      → (k : Kind) → k ≡ kind_of (owned_lines st.format earlier) F → (b : Bool) → is_grouped st.format k ≡ b
+      → Stands st (with_sample (with_told (entered_by c k (kept_labels st.treatment s.labels)) k (kept_labels st.treatment s.labels) (Ok (cond b (Some (part_of F s)) None))) (key_of st s) s.value) (items.Sample s ∷ earlier)
+  unfolding so_far groups_so_far
+  stands_sample s owner none k kind false plain =
       let above : List Owned = owned_lines st.format earlier in
+      let ungrouped : is_grouped st.format (kind_of above F) ≡ false = ap (is_grouped st.format) (sym kind) ∙ plain in
+      let groups : (so_far st above F).groups ≡ grown st (kind_of above F) F s (so_far st above F).groups = rw ungrouped refl in
+      let same : c.current ≡ current_with (λ f. record f { groups = (so_far st above F).groups }) c.current = r.current ∙ sym (ap (current_with (λ f. record f { groups = (so_far st above F).groups })) r.current) in
+      sampled s (so_far st above F).groups owner none (entered_by c k (kept_labels st.treatment s.labels)) refl refl refl refl refl refl (entered_runs s k kind) same groups
+  stands_sample s owner none k kind true grouped =
+      let above : List Owned = owned_lines st.format earlier in
+      let labels : LabelSet = kept_labels st.treatment s.labels in
       let f : FamilySoFar = so_far st above F in
-      let groups : List (LabelSet × Gathered) = with_part f.groups (shared_labels k (kept_labels st.treatment s.labels)) part in
-      let here : is_grouped (kind_of above F) ≡ true = ap is_grouped (sym kind) ∙ grouped in
-      let label_is : shared_labels k (kept_labels st.treatment s.labels) ≡ sample_group st (kind_of above F) F s =
-      ap (λ k. shared_labels k (kept_labels st.treatment s.labels)) kind ∙ sym (shared_group st (kind_of above F) F s here) in
-      let groups_are : groups ≡ grown st (kind_of above F) F s f.groups = (λ i. with_part f.groups (label_is i) (part_is i))
+      let groups : List (LabelSet × Gathered) = with_part f.groups (shared_labels k labels) (part_of F s) in
+      let here : is_grouped st.format (kind_of above F) ≡ true = ap (is_grouped st.format) (sym kind) ∙ grouped in
+      let label_is : shared_labels k labels ≡ sample_group st (kind_of above F) F s = ap (λ k. shared_labels k labels) kind ∙ sym (shared_group st (kind_of above F) F s here) in
+      let groups_are : groups ≡ grown st (kind_of above F) F s f.groups = (λ i. with_part f.groups (label_is i) (part_of F s))
       ∙ ap (λ b. cond b (with_part f.groups (sample_group st (kind_of above F) F s) (part_of F s)) []) (sym here) in
-      let current : current_with (with_part_in k (kept_labels st.treatment s.labels) part) c.current ≡ current_with (λ f. record f { groups = groups }) c.current =
-      ap (current_with (with_part_in k (kept_labels st.treatment s.labels) part)) r.current ∙ sym (ap (current_with (λ f. record f { groups = groups })) r.current) in
-      sampled s groups text owner none (with_current c (current_with (with_part_in k (kept_labels st.treatment s.labels) part) c.current)) refl refl refl refl refl current groups_are
+      let current : current_with (with_part_in k labels (part_of F s)) c.current ≡ current_with (λ f. record f { groups = groups }) c.current =
+      ap (current_with (with_part_in k labels (part_of F s))) r.current ∙ sym (ap (current_with (λ f. record f { groups = groups })) r.current) in
+      sampled s groups owner none (with_part_at (entered_by c k labels) k labels (part_of F s)) refl refl refl refl refl refl (entered_runs s k kind) current groups_are
 
 -- ---- the place of a descriptor
 
-sort_of_item : (sort : Descriptor) (item : Item) → is_of_sort sort item ≡ true → (is_descriptor item ≡ true) × ((o : Option FamilySoFar) → is_late_in sort o ≡ is_late item o)
-sort_of_item sorts.Help (items.Help n t) h = (refl, by)
-  where
-    by : (o : Option FamilySoFar) → is_late_in sorts.Help o ≡ is_late (items.Help n t) o
-    by None = refl
-    by (Some f) = refl
-sort_of_item sorts.Type (items.KindOf n t) h = (refl, by)
-  where
-    by : (o : Option FamilySoFar) → is_late_in sorts.Type o ≡ is_late (items.KindOf n t) o
-    by None = refl
-    by (Some f) = refl
-sort_of_item sorts.Unit (items.Unit n t) h = (refl, by)
-  where
-    by : (o : Option FamilySoFar) → is_late_in sorts.Unit o ≡ is_late (items.Unit n t) o
-    by None = refl
-    by (Some f) = refl
-sort_of_item _ _ h = absurd (let f : false ≡ true = h in cc)
-
 -- Descriptor, Split or Incomplete, by what is kept
-pub place_kept : (st : Setting) (c : Checking) (earlier : List Item) → Stands st c earlier → (F : List ℕ) (sort : Descriptor) (item : Item) → is_of_sort sort item ≡ true
-    → place_stop c F sort ≡ place_fault st (owned_lines st.format earlier) (record { family = F; item = item })
+pub place_kept : (st : Setting) (c : Checking) (earlier : List Item) → Stands st c earlier → (F : List ℕ) (d : Descriptor)
+    → place_stop c F d ≡ place_fault st (owned_lines st.format earlier) (record { family = F; item = line_of F d })
 unfolding place_stop
-place_kept st c earlier s F sort item h =
-    let above : List Owned = owned_lines st.format earlier in
-    let line : Owned = record { family = F; item = item } in
-    let fits = sort_of_item sort item h in
-    let late : is_late_in sort (known_in c.left c.current F) ≡ is_late_descriptor above line = fits.1 (known_in c.left c.current F) ∙ late_kept st c earlier s F item fits.0 in
-    ap (λ b. cond b (Some rules.Descriptor) (cond (is_current_family c.current F) None (cond (is_some (lookup (bytes_eq F) c.left)) (Some rules.Split) (left_stop c.current)))) late
-    ∙ ap (cond (is_late_descriptor above line) (Some rules.Descriptor)) (by (is_current_family c.current F) refl)
+place_kept st c earlier s F d =
+    let line : Owned = record { family = F; item = line_of F d } in
+    ap (λ b. cond b (Some rules.Descriptor) (cond (is_current_family c.current F) None (cond (is_some (lookup (bytes_eq F) c.left)) (Some rules.Split) (left_stop c.current)))) (late_kept st c earlier s F d)
+    ∙ ap (cond (is_late_descriptor (owned_lines st.format earlier) line) (Some rules.Descriptor)) (by (is_current_family c.current F) refl)
   where
     by : (b : Bool) → is_current_family c.current F ≡ b
         → cond b None (cond (is_some (lookup (bytes_eq F) c.left)) (Some rules.Split) (left_stop c.current))
-        ≡ cond (is_split (owned_lines st.format earlier) (record { family = F; item = item })) (Some rules.Split) (left_fault st (owned_lines st.format earlier) (Some F))
-    by true e = sym (rw (split_own st c earlier s F item e, stays st c earlier s F e) refl)
-    by false e = λ i. cond (split_left st c earlier s F item e i) (Some rules.Split) (left_kept st c earlier s F e i)
+        ≡ cond (is_split (owned_lines st.format earlier) (record { family = F; item = line_of F d })) (Some rules.Split) (left_fault st (owned_lines st.format earlier) (Some F))
+    by true e = sym (rw (split_own st c earlier s F (line_of F d) e, stays st c earlier s F e) refl)
+    by false e = λ i. cond (split_left st c earlier s F (line_of F d) e i) (Some rules.Split) (left_kept st c earlier s F e i)
 
 -- ---- the owner of a sample
 
@@ -416,40 +417,6 @@ owner_own : (st : Setting) (above : List Owned) (name : List ℕ) → is_current
 unfolding current_family sample_owner so_far kind_of
 owner_own st [] name h = refl
 owner_own st (n ∷ above) name h = ap (λ b. cond b n.family name) h
-
--- ---- duplicates
-
-pub label_sets_swap : (a b : LabelSet) → label_sets_eq a b ≡ label_sets_eq b a
-label_sets_swap [] [] = refl
-label_sets_swap [] (y ∷ ys) = refl
-label_sets_swap (x ∷ xs) [] = refl
-label_sets_swap (x ∷ xs) (y ∷ ys) = ap (λ b. (b && bytes_eq x.value y.value) && label_sets_eq xs ys) (bytes_swap x.name y.name)
-    ∙ ap (λ b. (bytes_eq y.name x.name && b) && label_sets_eq xs ys) (bytes_swap x.value y.value)
-    ∙ ap (λ b. (bytes_eq y.name x.name && bytes_eq y.value x.value) && b) (label_sets_swap xs ys)
-
-key_same : (st : Setting) (s t : Sample) → sample_key_eq (key_of st s) (key_of st t) ≡ is_same_series st s t
-key_same st s t = ap (λ b. b && label_sets_eq (kept_labels st.treatment s.labels) (kept_labels st.treatment t.labels)) (bytes_swap s.name t.name)
-    ∙ ap (λ b. bytes_eq t.name s.name && b) (label_sets_swap (kept_labels st.treatment s.labels) (kept_labels st.treatment t.labels))
-
-or_comm : (a b : Bool) → (a || b) ≡ (b || a)
-or_comm true true = refl
-or_comm true false = refl
-or_comm false true = refl
-or_comm false false = refl
-
--- Duplicate, by the keys
-pub duplicate_keys : (st : Setting) (above : List Owned) (s : Sample) → list_any (sample_key_eq (key_of st s)) (keys_above st above) ≡ is_duplicate st above s
-unfolding keys_above is_duplicate
-duplicate_keys st [] s = refl
-duplicate_keys st (o ∷ above) s =
-    list_any-append (sample_key_eq (key_of st s)) (keys_above st above) (option_to_list (option_map (key_of st) (sample_of_line o.item)))
-    ∙ or_comm (list_any (sample_key_eq (key_of st s)) (keys_above st above)) (list_any (sample_key_eq (key_of st s)) (option_to_list (option_map (key_of st) (sample_of_line o.item))))
-    ∙ ap (λ b. b || list_any (sample_key_eq (key_of st s)) (keys_above st above)) (by (sample_of_line o.item))
-    ∙ ap (λ b. some_passes (is_same_series st s) (sample_of_line o.item) || b) (duplicate_keys st above s)
-  where
-    by : (t : Option Sample) → list_any (sample_key_eq (key_of st s)) (option_to_list (option_map (key_of st) t)) ≡ some_passes (is_same_series st s) t
-    by None = refl
-    by (Some t) = or_false (sample_key_eq (key_of st s) (key_of st t)) ∙ key_same st s t
 
 -- ---- a sample by its name
 

@@ -10,7 +10,6 @@ use Rattle.label_sets.specs.Labels.{label_sets_eq}
 use Rattle.label_sets.specs.Lists.{first_of_each, first_some}
 use Rattle.exact_decimal.specs.declared.number.Number.{Number}
 use Rattle.exact_decimal.specs.Order.{whole}
-use Rattle.page_model.specs.declared.format.Format.TheVariants.{Text}
 use Rattle.page_model.specs.declared.item.Item.{Item}
 use Rattle.page_model.specs.declared.item.Sample.{Sample}
 use Rattle.page_model.specs.declared.page.Reading.{Reading}
@@ -27,7 +26,6 @@ use Rattle.sample_groups.specs.Groups.{Gathered, groups_from, is_whole_group, re
 use Rattle.sample_groups.specs.Parts.{is_grouped, entry_of}
 use Rattle.sample_groups.specs.Sound.{AreSound}
 use Rattle.sample_groups.proofs.Laws.{whole_kept, readings_made, RiseToUp, whole_rise}
-use Rattle.family_rules.specs.Checking.{AreTextItems}
 use Rattle.family_rules.proofs.Faults.{fit_lines, sound_samples}
 use Rattle.family_rules.proofs.Kept.{reversed_samples}
 use Rattle.family_rules.proofs.Complete.{all_complete}
@@ -104,12 +102,12 @@ plain_value (Some n) = tt
 
 -- ---- the readings of a family
 
-module _ (st : Setting) (family unit : List ℕ) (text : st.format ≡ Text) where
+module _ (st : Setting) (family unit : List ℕ) where
   -- the groups of samples, the nearest first, are whole
   abbrev AreWhole : Kind → List Sample → Type 0
   AreWhole kind above = list_all (λ (g : LabelSet × Gathered). is_whole_group g.1) (groups_from (map (entry_of st kind family) (reverse above))) ≡ true
 
-  rising_readings : (kind : Kind) (gs : List (LabelSet × Gathered)) → is_histogram kind ≡ true → AllByRecursion (λ (g : LabelSet × Gathered). RiseToUp g.1.buckets) gs → HaveValuesOf kind (map (reading_from kind family unit) gs)
+  rising_readings : (kind : Kind) (gs : List (LabelSet × Gathered)) → is_histogram kind ≡ true → AllByRecursion (λ (g : LabelSet × Gathered). RiseToUp g.1.buckets) gs → HaveValuesOf kind (filter_map (reading_from st.format kind family unit) gs)
   rising_readings Histogram [] h rise = tt
   rising_readings Histogram (g ∷ gs) h rise = (rise.0, rising_readings Histogram gs h rise.1)
   rising_readings GaugeHistogram [] h rise = tt
@@ -121,10 +119,10 @@ module _ (st : Setting) (family unit : List ℕ) (text : st.format ≡ Text) whe
   rising_readings Info gs h rise = absurd cc
   rising_readings Unknown gs h rise = absurd cc
 
-  histogram_values : (kind : Kind) (above : List Sample) → is_histogram kind ≡ true → is_grouped kind ≡ true → AreSound st kind family above → AreWhole kind above → HaveValuesOf kind (readings_of st kind family unit (reverse above))
+  histogram_values : (kind : Kind) (above : List Sample) → is_histogram kind ≡ true → is_grouped st.format kind ≡ true → AreSound st kind family above → AreWhole kind above → HaveValuesOf kind (readings_of st kind family unit (reverse above))
   histogram_values kind above histogram grouped sound whole =
-      subst (HaveValuesOf kind) (sym (readings_made st kind family unit above grouped text sound))
-      (rising_readings kind (groups_from (map (entry_of st kind family) (reverse above))) histogram (whole_rise st kind family histogram text above sound whole))
+      subst (HaveValuesOf kind) (sym (readings_made st kind family unit above grouped sound))
+      (rising_readings kind (groups_from (map (entry_of st kind family) (reverse above))) histogram (whole_rise st kind family histogram above sound whole))
 
   family_values : (kind : Kind) (above : List Sample) → AreSound st kind family above → (is_histogram kind ≡ true → AreWhole kind above) → HaveValuesOf kind (readings_of st kind family unit (reverse above))
   unfolding value_of
@@ -144,24 +142,24 @@ module _ (st : Setting) (family unit : List ℕ) (text : st.format ≡ Text) whe
 -- ---- the page
 
 -- a histogram that is complete has whole groups
-whole_groups : (st : Setting) (kind : Kind) (family : List ℕ) (samples : List Sample) → st.format ≡ Text → AreSound st kind family samples
+whole_groups : (st : Setting) (kind : Kind) (family : List ℕ) (samples : List Sample) → AreSound st kind family samples
     → (is_histogram kind && not (list_all (is_complete_at st kind family samples) samples)) ≡ false → is_histogram kind ≡ true
     → list_all (λ (g : LabelSet × Gathered). is_whole_group g.1) (groups_from (map (entry_of st kind family) (reverse samples))) ≡ true
-whole_groups st kind family samples text sound complete histogram =
+whole_groups st kind family samples sound complete histogram =
     let all : list_all (is_complete_at st kind family samples) samples ≡ true = not-false (list_all (is_complete_at st kind family samples) samples) (rw histogram at complete) in
-    sym (whole_kept st kind family samples histogram text sound) ∙ all
+    sym (whole_kept st kind family samples histogram sound) ∙ all
 
 -- the readings of each family of lines without a fault have values of its kind
-pub page_values : (st : Setting) (earlier : List Item) (clean : Bool) → st.format ≡ Text → AreTextItems earlier → AreFaultless st earlier → end_fault st earlier clean ≡ None
+pub page_values : (st : Setting) (earlier : List Item) (clean : Bool) → AreFaultless st earlier → end_fault st earlier clean ≡ None
     → (family : List ℕ) → HaveValuesOf (family_of st (reverse (owned_lines st.format earlier)) family).kind (family_of st (reverse (owned_lines st.format earlier)) family).readings
 unfolding family_of is_incomplete
-page_values st earlier clean text texts free none family =
+page_values st earlier clean free none family =
     let above : List Owned = owned_lines st.format earlier in
     let unit : List ℕ = unwrap_or (first_some (unit_in family) (reverse above)) [] in
     let kind_is : kind_of (reverse above) family ≡ kind_of above family = kind_of_page st earlier family free in
     let samples_are : samples_of (reverse above) family ≡ reverse (samples_of above family) = reversed_samples above family in
-    let sound : AreSound st (kind_of above family) family (samples_of above family) = sound_samples st above family (fit_lines st earlier text texts free) in
+    let sound : AreSound st (kind_of above family) family (samples_of above family) = sound_samples st above family (fit_lines st earlier free) in
     let values_are : HaveValuesOf (kind_of above family) (readings_of st (kind_of above family) family unit (reverse (samples_of above family))) =
-    family_values st family unit text (kind_of above family) (samples_of above family) sound (whole_groups st (kind_of above family) family (samples_of above family) text sound (all_complete st earlier clean free none family)) in
+    family_values st family unit (kind_of above family) (samples_of above family) sound (whole_groups st (kind_of above family) family (samples_of above family) sound (all_complete st earlier clean free none family)) in
     subst (λ (k : Kind). HaveValuesOf k (readings_of st k family unit (samples_of (reverse above) family))) (sym kind_is)
     (subst (λ (l : List Sample). HaveValuesOf (kind_of above family) (readings_of st (kind_of above family) family unit l)) (sym samples_are) values_are)

@@ -1,28 +1,27 @@
 -- What a checker keeps of the lines above, and which lines it stands for. Lists of earlier lines have the nearest first.
 -- Prometheus text format 0.0.4, "Grouping and sorting": the lines of a family stand together, so only the family of the nearest line goes on.
-use Rattle.std.specs.Prelude.{◌≡◌, ℕ, Bool, false, not, List, [], ◌∷◌, ◌++◌, map, reverse, count_by, Option, Some, None, option_map, unwrap_or, is_some, IsTrue, Result, Ok, Err, ⊤, if◌then◌else◌, length, ◌==◌}
+use Rattle.std.specs.Prelude.{◌≡◌, ℕ, Bool, not, List, [], ◌∷◌, ◌++◌, map, reverse, count_by, Option, Some, None, option_map, unwrap_or, Result, Ok, Err, ⊤, if◌then◌else◌, length, ◌==◌}
+use Rattle.std.specs.List.{list_any}
 use Rattle.std.specs.Option.{option_to_list}
 use Rattle.label_sets.specs.declared.kind.Kind.{Kind}
 use Rattle.label_sets.specs.declared.kind.Kind.TheVariants.{Unknown}
 use Rattle.label_sets.specs.declared.label_set.LabelSet.{LabelSet}
 use Rattle.label_sets.specs.Lists.{first_some}
-use Rattle.page_model.specs.declared.format.Format.TheVariants.{Text}
 use Rattle.page_model.specs.declared.item.Item.{Item}
-use Rattle.page_model.specs.declared.item.Item.TheVariants as items
 use Rattle.page_model.specs.declared.item.Sample.{Sample}
 use Rattle.page_model.specs.declared.fault.PageFault.{PageFault}
 use Rattle.page_model.specs.declared.fault.PageFault.TheVariants as faults
 use Rattle.page_model.specs.declared.rule.Rule.{Rule}
 use Rattle.page_model.specs.Written.{Setting}
-use Rattle.page_model.specs.Items.{is_sample, sample_of_line}
+use Rattle.page_model.specs.Items.{is_eof, is_sample, sample_of_line}
 use Rattle.page_model.specs.Owners.{Owned, is_of, declared_kind, kind_of, owned_lines, samples_of, kept_labels}
-use Rattle.page_model.specs.Rules.{is_info_or_state_set}
 use Rattle.page_model.specs.Pages.{AreFaultless}
 use Rattle.page_model.specs.Readings.{help_in, unit_in}
 use Rattle.sample_groups.specs.Groups.{Gathered, groups_from}
 use Rattle.sample_groups.specs.Parts.{is_grouped, entry_of}
 use Rattle.family_rules.specs.declared.family.Current.{Current}
 use Rattle.family_rules.specs.declared.family.FamilySoFar.{FamilySoFar}
+use Rattle.family_rules.specs.GroupRuns.{Runs, nearest_runs}
 use Rattle.packed_keys.specs.declared.sample_key.SampleKey.{SampleKey}
 
 -- ---- what is kept
@@ -32,8 +31,10 @@ pub record Checking : Type 0 where
   pub setting : Setting
   pub left : List (List ℕ × FamilySoFar)
   pub current : Option Current
+  pub runs : Runs
   pub seen : List SampleKey
   pub samples : ℕ
+  pub ended : Bool
   pub stopped : Option PageFault
 
 -- a family without lines
@@ -48,18 +49,11 @@ kind_in f = unwrap_or f.kind Unknown
 abbrev pub has_samples : FamilySoFar → Bool
 has_samples f = not (length f.values == 0)
 
--- the family has a descriptor of the sort of this item
-abbrev pub has_sort : Item → FamilySoFar → Bool
-has_sort (items.Help name text) f = is_some f.help
-has_sort (items.KindOf name kind) f = is_some f.kind
-has_sort (items.Unit name unit) f = is_some f.unit
-has_sort _ f = false
-
 -- ---- what the lines above come to
 
 -- the groups of samples, where their kind has groups
 unfoldable pub groups_so_far : Setting → Kind → List ℕ → List Sample → List (LabelSet × Gathered)
-groups_so_far st kind family samples = if is_grouped kind then groups_from (map (entry_of st kind family) samples) else []
+groups_so_far st kind family samples = if is_grouped st.format kind then groups_from (map (entry_of st kind family) samples) else []
 
 -- what is known of a family from these lines
 unfoldable pub so_far : Setting → List Owned → List ℕ → FamilySoFar
@@ -98,27 +92,16 @@ keys_above st (o ∷ above) = keys_above st above ++ option_to_list (option_map 
 
 -- ---- what a checker stands for
 
--- an item without what only OpenMetrics has: an exemplar, an info or a state set
-abbrev pub IsTextItem : Item → Type 0
-IsTextItem (items.KindOf name kind) = IsTrue (not (is_info_or_state_set kind))
-IsTextItem (items.Sample s) = s.exemplar ≡ None
-IsTextItem _ = ⊤
-
--- each of the items is one of the text format
-abbrev pub AreTextItems : List Item → Type 0
-AreTextItems [] = ⊤
-AreTextItems (item ∷ earlier) = IsTextItem item × AreTextItems earlier
-
 -- the checker has taken these items, the nearest first, and refused none
 pub record Stands (st : Setting) (c : Checking) (earlier : List Item) : Type 0 where
   pub setting : c.setting ≡ st
-  pub text : st.format ≡ Text
   pub left : c.left ≡ map (λ family. (family, so_far st (owned_lines st.format earlier) family)) (left_families (owned_lines st.format earlier))
   pub current : c.current ≡ current_family st (owned_lines st.format earlier)
+  pub runs : c.runs ≡ nearest_runs st (owned_lines st.format earlier)
   pub seen : c.seen ≡ keys_above st (owned_lines st.format earlier)
   pub samples : c.samples ≡ count_by is_sample earlier
+  pub ended : c.ended ≡ list_any is_eof earlier
   pub working : c.stopped ≡ None
-  pub text_items : AreTextItems earlier
   pub faultless : AreFaultless st earlier
 
 -- the checker has refused, or wanted memory, and answers this

@@ -1,5 +1,8 @@
 pub mod LeftFamilies
 pub mod Rare
 pub mod SampleKeys
+pub mod GroupRuns
 pub mod Checking
 pub mod Steps
+pub mod Samples
+pub mod Made

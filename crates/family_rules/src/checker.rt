@@ -1,35 +1,26 @@
 //! The checker: items in, and the first fault, a page or its counts out.
-ghost use Rattle.std.specs.Prelude.{◌≡◌, ◌++◌, List, [], ◌∷◌, Err, IfErr, true, not, is_some, None, Some, IfOk, OnOk};
-ghost use Rattle.std.specs.Map.{lookup};
-ghost use Rattle.std.specs.Option.{option_copied};
-ghost use Rattle.std.specs.Str.{bytes_eq};
+ghost use Rattle.std.specs.Prelude.{◌≡◌, List, [], ◌∷◌, Err, IfErr, Some, IfOk, OnOk};
 ghost use Rattle.page_model.specs.Written.{Setting};
-ghost use Rattle.page_model.specs.Owners.{kept_labels};
-ghost use Rattle.page_model.specs.Rules.{is_foreign_unit};
 ghost use Rattle.page_model.specs.declared.item.Item.{Item};
-ghost use Rattle.page_model.specs.declared.item.Item.TheVariants.{Help, KindOf, Unit};
 ghost use Rattle.page_model.specs.declared.item.Item.TheVariants as items;
 ghost use Rattle.page_model.specs.declared.fault.PageFault.{PageFault};
 ghost use Rattle.page_model.specs.Faults.{item_fault, end_fault};
 ghost use Rattle.page_model.specs.Readings.{page_of};
 ghost use Rattle.page_model.specs.Counts.{counts_of};
-ghost use Rattle.sample_groups.specs.Parts.{is_grouped};
-ghost use Rattle.family_rules.specs.Steps.{with_left};
 
-use crate::family::{Current, Descriptor, FamilySoFar};
+mod places;
+mod samples;
+
+use crate::family::{Current, Descriptor};
 use crate::keys::SampleKeys;
 use crate::left::LeftFamilies;
 use crate::pages::families_in;
-use crate::rare_text::RareText;
-use crate::suffix::is_sample_name;
-use exact_decimal::Number;
-use label_sets::{Kind, LabelSet, Memory, Name, Text};
-use packed_keys::SampleKey;
-use page_model::{Format, Item, Page, PageCounts, PageFault, Rule, Sample, Treatment};
-use sample_groups::{Part, is_grouped, part_of};
+use crate::runs::GroupRuns;
+use label_sets::Memory;
+use page_model::{Format, Item, Page, PageCounts, PageFault, Rule, Treatment};
+use places::put_left;
 use std::alloc::Global;
 use std::marker::Model;
-use std::mem;
 
 /// Checks the rules of a page in one pass over its items and builds its page.
 #[derive(Drop)]
@@ -40,8 +31,12 @@ pub struct Checker {
     limit: u32,
     left: LeftFamilies,
     current: Option<Current>,
+    /// The groups of the current family, where the format has rule 12.
+    runs: GroupRuns,
     seen: SampleKeys,
     samples: u32,
+    /// A line `# EOF` was taken.
+    ended: bool,
     /// The first refusal, or want of memory.
     stopped: Option<PageFault>,
 }
@@ -55,15 +50,18 @@ impl Model for Checker {
       setting = record { format = c.format; treatment = c.treatment; limit = c.limit };
       left = c.left;
       current = c.current;
+      runs = c.runs;
       seen = c.seen;
       samples = c.samples;
+      ended = c.ended;
       stopped = c.stopped;
     } };
 }
 
 impl Checker {
-    ghost use Rattle.family_rules.specs.Checking.{Stands, IsTextItem, Answers, TellsEnd, HasStopped, key_of};
-    ghost use Rattle.family_rules.specs.Steps.{Takes, TellsPart, is_current_family, known_in, current_kind, is_late_in, left_stop, place_stop, is_current_sample, begun, reached, current_with, with_current, with_part_in, fits_order, order_stop, with_sample, sample_stop, page_at};
+    ghost use Rattle.family_rules.specs.Checking.{Stands, Answers, TellsEnd, HasStopped};
+    ghost use Rattle.family_rules.specs.Steps.{Takes, TakesAny, has_ended, end_stop};
+    ghost use Rattle.family_rules.specs.Made.{page_at};
 
     /// A checker that has taken no line, and will make a page. `limit` is the most samples that the page may have.
     pub fn new(
@@ -72,7 +70,6 @@ impl Checker {
         treatment: Treatment,
         limit: u32,
     ) -> Result<Checker, Memory>
-        requires { format ≡ Format.Text }
         ensures { IfOk result (λ c. Stands (record { format = format; treatment = treatment; limit = limit }) c []) }
     {
         let keys = SampleKeys::new(alloc, true);
@@ -86,7 +83,6 @@ impl Checker {
         treatment: Treatment,
         limit: u32,
     ) -> Result<Checker, Memory>
-        requires { format ≡ Format.Text }
         ensures { IfOk result (λ c. Stands (record { format = format; treatment = treatment; limit = limit }) c []) }
     {
         let keys = SampleKeys::new(alloc, false);
@@ -101,8 +97,7 @@ impl Checker {
         limit: u32,
         seen: SampleKeys,
     ) -> Checker
-        requires text { format ≡ Format.Text }
-        requires none { seen ≡ [] }
+        requires { seen ≡ [] }
         ensures { Stands (record { format = format; treatment = treatment; limit = limit }) result [] }
     {
         Checker {
@@ -112,350 +107,54 @@ impl Checker {
             limit,
             left: LeftFamilies::new(alloc),
             current: None,
+            runs: GroupRuns::new(alloc),
             seen,
             samples: 0,
+            ended: false,
             stopped: None,
         }
     }
 
-    /// Whether this is the family of the nearest line.
-    fn is_current(&self, family: &Name) -> bool
-        ensures { result ≡ is_current_family self.now.current family.now }
+    /// Rule 7: the page has ended.
+    fn has_ended(&self) -> bool
+        ensures { result ≡ has_ended self.now }
     {
-        match &self.current {
-            Some(current) => current.name == *family,
-            None => false,
+        match self.format {
+            Format::Text => false,
+            Format::OpenMetrics => self.ended,
         }
     }
 
-    /// What is known of a family that has a line.
-    fn known(&self, family: &Name) -> Option<&FamilySoFar>
-        ensures { option_copied result ≡ known_in self.now.left self.now.current family.now }
+    /// Takes `# EOF`, and answers the rule that it breaks.
+    fn take_end(&mut self) -> Option<Rule>
+        ensures { Takes items.Eof self.old self.new result }
     {
-        match &self.current {
-            Some(current) if current.name == *family => Some(&current.family),
-            _ => self.left.get(family),
-        }
-    }
-
-    /// Whether the family was left before the nearest line.
-    fn is_left(&self, family: &Name) -> bool
-        ensures { result ≡ is_some (lookup (bytes_eq family.now) self.now.left) }
-    {
-        self.left.has(family)
-    }
-
-    /// Rule 9: the family has an earlier descriptor of this sort, or an earlier sample.
-    fn is_late(&self, family: &Name, sort: Descriptor) -> bool
-        ensures { result ≡ is_late_in sort (known_in self.now.left self.now.current family.now) }
-    {
-        match self.known(family) {
-            Some(known) => known.is_late(sort),
-            None => false,
-        }
-    }
-
-    /// Rule 18: a line of another family leaves a histogram that is incomplete.
-    fn left_rule(&self) -> Option<Rule>
-        ensures { result ≡ left_stop self.now.current }
-    {
-        match &self.current {
-            Some(current) if current.family.is_incomplete() => Some(Rule::Incomplete),
-            _ => None,
-        }
-    }
-
-    /// The rule that a descriptor breaks by its place: 9, 11 or 18.
-    #[tactic(auto, unfolding(crate::specs::Steps::place_stop))]
-    fn place_rule(&self, family: &Name, sort: Descriptor) -> Option<Rule>
-        ensures { result ≡ place_stop self.now family.now sort }
-    {
-        if self.is_late(family, sort) {
-            return Some(Rule::Descriptor);
-        }
-        if self.is_current(family) {
-            return None;
-        }
-        if self.is_left(family) {
-            return Some(Rule::Split);
-        }
+        self.ended = true;
         self.left_rule()
     }
 
-    /// Begins this family, and leaves the one before it.
-    fn begin(&mut self, family: Name) -> Result<(), Memory>
-        ensures { OnOk result (self.new ≡ begun self.old family) }
-    {
-        let next = Current {
-            name: family,
-            family: FamilySoFar::new(self.alloc),
-        };
-        let before = mem::replace(&mut self.current, Some(next));
-        put_left(&mut self.left, before)
-    }
-
-    /// Makes this the current family, where another was.
-    fn reach(&mut self, family: Name) -> Result<(), Memory>
-        ensures { OnOk result (self.new ≡ reached self.old family) }
-    {
-        if self.is_current(&family) {
-            return Ok(());
-        }
-        self.begin(family)
-    }
-
-    fn set_help(&mut self, text: Text)
-        ensures { self.new ≡ with_current self.old (current_with (λ f. record f { help = Some text }) self.old.current) }
-    {
-        if let Some(current) = &mut self.current {
-            current.family.help = Some(text);
-        }
-    }
-
-    fn set_kind(&mut self, kind: Kind)
-        ensures { self.new ≡ with_current self.old (current_with (λ f. record f { kind = Some kind }) self.old.current) }
-    {
-        if let Some(current) = &mut self.current {
-            current.family.kind = Some(kind);
-        }
-    }
-
-    fn set_unit(&mut self, unit: Text) -> Result<(), Memory>
-        ensures { OnOk result (self.new ≡ with_current self.old (current_with (λ f. record f { unit = Some unit }) self.old.current)) }
-    {
-        let unit = RareText::some(self.alloc, unit)?;
-        if let Some(current) = &mut self.current {
-            current.family.unit = unit;
-        }
-        Ok(())
-    }
-
-    /// Makes this the current family for a descriptor of this sort, or answers the rule that is broken by its
-    /// place: 9, 11 or 18.
-    fn place(&mut self, family: Name, sort: Descriptor) -> Result<Option<Rule>, Memory>
-        ensures broken { IfOk result (λ answer. answer ≡ place_stop self.old family sort) }
-        ensures placed { IfOk result (λ answer. answer ≡ None → self.new ≡ reached self.old family) }
-    {
-        if let Some(rule) = self.place_rule(&family, sort) {
-            return Ok(Some(rule));
-        }
-        self.reach(family)?;
-        Ok(None)
-    }
-
-    /// Takes a HELP line, and answers the rule that it breaks.
-    fn take_help(&mut self, name: Name, text: Text) -> Result<Option<Rule>, Memory>
-        ensures { IfOk result (Takes (Help name text) self.old self.new) }
-    {
-        let broken = self.place(name, Descriptor::Help)?;
-        if broken.is_some() {
-            return Ok(broken);
-        }
-        self.set_help(text);
-        Ok(None)
-    }
-
-    /// Takes a TYPE line, and answers the rule that it breaks.
-    fn take_kind(&mut self, name: Name, kind: Kind) -> Result<Option<Rule>, Memory>
-        ensures { IfOk result (Takes (KindOf name kind) self.old self.new) }
-    {
-        let broken = self.place(name, Descriptor::Type)?;
-        if broken.is_some() {
-            return Ok(broken);
-        }
-        self.set_kind(kind);
-        Ok(None)
-    }
-
-    /// Takes a UNIT line, and answers the rule that it breaks.
-    fn take_unit(&mut self, name: Name, unit: Text) -> Result<Option<Rule>, Memory>
-        ensures { IfOk result (Takes (Unit name unit) self.old self.new) }
-    {
-        let is_foreign = is_foreign_unit(&name, &unit);
-        let broken = self.place(name, Descriptor::Unit)?;
-        if broken.is_some() {
-            return Ok(broken);
-        }
-        if is_foreign {
-            return Ok(Some(Rule::Unit));
-        }
-        self.set_unit(unit)?;
-        Ok(None)
-    }
-
-    /// The kind of the family of the nearest line.
-    fn current_kind(&self) -> Kind
-        ensures { result ≡ current_kind self.now.current }
-    {
-        match &self.current {
-            Some(current) => current.family.kind(),
-            None => Kind::Unknown,
-        }
-    }
-
-    /// Whether the family of the nearest line owns a sample of this name.
-    fn is_current_sample(&self, name: &Name) -> bool
-        ensures { result ≡ is_current_sample self.now.setting.format self.now.current name.now }
-    {
-        match &self.current {
-            Some(current) => {
-                is_sample_name(self.format, current.family.kind(), &current.name, name)
-            }
-            None => false,
-        }
-    }
-
-    /// A label set as a page of this treatment keeps it.
-    fn kept_labels(&self, labels: LabelSet) -> Result<LabelSet, Memory>
-        ensures { IfOk result (λ kept. kept ≡ kept_labels self.now.setting.treatment labels) }
-    {
-        match self.treatment {
-            Treatment::Scraped => labels.renamed(self.alloc),
-            Treatment::Written => Ok(labels),
-        }
-    }
-
-    /// Adds the value of a sample to the current family.
-    fn push_value(&mut self, value: Number) -> Result<(), Memory>
-        ensures { OnOk result (self.new ≡ with_current self.old (current_with (λ f. record f { values = f.values ++ value ∷ [] }) self.old.current)) }
-    {
-        if let Some(current) = &mut self.current {
-            current.family.push_value(self.alloc, value)?;
-        }
-        Ok(())
-    }
-
-    /// Adds a sample of the current family, or answers the rule that it breaks: 14, then the given one, then 20.
-    fn add_key(
-        &mut self,
-        key: SampleKey,
-        value: Number,
-        broken: Option<Rule>,
-    ) -> Result<Option<Rule>, Memory>
-        ensures broken { IfOk result (λ answer. answer ≡ sample_stop self.old key broken) }
-        ensures added { IfOk result (λ answer. answer ≡ None → self.new ≡ with_sample self.old key value) }
-    {
-        let added = self.seen.insert(key)?;
-        if !added {
-            return Ok(Some(Rule::Duplicate));
-        }
-        if broken.is_some() {
-            return Ok(broken);
-        }
-        if self.samples >= self.limit {
-            return Ok(Some(Rule::TooMany));
-        }
-        self.samples += 1;
-        self.push_value(value)?;
-        Ok(None)
-    }
-
-    /// Adds a sample that breaks the given rule, or none of 15 to 18, and is in no group.
-    fn add_sample(&mut self, sample: Sample, broken: Option<Rule>) -> Result<Option<Rule>, Memory>
-        ensures broken { IfOk result (λ answer. answer ≡ sample_stop self.old (key_of self.old.setting sample) broken) }
-        ensures added { IfOk result (λ answer. answer ≡ None → self.new ≡ with_sample self.old (key_of self.old.setting sample) sample.value) }
-    {
-        let Sample {
-            name,
-            labels,
-            value,
-            ..
-        } = sample;
-        let labels = self.kept_labels(labels)?;
-        self.add_key(SampleKey { name, labels }, value, broken)
-    }
-
-    /// What a sample of the current family is to its group, or the rule that it breaks: 15 or 16.
-    fn part(&self, kind: Kind, sample: &Sample) -> Result<Part, Rule>
-        ensures { TellsPart self.now kind sample.now result }
-    {
-        match &self.current {
-            Some(current) => part_of(kind, &current.name, sample),
-            None => Err(Rule::Suffix),
-        }
-    }
-
-    /// Adds a part to its group in the current family, unless it breaks rule 17.
-    fn add_part(&mut self, kind: Kind, labels: &LabelSet, part: Part) -> Result<bool, Memory>
-        ensures answer { IfOk result (λ added. added ≡ fits_order kind labels.now part self.old.current) }
-        ensures added { IfOk result (λ added. added ≡ true → self.new ≡ with_current self.old (current_with (with_part_in kind labels.now part) self.old.current)) }
-        ensures rest { OnOk result (self.new ≡ with_current self.old self.new.current) }
-    {
-        match &mut self.current {
-            Some(current) => current.family.groups.add(self.alloc, kind, labels, part),
-            None => Ok(true),
-        }
-    }
-
-    /// Adds a sample to its group, or answers the rule that it breaks: 14, 17 or 20.
-    fn add_grouped(
-        &mut self,
-        kind: Kind,
-        sample: Sample,
-        part: Part,
-    ) -> Result<Option<Rule>, Memory>
-        ensures broken { IfOk result (λ answer. answer ≡ sample_stop self.old (key_of self.old.setting sample) (order_stop kind (kept_labels self.old.setting.treatment sample.labels) part self.old.current)) }
-        ensures added { IfOk result (λ answer. answer ≡ None → self.new ≡ with_sample (with_current self.old (current_with (with_part_in kind (kept_labels self.old.setting.treatment sample.labels) part) self.old.current)) (key_of self.old.setting sample) sample.value) }
-    {
-        let Sample {
-            name,
-            labels,
-            value,
-            ..
-        } = sample;
-        let labels = self.kept_labels(labels)?;
-        let added = self.add_part(kind, &labels, part)?;
-        let broken = (!added).then_some(Rule::Order);
-        self.add_key(SampleKey { name, labels }, value, broken)
-    }
-
-    /// Takes a sample of the current family, and answers the rule that it breaks: 14 to 17 or 20.
-    fn take_own(&mut self, sample: Sample) -> Result<Option<Rule>, Memory>
-        requires { is_current_sample self.now.setting.format self.now.current sample.name ≡ true }
-        ensures { IfOk result (Takes (items.Sample sample) self.old self.new) }
-    {
-        let kind = self.current_kind();
-        if !is_grouped(kind) {
-            return self.add_sample(sample, None);
-        }
-        match self.part(kind, &sample) {
-            Ok(part) => self.add_grouped(kind, sample, part),
-            Err(rule) => self.add_sample(sample, Some(rule)),
-        }
-    }
-
-    /// Takes a sample line, and answers the rule that it breaks.
-    fn take_sample(&mut self, sample: Sample) -> Result<Option<Rule>, Memory>
-        ensures { IfOk result (Takes (items.Sample sample) self.old self.new) }
-    {
-        if self.is_current_sample(&sample.name) {
-            return self.take_own(sample);
-        }
-        // It is of the family of its own name, and begins it.
-        if self.is_current(&sample.name) {
-            return Ok(Some(Rule::Suffix));
-        }
-        if self.is_left(&sample.name) {
-            return Ok(Some(Rule::Split));
-        }
-        let broken = self.left_rule();
-        let family = sample.name.copy()?;
-        self.begin(family)?;
-        self.add_sample(sample, broken)
-    }
-
-    /// Takes an item, and answers the rule that it breaks.
-    fn take(&mut self, item: Item) -> Result<Option<Rule>, Memory>
+    /// Takes an item of a page that goes on, and answers the rule that it breaks.
+    fn take_more(&mut self, item: Item) -> Result<Option<Rule>, Memory>
         ensures { IfOk result (Takes item self.old self.new) }
     {
         match item {
             Item::Blank | Item::Comment => Ok(None),
-            Item::Eof => Ok(self.left_rule()),
-            Item::Help { name, text } => self.take_help(name, text),
-            Item::KindOf { name, kind } => self.take_kind(name, kind),
-            Item::Unit { name, unit } => self.take_unit(name, unit),
+            Item::Eof => Ok(self.take_end()),
+            Item::Help { name, text } => self.take_descriptor(name, Descriptor::Help(text)),
+            Item::KindOf { name, kind } => self.take_descriptor(name, Descriptor::Type(kind)),
+            Item::Unit { name, unit } => self.take_descriptor(name, Descriptor::Unit(unit)),
             Item::Sample(sample) => self.take_sample(sample),
         }
+    }
+
+    /// Takes an item, and answers the rule that it breaks.
+    fn take(&mut self, item: Item) -> Result<Option<Rule>, Memory>
+        ensures { IfOk result (TakesAny item self.old self.new) }
+    {
+        if self.has_ended() {
+            return Ok(Some(Rule::AfterEof));
+        }
+        self.take_more(item)
     }
 
     /// Keeps what the checker answers from now on.
@@ -470,7 +169,6 @@ impl Checker {
     /// Takes the item of a line. It is refused where it breaks a rule, the least of which is named, and the
     /// checker goes on answering its first refusal, or `Memory` after that.
     pub fn item(&mut self, line: u32, item: Item) -> Result<(), PageFault>
-        requires { IsTextItem item }
         ensures answer { (st : Setting) (earlier : List Item) → Stands st self.old earlier → Answers line (item_fault st earlier item) result }
         ensures stands { (st : Setting) (earlier : List Item) → Stands st self.old earlier → OnOk result (Stands st self.new (item ∷ earlier)) }
         ensures stops { IfErr result (HasStopped self.new) }
@@ -492,6 +190,7 @@ impl Checker {
     {
         let Checker {
             alloc,
+            format,
             mut left,
             current,
             seen,
@@ -499,7 +198,7 @@ impl Checker {
             ..
         } = self;
         put_left(&mut left, current)?;
-        let families = families_in(alloc, left, seen.into_entries())?;
+        let families = families_in(alloc, format, left, seen.into_entries())?;
         Ok(Page { families, samples })
     }
 
@@ -520,8 +219,20 @@ impl Checker {
         })
     }
 
-    /// The fault of the end: an earlier refusal or want of memory, then a missing line feed, then a histogram
-    /// that is left incomplete.
+    /// The rule that the end breaks: a missing line feed in a text, a missing `# EOF` in OpenMetrics, or a
+    /// histogram that is left incomplete.
+    #[tactic(auto, unfolding(crate::specs::Steps::end_stop))]
+    fn end_rule(&self, clean: bool) -> Option<Rule>
+        ensures { result ≡ end_stop self.now clean }
+    {
+        match self.format {
+            Format::Text if !clean => Some(Rule::NoNewline),
+            Format::OpenMetrics if !self.ended => Some(Rule::NoEof),
+            Format::Text | Format::OpenMetrics => self.left_rule(),
+        }
+    }
+
+    /// The fault of the end: an earlier refusal or want of memory, then the rule that the end breaks.
     fn end_fault(&self, line: u32, clean: bool) -> Option<PageFault>
         ensures answer { (st : Setting) (earlier : List Item) → Stands st self.now earlier → TellsEnd line (end_fault st earlier clean) result }
         ensures stopped { (fault : PageFault) → HasStopped self.now fault → result ≡ Some fault }
@@ -529,13 +240,7 @@ impl Checker {
         if let Some(fault) = self.stopped {
             return Some(fault);
         }
-        if !clean {
-            return Some(PageFault::Refused {
-                line,
-                rule: Rule::NoNewline,
-            });
-        }
-        match self.left_rule() {
+        match self.end_rule(clean) {
             Some(rule) => Some(PageFault::Refused { line, rule }),
             None => None,
         }
@@ -564,29 +269,5 @@ impl Checker {
             return Err(fault);
         }
         Ok(self.into_counts()?)
-    }
-}
-
-/// Puts a family behind those that were left.
-fn put_left(left: &mut LeftFamilies, current: Option<Current>) -> Result<(), Memory>
-    ensures { OnOk result (left.new ≡ with_left left.old current) }
-{
-    match current {
-        Some(Current { name, family }) => left.put(&name, family),
-        None => Ok(()),
-    }
-}
-
-/// Whether a unit isn't empty, and with an underscore no suffix of the family's name (OpenMetrics 1.0,
-/// "Unit").
-fn is_foreign_unit(family: &Name, unit: &Text) -> bool
-    ensures { result ≡ is_foreign_unit family.now unit.now }
-{
-    if unit.is_empty() {
-        return false;
-    }
-    match family.as_bytes().strip_suffix(unit.as_bytes()) {
-        Some(front) => !front.ends_with(b"_"),
-        None => true,
     }
 }

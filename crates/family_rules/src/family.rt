@@ -1,7 +1,7 @@
 //! What is known of a family from its lines so far.
 ghost use Rattle.std.specs.Prelude.{◌≡◌, ◌||◌, ◌++◌, [], ◌∷◌, None, Some, OnOk, is_some};
 ghost use Rattle.family_rules.specs.Checking.{no_lines, has_samples, kind_in};
-ghost use Rattle.family_rules.specs.Steps.{has, has_incomplete};
+ghost use Rattle.family_rules.specs.Steps.{has, family_with, has_incomplete};
 
 use crate::numbers::Numbers;
 use crate::rare_text::RareText;
@@ -10,12 +10,12 @@ use label_sets::{Kind, Memory, Name, Text};
 use sample_groups::Groups;
 use std::alloc::Global;
 
-/// A sort of lines that describe a family.
-#[derive(Clone, Copy)]
+/// What a line says that describes a family.
+#[derive(Drop)]
 pub enum Descriptor {
-    Help,
-    Type,
-    Unit,
+    Help(Text),
+    Type(Kind),
+    Unit(Text),
 }
 
 /// What is known of a family from its lines so far.
@@ -76,14 +76,26 @@ impl FamilySoFar {
         self.values.push(alloc, value)
     }
 
-    /// Whether a descriptor of this sort comes too late: behind one of its sort, or behind a sample.
-    pub fn is_late(&self, sort: Descriptor) -> bool
-        ensures { result ≡ (has sort self.now || has_samples self.now) }
+    /// Keeps what a line says of it.
+    pub fn describe(&mut self, alloc: Global, descriptor: Descriptor) -> Result<(), Memory>
+        ensures { OnOk result (self.new ≡ family_with descriptor self.old) }
     {
-        let described = match sort {
-            Descriptor::Help => self.help.is_some(),
-            Descriptor::Type => self.kind.is_some(),
-            Descriptor::Unit => self.unit.is_some(),
+        match descriptor {
+            Descriptor::Help(text) => self.help = Some(text),
+            Descriptor::Type(kind) => self.kind = Some(kind),
+            Descriptor::Unit(unit) => self.unit = RareText::some(alloc, unit)?,
+        }
+        Ok(())
+    }
+
+    /// Whether a descriptor comes too late: behind one of its sort, or behind a sample.
+    pub fn is_late(&self, descriptor: &Descriptor) -> bool
+        ensures { result ≡ (has descriptor.now self.now || has_samples self.now) }
+    {
+        let described = match descriptor {
+            Descriptor::Help(_) => self.help.is_some(),
+            Descriptor::Type(_) => self.kind.is_some(),
+            Descriptor::Unit(_) => self.unit.is_some(),
         };
         described || !self.values.is_empty()
     }

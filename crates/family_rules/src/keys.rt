@@ -50,7 +50,7 @@ fn keep(kept: &mut Option<Vec<SampleKey>>, key: SampleKey)
     ensures { (keys : List AnyKey) → AreKept kept.old keys → AreKept kept.new (keys ++ key ∷ []) }
 {
     match kept {
-        Some(kept) => kept.push(key).unwrap(),
+        Some(kept) => kept.push_reserved(key),
         None => {}
     }
 }

@@ -3,15 +3,18 @@
 #![tactic(auto)]
 
 mod checker;
+mod exemplars;
 mod family;
 mod keys;
 mod left;
 mod numbers;
 mod pages;
 mod rare_text;
-mod suffix;
+mod runs;
+mod sample_values;
 #[cfg(test)]
 mod tests;
+mod unit;
 
 pub use checker::Checker;
 pub use page_model::{

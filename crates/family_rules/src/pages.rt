@@ -1,6 +1,6 @@
 //! The families and readings of a page, from what was kept of its lines (OpenMetrics 1.0, "Data Model").
 ghost use Rattle.std.specs.Prelude.{◌≡◌, [], drop, length, unwrap_or, IfOk, OnOk};
-ghost use Rattle.family_rules.specs.Steps.{plain_reading, readings_at, family_at, families_at};
+ghost use Rattle.family_rules.specs.Made.{plain_reading, readings_at, family_at, families_at};
 
 use crate::family::FamilySoFar;
 use crate::keys::KeyEntries;
@@ -9,7 +9,7 @@ use crate::numbers::Numbers;
 use exact_decimal::Number;
 use label_sets::{Kind, List, Memory, Name, SeriesKey, Text};
 use packed_keys::SampleKey;
-use page_model::{Family, Reading, Value};
+use page_model::{Family, Format, Reading, Value};
 use sample_groups::is_grouped;
 use std::alloc::Global;
 
@@ -24,17 +24,11 @@ fn text_or_empty(text: Option<Text>) -> Text
 }
 
 /// The reading of a sample.
-fn reading(
-    alloc: Global,
-    kind: Kind,
-    unit: &Text,
-    key: SampleKey,
-    value: Number,
-) -> Result<Reading, Memory>
-    ensures { IfOk result (λ reading. reading ≡ plain_reading kind unit.now key value) }
+#[inline(always)]
+fn reading(alloc: Global, kind: Kind, unit: Text, key: SampleKey, value: Number) -> Reading
+    ensures { result ≡ plain_reading kind unit key value }
 {
-    let unit = unit.copy()?;
-    Ok(Reading {
+    Reading {
         key: SeriesKey {
             name: key.name,
             kind,
@@ -45,7 +39,7 @@ fn reading(
         created: None,
         stamp: None,
         exemplars: List::new(alloc),
-    })
+    }
 }
 
 /// The readings of these values, whose keys come next.
@@ -65,7 +59,8 @@ fn readings(
         let Some(key) = next else {
             break;
         };
-        readings.push(reading(alloc, kind, unit, key, value)?)?;
+        let unit = unit.copy()?;
+        readings.push_reserved(reading(alloc, kind, unit, key, value));
     }
     Ok(readings)
 }
@@ -73,19 +68,22 @@ fn readings(
 /// The family of what is known of it; the keys of its samples come next.
 fn family(
     alloc: Global,
+    format: Format,
     name: Name,
     known: FamilySoFar,
     keys: &mut KeyEntries,
 ) -> Result<Family, Memory>
-    ensures family { IfOk result (λ family. family ≡ family_at name known keys.old) }
+    ensures family { IfOk result (λ family. family ≡ family_at format name known keys.old) }
     ensures rest { OnOk result (keys.new ≡ drop (length known.values) keys.old) }
 {
     let kind = known.kind();
     let help = text_or_empty(known.help);
     let unit = text_or_empty(known.unit.into_text());
-    if is_grouped(kind) {
+    if is_grouped(format, kind) {
         keys.pass_over(known.values.len());
-        let readings = known.groups.into_readings(alloc, kind, &name, &unit)?;
+        let readings = known
+            .groups
+            .into_readings(alloc, format, kind, &name, &unit)?;
         return Ok(Family {
             name,
             kind,
@@ -108,10 +106,11 @@ fn family(
 /// behind the other.
 pub fn families_in(
     alloc: Global,
+    format: Format,
     known: LeftFamilies,
     keys: KeyEntries,
 ) -> Result<List<Family>, Memory>
-    ensures { IfOk result (λ families. families ≡ families_at known keys) }
+    ensures { IfOk result (λ families. families ≡ families_at format known keys) }
 {
     let mut families = Vec::with_capacity(alloc, known.len())?;
     let mut entries = known.into_entries();
@@ -121,6 +120,6 @@ pub fn families_in(
         let Some((name, so_far)) = next else {
             return List::from_vec(families);
         };
-        families.push(family(alloc, name, so_far, &mut keys)?)?;
+        families.push(family(alloc, format, name, so_far, &mut keys)?)?;
     }
 }

@@ -1,5 +1,7 @@
 //! A text that few have.
 ghost use Rattle.std.specs.Prelude.{◌≡◌, None, Some, IfOk, is_some};
+ghost use Rattle.label_sets.specs.Lists.{some_passes};
+ghost use Rattle.page_model.specs.Rules.{is_unit};
 
 use label_sets::{Memory, Text};
 use std::alloc::Global;
@@ -42,6 +44,16 @@ impl RareText {
         ensures { result ≡ is_some self.now }
     {
         self.text.is_some()
+    }
+
+    /// Whether there is a text that isn't empty.
+    pub fn is_filled(&self) -> bool
+        ensures { result ≡ some_passes is_unit self.now }
+    {
+        match &self.text {
+            Some(text) => !text.is_empty(),
+            None => false,
+        }
     }
 
     /// The text, where there is one.

@@ -22,11 +22,9 @@ impl Layout {
     pub fn copy(&self) -> Result<Layout, Memory>
         ensures { IfOk result (λ layout. layout ≡ self.now) }
     {
-        let bounds = self.bounds.copy()?;
-        let counts = self.counts.copy()?;
         Ok(Layout {
-            bounds,
-            counts,
+            bounds: self.bounds.copy()?,
+            counts: self.counts.copy()?,
             count: self.count,
         })
     }

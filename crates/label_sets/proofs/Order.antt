@@ -204,6 +204,7 @@ kept {X} p (x ∷ xs) z c t = go (p x) refl (contains_cases x xs z c) (λ k. kep
     go false e (inl same) ih = absurd (let f : true ≡ false = sym t ∙ (ap p (sym same) ∙ e) in cc)
     go false e (inr rest) ih = ih rest
 
+-- what is true of each element is true of those that are kept
 filtered : {X : Type 0} (P : X → Type 0) (p : X → Bool) (xs : List X) → AllByRecursion P xs → AllByRecursion P (filter p xs)
 filtered P p [] h = tt
 filtered P p (x ∷ xs) h = go (p x) (filtered P p xs h.1)
@@ -212,20 +213,21 @@ filtered P p (x ∷ xs) h = go (p x) (filtered P p xs h.1)
     go true ih = (h.0, ih)
     go false ih = ih
 
-pub distinct_kept : (p : Label → Bool) (xs : List Label) → IsDistinct same_name xs → IsDistinct same_name (filter p xs)
+-- distinct elements stay distinct where some are left out
+pub distinct_kept : {X : Type 0} (e : X → X → Bool) (p : X → Bool) (xs : List X) → IsDistinct e xs → IsDistinct e (filter p xs)
 unfolding IsDistinct
-distinct_kept p [] h = tt
-distinct_kept p (x ∷ xs) h = go (p x) (distinct_kept p xs h.1)
+distinct_kept e p [] h = tt
+distinct_kept e p (x ∷ xs) h = go (p x) (distinct_kept e p xs h.1)
   where
-    go : (b : Bool) → IsDistinct same_name (filter p xs) → IsDistinct same_name (cond b (x ∷ filter p xs) (filter p xs))
-    go true ih = (filtered (λ y. same_name x y ≡ false) p xs h.0, ih)
+    go : (b : Bool) → IsDistinct e (filter p xs) → IsDistinct e (cond b (x ∷ filter p xs) (filter p xs))
+    go true ih = (filtered (λ y. e x y ≡ false) p xs h.0, ih)
     go false ih = ih
 
 -- what is left of a sorted list without empty values is the set of the pairs
 pub set_is : (xs ys : List Label) → IsPermutation xs ys → IsStrictlySortedBy by_name ys → filter has_value ys ≡ label_set xs
 set_is xs ys p h = same_sorted by_name by_name_total (filter has_value ys) (labels_sorted (filter has_value xs))
     (IsStrictlySortedBy-filter by_name has_value ys h)
-    (sorted_ascending (filter has_value xs) (distinct_kept has_value xs (distinct_before xs ys p h)))
+    (sorted_ascending (filter has_value xs) (distinct_kept same_name has_value xs (distinct_before xs ys p h)))
     (λ z c. let both = kept_from has_value ys z c in
     Contains-permutation (filter has_value xs) (labels_sorted (filter has_value xs)) z (sorted_moves (filter has_value xs)) (kept has_value xs z (Contains-permutation ys xs z (IsPermutation-sym xs ys p) both.0) both.1))
     (λ z c. let both = kept_from has_value xs z (Contains-permutation (labels_sorted (filter has_value xs)) (filter has_value xs) z (IsPermutation-sym (filter has_value xs) (labels_sorted (filter has_value xs)) (sorted_moves (filter has_value xs))) c) in
@@ -255,7 +257,7 @@ IsLabelSet-without name ls h = IsLabelSet-filter (λ (l : Label). not (bytes_eq 
 -- the set of pairs with distinct names
 pub IsLabelSet-label_set : (pairs : List Label) → IsDistinct same_name pairs → IsLabelSet (label_set pairs)
 IsLabelSet-label_set pairs h = record {
-  ascending = sorted_ascending (filter has_value pairs) (distinct_kept has_value pairs h);
+  ascending = sorted_ascending (filter has_value pairs) (distinct_kept same_name has_value pairs h);
   valued = All-permutation (λ (l : Label). l.value ≢ []) (filter has_value pairs) (labels_sorted (filter has_value pairs)) (sorted_moves (filter has_value pairs))
       (All-weaker (λ (l : Label). has_value l ≡ true) (λ (l : Label). l.value ≢ []) has_some (filter has_value pairs) (filter_passes has_value pairs));
 }

@@ -21,14 +21,11 @@ impl SeriesKey {
     pub fn copy(&self) -> Result<SeriesKey, AllocError>
         ensures { IfOk result (λ key. key ≡ self.now) }
     {
-        let name = self.name.copy()?;
-        let unit = self.unit.copy()?;
-        let labels = self.labels.copy()?;
         Ok(SeriesKey {
-            name,
+            name: self.name.copy()?,
             kind: self.kind,
-            unit,
-            labels,
+            unit: self.unit.copy()?,
+            labels: self.labels.copy()?,
         })
     }
 }

@@ -187,7 +187,7 @@ impl Hash for Text {
 }
 
 /// A name: a text of UTF-8 that stands for a metric, a label or a family.
-#[derive(Drop)]
+#[derive(Drop, PartialEq, Eq, PartialOrd, Ord, Hash)]
 pub struct Name {
     text: Text,
 }
@@ -198,6 +198,8 @@ impl Model for Name {
     ghost Value = { spec.List spec.ℕ };
 
     ghost view = { λ n. n.text };
+
+    ghost inverse = { λ bytes. record { text = bytes } };
 }
 
 impl Name {
@@ -278,53 +280,5 @@ impl Name {
     {
         let text = self.text.copy()?;
         Ok(Name { text })
-    }
-}
-
-impl PartialEq for Name {
-    ghost eq = { bytes_eq };
-
-    ghost laws = { partial_equiv_from_equiv nat_list_eq_equiv };
-
-    fn eq(&self, other: &Name) -> bool {
-        self.as_str() == other.as_str()
-    }
-}
-
-impl Eq for Name {
-    ghost laws = { nat_list_eq_equiv };
-}
-
-impl PartialOrd for Name {
-    ghost partial_cmp = { λ a b. Some (slice_cmp nat_cmp a b) };
-
-    ghost laws = { texts_po };
-
-    fn partial_cmp(&self, other: &Name) -> Option<Ordering> {
-        Some(self.cmp(other))
-    }
-}
-
-impl Ord for Name {
-    ghost cmp = { slice_cmp nat_cmp };
-
-    ghost total = { nat_list_cmp_total };
-
-    ghost matches_partial_cmp = { λ a b. refl };
-
-    ghost matches_eq = { texts_ties };
-
-    fn cmp(&self, other: &Name) -> Ordering {
-        self.as_str().cmp(other.as_str())
-    }
-}
-
-impl Hash for Name {
-    ghost hash_input = { fed.str };
-
-    ghost respects_eq = { Prim.search (hashing, rules) };
-
-    fn hash<H: Hasher>(&self, state: &mut H) {
-        self.as_str().hash(state);
     }
 }

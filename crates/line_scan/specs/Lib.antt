@@ -1,3 +1,4 @@
 pub mod Cuts
 pub mod Marks
 pub mod LabelReading
+pub mod LineReading

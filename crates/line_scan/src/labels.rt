@@ -37,6 +37,7 @@ pub enum AfterLabel<'a> {
 }
 
 /// The label that written parts make.
+#[inline(always)]
 pub fn label_of(alloc: Global, parts: LabelParts<'_>) -> Result<Label, Memory>
     requires name { IsUtf8 parts.name.now }
     requires written { IsUtf8 parts.written.now }
@@ -63,6 +64,7 @@ pub fn after_label(bytes: &[u8]) -> AfterLabel<'_>
 
 /// The labels that were gathered, in no more room than they need. The room that they were gathered in is for
 /// the next line.
+#[inline(always)]
 pub fn own_labels(alloc: Global, labels: &mut Vec<Label>) -> Result<Vec<Label>, Memory>
     ensures { IfOk result (λ items. items.items ≡ labels.old.items) }
 {

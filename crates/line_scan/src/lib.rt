@@ -3,12 +3,16 @@
 #![tactic(auto)]
 
 mod chars;
+mod label_list;
 mod labels;
+mod line;
 mod quoted;
 mod scan;
 
 pub use chars::{Blank, CharClass, LabelChar, MetricChar, NameClass};
+pub use label_list::{LabelList, labels_at};
 pub use labels::{AfterLabel, LabelParts, after_label, label_of, own_labels, set_of};
+pub use line::LineRead;
 pub use quoted::{Escapes, QuotedValue, has_backslash, quoted_at, unescaped_text};
 pub use scan::{Cut, behind, behind_text, cut_chars, cut_name, front_len, is_word};
 

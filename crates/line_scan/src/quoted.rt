@@ -67,6 +67,7 @@ fn value_from(bytes: &[u8], start: usize) -> Option<QuotedValue<'_>>
 }
 
 /// What stands in front of the first quote that isn't escaped, and behind it.
+#[inline(always)]
 pub fn quoted_at(bytes: &[u8]) -> Option<QuotedValue<'_>>
     ensures value { option_map (λ value. (value.written.now, value.rest.now)) result ≡ quoted_at bytes.now }
     ensures backslash { IfSome result (λ value. value.has_backslash ≡ list_any is_backslash value.written.now) }

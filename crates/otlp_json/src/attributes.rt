@@ -4,7 +4,7 @@ ghost use Rattle.std.specs.Prelude.{map};
 ghost use Rattle.otlp_json.specs.Json.{json_array};
 ghost use Rattle.otlp_json.specs.Texts.{attribute_text, attribute_value_text, label_text};
 
-use crate::json::{Json, emit_array, emit_between};
+use crate::json::{Json, emit_array, emit_between, emit_pair};
 use crate::strings::emit_content;
 use label_sets::{Label, LabelSet};
 use otlp_tree::{Attribute, AttributeValue};
@@ -27,11 +27,7 @@ impl Json for Attribute {
 
     #[tactic(auto, unfolding(crate::specs::Texts::attribute_text))]
     fn emit<E: Emitter>(&self, out: &mut E) {
-        out.put(b"{\"key\":");
-        self.key.emit(out);
-        out.put(b",\"value\":");
-        self.value.emit(out);
-        out.put(b"}");
+        emit_pair(out, b"\"key\":", &self.key, b"\"value\":", &self.value);
     }
 }
 

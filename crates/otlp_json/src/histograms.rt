@@ -4,7 +4,7 @@ ghost use Rattle.std.specs.Prelude.{◌≡◌, fold};
 ghost use Rattle.otlp_json.specs.Pieces.{each_behind_comma};
 ghost use Rattle.otlp_json.specs.Texts.{histogram_point_text, known_sum_member, observation_members};
 
-use crate::json::Json;
+use crate::json::{Json, emit_member};
 use crate::points::{PointValue, emit_point};
 use exact_decimal::Number;
 use otlp_tree::{HistogramPoint, HistogramValue};
@@ -16,8 +16,7 @@ fn emit_sum<E: Emitter>(out: &mut E, sum: &Option<Number>)
     ensures { out.new ≡ fold E.push out.old (each_behind_comma (known_sum_member sum.now)) }
 {
     if let Some(n) = sum {
-        out.put(b",\"sum\":");
-        out.put_json_number(n);
+        emit_member(out, b",\"sum\":", n);
     }
 }
 
@@ -26,13 +25,10 @@ impl PointValue for HistogramValue {
 
     #[tactic(auto, unfolding(crate::specs::Texts::observation_members))]
     fn emit_members<E: Emitter>(&self, out: &mut E) {
-        out.put(b",\"count\":");
-        self.layout.count.emit(out);
+        emit_member(out, b",\"count\":", &self.layout.count);
         emit_sum(out, &self.sum);
-        out.put(b",\"bucketCounts\":");
-        self.layout.counts.emit(out);
-        out.put(b",\"explicitBounds\":");
-        self.layout.bounds.emit(out);
+        emit_member(out, b",\"bucketCounts\":", &self.layout.counts);
+        emit_member(out, b",\"explicitBounds\":", &self.layout.bounds);
     }
 }
 

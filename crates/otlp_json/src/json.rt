@@ -1,6 +1,6 @@
 //! Parts with a JSON text, and arrays of them.
 
-ghost use Rattle.std.specs.Prelude.{◌≡◌, ◌++◌, fold, map};
+ghost use Rattle.std.specs.Prelude.{◌≡◌, ◌++◌, codes, fold, map};
 ghost use Rattle.std.specs.List.{flat_map};
 ghost use Rattle.otlp_json.specs.Pieces.{next_text};
 ghost use Rattle.otlp_json.specs.Json.{json_array};
@@ -27,6 +27,32 @@ pub(crate) fn emit_between<T: Json, E: Emitter>(out: &mut E, front: &[u8], inner
     out.put(front);
     inner.emit(out);
     out.put(end);
+}
+
+/// Emits a member: its key, with what stands around it, and its value.
+pub(crate) fn emit_member<T: Json, E: Emitter>(out: &mut E, key: &[u8], value: &T)
+    ensures { out.new ≡ fold E.push out.old (key.now ++ T.text value.now) }
+{
+    out.put(key);
+    value.emit(out);
+}
+
+/// Emits an object of two members, each a quoted key with its colon and its value.
+pub(crate) fn emit_pair<A: Json, B: Json, E: Emitter>(
+    out: &mut E,
+    key: &[u8],
+    first: &A,
+    next_key: &[u8],
+    second: &B,
+)
+    ensures { out.new ≡ fold E.push out.old
+        (codes "{" ++ key.now ++ A.text first.now ++ codes "," ++ next_key.now ++ B.text second.now ++ codes "}") }
+{
+    out.put(b"{");
+    emit_member(out, key, first);
+    out.put(b",");
+    emit_member(out, next_key, second);
+    out.put(b"}");
 }
 
 /// Emits the elements behind the first.

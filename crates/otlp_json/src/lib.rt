@@ -32,8 +32,8 @@ pub fn length(request: &Request) -> u64
 
 /// Puts the text of a request at the end of `out`: one JSON object with no blanks and no line end.
 ///
-/// Memory is reserved once, before the first byte. Where that fails, the answer is [`Memory`], and
-/// `out` holds what it held.
+/// `out` grows as the text does. Where there is no memory for that, the answer is [`Memory`], and `out`
+/// holds what it held.
 pub fn write(request: &Request, out: &mut Vec<u8>) -> Result<(), Memory>
     ensures ok { OnOk result (out.new.items ≡ out.old.items ++ request_text request.now) }
     ensures err { OnErr result (out.new.items ≡ out.old.items) }

@@ -4,7 +4,7 @@ ghost use Rattle.std.specs.Prelude.{◌≡◌, fold};
 ghost use Rattle.otlp_json.specs.Pieces.{each_behind_comma, each_before_comma, point_front};
 ghost use Rattle.otlp_json.specs.Texts.{attributes_member, number_members, number_point_text, point_text, start_member, value_members};
 
-use crate::json::Json;
+use crate::json::{Json, emit_member};
 use exact_decimal::Number;
 use label_sets::LabelSet;
 use otlp_tree::NumberPoint;
@@ -89,8 +89,7 @@ impl PointValue for Number {
 
     #[tactic(auto, unfolding(crate::specs::Texts::number_members))]
     fn emit_members<E: Emitter>(&self, out: &mut E) {
-        out.put(b",\"asDouble\":");
-        out.put_json_number(self);
+        emit_member(out, b",\"asDouble\":", self);
     }
 }
 

@@ -3,7 +3,7 @@
 ghost use Rattle.std.specs.Prelude.{◌≡◌, fold};
 ghost use Rattle.otlp_json.specs.Texts.{quantile_members, quantile_text, summary_point_text};
 
-use crate::json::Json;
+use crate::json::{Json, emit_member, emit_pair};
 use crate::points::{PointValue, emit_point};
 use otlp_tree::{SummaryPoint, SummaryValue};
 use page_model::Quantile;
@@ -14,11 +14,7 @@ impl Json for Quantile {
 
     #[tactic(auto, unfolding(crate::specs::Texts::quantile_text))]
     fn emit<E: Emitter>(&self, out: &mut E) {
-        out.put(b"{\"quantile\":");
-        self.at.emit(out);
-        out.put(b",\"value\":");
-        out.put_json_number(&self.value);
-        out.put(b"}");
+        emit_pair(out, b"\"quantile\":", &self.at, b"\"value\":", &self.value);
     }
 }
 
@@ -27,12 +23,9 @@ impl PointValue for SummaryValue {
 
     #[tactic(auto, unfolding(crate::specs::Texts::quantile_members))]
     fn emit_members<E: Emitter>(&self, out: &mut E) {
-        out.put(b",\"count\":");
-        self.count.emit(out);
-        out.put(b",\"sum\":");
-        out.put_json_number(&self.sum);
-        out.put(b",\"quantileValues\":");
-        self.quantiles.emit(out);
+        emit_member(out, b",\"count\":", &self.count);
+        emit_member(out, b",\"sum\":", &self.sum);
+        emit_member(out, b",\"quantileValues\":", &self.quantiles);
     }
 }
 

@@ -100,6 +100,16 @@ fn decimal(n: &Number) -> Option<Decimal> {
     }
 }
 
+fn decimals(alloc: Global, tokens: &[&str]) -> Result<Vec<Decimal>, Memory> {
+    let mut decimals = Vec::new(alloc);
+    for token in tokens {
+        if let Some(decimal) = decimal(&number(token)) {
+            decimals.push(decimal)?;
+        }
+    }
+    Ok(decimals)
+}
+
 fn histogram(alloc: Global, value: Option<HistogramValue>) -> HistogramPoint {
     HistogramPoint {
         labels: LabelSet::empty(alloc),
@@ -111,15 +121,9 @@ fn histogram(alloc: Global, value: Option<HistogramValue>) -> HistogramPoint {
 
 // A histogram with a sum, one without, and one that has no value any more.
 fn histograms(alloc: Global) -> Result<Metric, Memory> {
-    let mut bounds = Vec::new(alloc);
-    for token in ["0.1", "1"] {
-        if let Some(bound) = decimal(&number(token)) {
-            bounds.push(bound)?;
-        }
-    }
     let summed = HistogramValue {
         layout: Layout {
-            bounds: List::from_vec(bounds)?,
+            bounds: List::from_vec(decimals(alloc, &["0.1", "1"])?)?,
             counts: list(alloc, [2, 3, 0])?,
             count: 5,
         },
@@ -158,13 +162,11 @@ fn summary(alloc: Global, value: Option<SummaryValue>) -> SummaryPoint {
 // A summary without observations, and one that has no value any more.
 fn summaries(alloc: Global) -> Result<Metric, Memory> {
     let mut quantiles = Vec::new(alloc);
-    for token in ["0.5", "0.9", "0.99"] {
-        if let Some(at) = decimal(&number(token)) {
-            quantiles.push(Quantile {
-                at,
-                value: Number::NotANumber,
-            })?;
-        }
+    for at in decimals(alloc, &["0.5", "0.9", "0.99"])? {
+        quantiles.push(Quantile {
+            at,
+            value: Number::NotANumber,
+        })?;
     }
     let value = SummaryValue {
         count: 0,

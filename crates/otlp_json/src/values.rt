@@ -1,7 +1,7 @@
-//! Whole numbers in quotes, and decimals.
+//! Whole numbers in quotes, and numbers.
 
 ghost use Rattle.std.specs.Prelude.{◌≡◌, fold};
-ghost use Rattle.exact_decimal.specs.Literals.{decimal_text};
+ghost use Rattle.exact_decimal.specs.Literals.{decimal_text, number_json};
 ghost use Rattle.otlp_json.specs.Json.{json_integer};
 
 use crate::json::Json;
@@ -26,5 +26,13 @@ impl Json for Decimal {
     #[tactic(auto, unfolding(exact_decimal::specs::Literals::number_json))]
     fn emit<E: Emitter>(&self, out: &mut E) {
         out.put_json_number(&Number::Finite(*self));
+    }
+}
+
+impl Json for Number {
+    ghost text = { number_json };
+
+    fn emit<E: Emitter>(&self, out: &mut E) {
+        out.put_json_number(self);
     }
 }

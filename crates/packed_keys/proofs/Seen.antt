@@ -12,7 +12,7 @@ use Rattle.label_sets.specs.declared.label.Label.{Label}
 use Rattle.label_sets.specs.Labels.{label_sets_eq}
 use Rattle.byte_table.proofs.Laws.{among, place_new}
 use Rattle.packed_keys.specs.declared.sample_key.SampleKey.{SampleKey}
-use Rattle.packed_keys.specs.Packing.{labels_bytes, labels_in, key_bytes, key_at, sample_key_eq, part_at}
+use Rattle.packed_keys.specs.Packing.{labels_bytes, labels_in, key_bytes, key_at, sample_key_eq, part_at, with_set}
 use Rattle.packed_keys.specs.Texts.{IsTextSet, IsTextKey, IsPackedSet, IsPackedKey}
 use Rattle.packed_keys.proofs.Packed.{part_back, key_back, set_back, same_key, same_set}
 
@@ -21,6 +21,14 @@ abbrev pub Put : (old new : List (List ℕ)) (string : List ℕ) → Option ℕ 
 Put old new string found =
     MatchOption found (list_any (bytes_eq string) old ≡ false) (λ at. slice_get old at ≡ Some string)
     × MatchOption found (new ≡ old ++ string ∷ []) (λ at. new ≡ old)
+
+-- what was packed in a room that was emptied
+pub in_room : (slice room cleared bytes : List ℕ) → slice ≡ room → room ≡ cleared ++ bytes → cleared ≡ [] → slice ≡ bytes
+in_room slice room cleared bytes is added none = is ∙ (added ∙ ap (λ (l : List ℕ). l ++ bytes) none)
+
+-- what was packed is put in
+pub put_packed : (old new : List (List ℕ)) (slice bytes : List ℕ) (found : Option ℕ) → slice ≡ bytes → Put old new slice found → Put old new bytes found
+put_packed old new slice bytes found e put = subst (λ (s : List ℕ). Put old new s found) e put
 
 -- what holds of each string holds still
 pub still : (P : List ℕ → Type 0) (old new : List (List ℕ)) (string : List ℕ) (found : Option ℕ) → All P old → P string → Put old new string found → All P new
@@ -106,19 +114,21 @@ set_placed old new ls (Some at) count k put = set_at new ls at (rw put.1 put.0)
 
 -- the sets with it, where it is new
 pub sets_are : (old new : List (List ℕ)) (ls : List Label) (found : Option ℕ) → All IsPackedSet old → Put old new (labels_bytes ls) found
-    → map labels_in new ≡ (if list_any (label_sets_eq ls) (map labels_in old) then map labels_in old else map labels_in old ++ ls ∷ [])
+    → map labels_in new ≡ with_set (map labels_in old) ls
 sets_are old new ls None is put =
     rw (sym (same_sets ls old (recursion_from_All IsPackedSet old is)) ∙ put.0)
     (ap (map labels_in) put.1 ∙ (map-append labels_in old (labels_bytes ls ∷ []) ∙ ap (λ (m : List Label). map labels_in old ++ m ∷ []) (set_back ls)))
 sets_are old new ls (Some at) is put =
     rw (sym (same_sets ls old (recursion_from_All IsPackedSet old is)) ∙ among old (labels_bytes ls) at put.0) (ap (map labels_in) put.1)
 
--- what was read was found equal
-pub read_equal : (read : Option (Bor (List ℕ))) (string : Bor (List ℕ)) → option_eq (λ (a b : Bor (List ℕ)). bytes_eq a.now b.now) read (Some string) ≡ true → option_copied read ≡ Some string.now
+read_equal : (read : Option (Bor (List ℕ))) (string : Bor (List ℕ)) → option_eq (λ (a b : Bor (List ℕ)). bytes_eq a.now b.now) read (Some string) ≡ true → option_copied read ≡ Some string.now
 read_equal None string e = absurd cc
 read_equal (Some read) string e = ap Some ((bytes_decides read.now string.now).0 e)
 
--- nothing is put in where it stands
-pub sets_stay : (old : List (List ℕ)) (ls : List Label) (at : ℕ) → All IsPackedSet old → slice_get old at ≡ Some (labels_bytes ls)
-    → map labels_in old ≡ (if list_any (label_sets_eq ls) (map labels_in old) then map labels_in old else map labels_in old ++ ls ∷ [])
-sets_stay old ls at is e = sets_are old old ls (Some at) is (e, refl)
+-- nothing is put in where what was read is found equal
+pub stays_there : (old : List (List ℕ)) (ls : List Label) (at : ℕ) (read : Option (Bor (List ℕ))) (string : Bor (List ℕ)) → All IsPackedSet old → option_copied read ≡ slice_get old at
+    → option_eq (λ (a b : Bor (List ℕ)). bytes_eq a.now b.now) read (Some string) ≡ true → string.now ≡ labels_bytes ls
+    → (slice_get (map labels_in old) at ≡ Some ls) × (map labels_in old ≡ with_set (map labels_in old) ls)
+stays_there old ls at read string is got same packed =
+    let there : slice_get old at ≡ Some (labels_bytes ls) = sym got ∙ (read_equal read string same ∙ ap Some packed) in
+    (set_at old ls at there, sets_are old old ls (Some at) is (there, refl))

@@ -1,6 +1,6 @@
 -- A key as bytes: the length of each part stands before it, so that no two keys have the same bytes (the bridge's own).
 use Rattle.std.specs.Prelude.{ℕ, zero, suc, ◌+◌, ◌/◌, ◌%◌, ◌==◌, Bool, List, [], ◌∷◌, ◌++◌, length, take, drop, replicate, ◌&&◌, if◌then◌else◌}
-use Rattle.std.specs.List.{flat_map}
+use Rattle.std.specs.List.{flat_map, list_any}
 use Rattle.std.specs.Str.{bytes_eq}
 use Rattle.label_sets.specs.declared.label.Label.{Label}
 use Rattle.label_sets.specs.Labels.{label_sets_eq}
@@ -9,6 +9,10 @@ use Rattle.packed_keys.specs.declared.sample_key.SampleKey.{SampleKey}
 -- two samples have one name and one label set
 abbrev pub sample_key_eq : SampleKey → SampleKey → Bool
 sample_key_eq a b = bytes_eq a.name b.name && label_sets_eq a.labels b.labels
+
+-- sets with one more, unless it is among them
+abbrev pub with_set : List (List Label) → List Label → List (List Label)
+with_set sets set = if list_any (label_sets_eq set) sets then sets else sets ++ set ∷ []
 
 -- ---- packing
 

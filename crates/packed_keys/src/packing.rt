@@ -7,8 +7,9 @@ ghost use Rattle.packed_keys.specs.Texts.{IsTextLabel, IsTextSet, IsTextKey};
 use crate::sample_key::SampleKey;
 use label_sets::{Label, LabelSet, Memory};
 
-/// Adds the code of a length.
-fn put_length(out: &mut Vec<u8>, length: usize) -> Result<(), Memory>
+/// Adds the code of a length, whatever it is.
+#[cold]
+fn put_any_length(out: &mut Vec<u8>, length: usize) -> Result<(), Memory>
     ensures { OnOk result (out.new.items ≡ out.old.items ++ length_code length) }
 {
     let mut left = length;
@@ -20,7 +21,20 @@ fn put_length(out: &mut Vec<u8>, length: usize) -> Result<(), Memory>
     Ok(())
 }
 
+/// Adds the code of a length, which mostly is one byte.
+#[inline(always)]
+fn put_length(out: &mut Vec<u8>, length: usize) -> Result<(), Memory>
+    ensures { OnOk result (out.new.items ≡ out.old.items ++ length_code length) }
+{
+    if length >= 255 {
+        return put_any_length(out, length);
+    }
+    out.push(length as u8)?;
+    Ok(())
+}
+
 /// Adds a text, behind its length.
+#[inline(always)]
 fn put_text(out: &mut Vec<u8>, text: &str) -> Result<(), Memory>
     ensures added { OnOk result (out.new.items ≡ out.old.items ++ part_bytes text.now) }
     ensures text { IsUtf8 text.now }

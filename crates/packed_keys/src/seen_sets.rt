@@ -1,7 +1,7 @@
 //! The label sets that were seen, each once.
-ghost use Rattle.std.specs.Prelude.{◌≡◌, ◌<◌, ◌++◌, [], ◌∷◌, length, IfOk, OnErr, slice_get, Some, if◌then◌else◌};
-ghost use Rattle.std.specs.List.{list_any};
-ghost use Rattle.label_sets.specs.Labels.{label_sets_eq, without_label};
+ghost use Rattle.std.specs.Prelude.{◌≡◌, ◌<◌, [], length, IfOk, OnErr, slice_get, Some};
+ghost use Rattle.label_sets.specs.Labels.{without_label};
+ghost use Rattle.packed_keys.specs.Packing.{with_set};
 
 use crate::packing::put_labels_without;
 use crate::unpacking::read_set;
@@ -56,7 +56,7 @@ impl SeenSets {
     /// Adds the set without the label of this name, where it is new, and answers its place. No set is made.
     pub fn insert_without(&mut self, labels: &LabelSet, name: &[u8]) -> Result<usize, Memory>
         ensures place { IfOk result (λ at. slice_get self.new at ≡ Some (without_label name.now labels.now)) }
-        ensures sets { IfOk result (λ at. self.new ≡ (if list_any (label_sets_eq (without_label name.now labels.now)) self.old then self.old else self.old ++ without_label name.now labels.now ∷ [])) }
+        ensures sets { IfOk result (λ at. self.new ≡ with_set self.old (without_label name.now labels.now)) }
         ensures err { OnErr result (self.new ≡ self.old) }
     {
         self.packed.clear();

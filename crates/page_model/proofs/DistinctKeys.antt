@@ -7,9 +7,9 @@ use Rattle.std.specs.Prelude.{option_map, unwrap_or}
 use Rattle.std.proofs.lemmas.List.{append_cancel_right}
 use Rattle.std.proofs.lemmas.Bool.{and_parts, not-true}
 use Rattle.std.proofs.lemmas.Option.{none-some, same_Some}
-use Rattle.label_sets.proofs.Laws.{kind_decides}
+use Rattle.label_sets.proofs.Laws.{distinct_kept, kind_decides}
 use Rattle.label_sets.specs.declared.kind.Kind.{Kind}
-use Rattle.label_sets.specs.declared.kind.Kind.TheVariants.{Counter, Gauge, Histogram, GaugeHistogram, StateSet, Info, Summary, Unknown}
+use Rattle.label_sets.specs.declared.kind.Kind.TheVariants.{Counter, Gauge, Info}
 use Rattle.label_sets.specs.declared.label_set.LabelSet.{LabelSet}
 use Rattle.label_sets.specs.declared.series_key.SeriesKey.{SeriesKey}
 use Rattle.label_sets.specs.Lists.{first_of_each, first_some}
@@ -31,14 +31,6 @@ use Rattle.page_model.specs.Presence.{all_readings, keys_of}
 -- ---- lists
 
 module _ {A : Type 0} where
-  filter_all : (P : A → Type 0) (t : A → Bool) (xs : List A) → AllByRecursion P xs → AllByRecursion P (filter t xs)
-  filter_all P t [] h = tt
-  filter_all P t (x ∷ xs) h = go (t x) (filter_all P t xs h.1)
-    where
-      go : (b : Bool) → AllByRecursion P (filter t xs) → AllByRecursion P (cond b (x ∷ filter t xs) (filter t xs))
-      go true ih = (h.0, ih)
-      go false ih = ih
-
   filter_passes : (t : A → Bool) (xs : List A) → AllByRecursion (λ y. t y ≡ true) (filter t xs)
   filter_passes t [] = tt
   filter_passes t (x ∷ xs) = go (t x) refl (filter_passes t xs)
@@ -46,15 +38,6 @@ module _ {A : Type 0} where
       go : (b : Bool) → t x ≡ b → AllByRecursion (λ y. t y ≡ true) (filter t xs) → AllByRecursion (λ y. t y ≡ true) (cond b (x ∷ filter t xs) (filter t xs))
       go true e ih = (e, ih)
       go false e ih = ih
-
-  filter_distinct : (e : A → A → Bool) (t : A → Bool) (xs : List A) → IsDistinct e xs → IsDistinct e (filter t xs)
-  unfolding IsDistinct
-  filter_distinct e t [] h = tt
-  filter_distinct e t (x ∷ xs) h = go (t x) (filter_distinct e t xs h.1)
-    where
-      go : (b : Bool) → IsDistinct e (filter t xs) → IsDistinct e (cond b (x ∷ filter t xs) (filter t xs))
-      go true ih = (filter_all (λ y. e x y ≡ false) t xs h.0, ih)
-      go false ih = ih
 
   all_mono : (P Q : A → Type 0) → ((x : A) → P x → Q x) → (xs : List A) → AllByRecursion P xs → AllByRecursion Q xs
   all_mono P Q f [] h = tt
@@ -66,7 +49,7 @@ module _ {A : Type 0} where
   first_of_each_distinct e (x ∷ xs) =
       let rest = first_of_each e xs in (
         all_mono (λ y. not (e x y) ≡ true) (λ y. e x y ≡ false) (λ y h. not-true (e x y) h) (filter (λ y. not (e x y)) rest) (filter_passes (λ y. not (e x y)) rest),
-        filter_distinct e (λ y. not (e x y)) rest (first_of_each_distinct e xs),
+        distinct_kept e (λ y. not (e x y)) rest (first_of_each_distinct e xs),
       )
 
 -- ---- the readings of one family
@@ -113,11 +96,7 @@ family_is : (f : Format) (k : Kind) (F G : List ℕ) → key_name f k F ≡ key_
 family_is f Counter F G e = append_cancel_right F G (counter_suffix f) e
 family_is f Info F G e = append_cancel_right F G (codes "_info") e
 family_is f Gauge F G e = e
-family_is f Histogram F G e = e
-family_is f GaugeHistogram F G e = e
-family_is f StateSet F G e = e
-family_is f Summary F G e = e
-family_is f Unknown F G e = e
+family_is f _ F G e = e
 
 -- the reading is named as one of this family
 abbrev IsNamed : Format → List ℕ → Reading → Type 0

@@ -38,13 +38,8 @@ type_is_fresh st earlier name kind e =
     sort o = by_item o.item
       where
         by_item : (item : Item) → are_one_sort (items.KindOf name Unknown) item ≡ are_one_sort (items.KindOf name kind) item
-        by_item items.Blank = refl
-        by_item items.Comment = refl
-        by_item (items.Help m t) = refl
         by_item (items.KindOf m k) = refl
-        by_item (items.Unit m u) = refl
-        by_item (items.Sample s) = refl
-        by_item items.Eof = refl
+        by_item _ = refl
 
     same_sort : (above : List Owned) → list_any (λ o. is_of name o && (are_one_sort (items.KindOf name Unknown) o.item || is_sample o.item)) above ≡ true
         → list_any (λ o. is_of name o && (are_one_sort (items.KindOf name kind) o.item || is_sample o.item)) above ≡ true
@@ -60,40 +55,36 @@ type_is_fresh st earlier name kind e =
 
 -- ---- what is true of fresh lines
 
+-- a line of this owner is a TYPE line or a sample
+abbrev tells : List ℕ → Owned → Bool
+tells family o = is_of family o && (are_one_sort (items.KindOf family Unknown) o.item || is_sample o.item)
+
+-- no such line stands first, nor behind it
+fresh_parts : (family : List ℕ) (o : Owned) (above : List Owned) → IsFresh (o ∷ above) family → (tells family o ≡ false) × IsFresh above family
+fresh_parts family o above h = or_parts (tells family o) (list_any (tells family) above) h
+
+-- what is no TYPE line and no sample of the family declares no kind of it and samples nothing
+tells_nothing : (family : List ℕ) (b : Bool) (item : Item) → (b && (are_one_sort (items.KindOf family Unknown) item || is_sample item)) ≡ false
+    → (cond b (kind_of_line item) None ≡ None) × (cond b (sample_of_line item) None ≡ None)
+tells_nothing family false item e = (refl, refl)
+tells_nothing family true (items.KindOf m k) e = absurd (let h : true ≡ false = e in cc)
+tells_nothing family true (items.Sample s) e = absurd (let h : true ≡ false = e in cc)
+tells_nothing family true _ e = (refl, refl)
+
 -- a family without samples and TYPE lines has no kind declared
 fresh_undeclared : (family : List ℕ) (above : List Owned) → IsFresh above family → first_some (declared_kind family) above ≡ None
 fresh_undeclared family [] h = refl
 fresh_undeclared family (o ∷ above) h =
-    let both = or_parts (is_of family o && (are_one_sort (items.KindOf family Unknown) o.item || is_sample o.item)) (list_any (λ p. is_of family p && (are_one_sort (items.KindOf family Unknown) p.item || is_sample p.item)) above) h in
-    ap (λ (k : Option Kind). option_or k (first_some (declared_kind family) above)) (none (is_of family o) o.item both.0) ∙ fresh_undeclared family above both.1
-  where
-    none : (b : Bool) (item : Item) → (b && (are_one_sort (items.KindOf family Unknown) item || is_sample item)) ≡ false → cond b (kind_of_line item) None ≡ None
-    none false item e = refl
-    none true (items.KindOf m k) e = absurd (let h : true ≡ false = e in cc)
-    none true items.Blank e = refl
-    none true items.Comment e = refl
-    none true (items.Help m t) e = refl
-    none true (items.Unit m u) e = refl
-    none true (items.Sample s) e = refl
-    none true items.Eof e = refl
+    let both = fresh_parts family o above h in
+    ap (λ (k : Option Kind). option_or k (first_some (declared_kind family) above)) (tells_nothing family (is_of family o) o.item both.0).0 ∙ fresh_undeclared family above both.1
 
 -- and it has no sample
 fresh_unsampled : (family : List ℕ) (above : List Owned) → IsFresh above family → samples_of above family ≡ []
 unfolding samples_of
 fresh_unsampled family [] h = refl
 fresh_unsampled family (o ∷ above) h =
-    let both = or_parts (is_of family o && (are_one_sort (items.KindOf family Unknown) o.item || is_sample o.item)) (list_any (λ p. is_of family p && (are_one_sort (items.KindOf family Unknown) p.item || is_sample p.item)) above) h in
-    ap (λ (s : Option Sample). cons_option s (filter_map (sample_in family) above)) (none (is_of family o) o.item both.0) ∙ fresh_unsampled family above both.1
-  where
-    none : (b : Bool) (item : Item) → (b && (are_one_sort (items.KindOf family Unknown) item || is_sample item)) ≡ false → cond b (sample_of_line item) None ≡ None
-    none false item e = refl
-    none true (items.Sample s) e = absurd (let h : true ≡ false = e in cc)
-    none true (items.KindOf m k) e = refl
-    none true items.Blank e = refl
-    none true items.Comment e = refl
-    none true (items.Help m t) e = refl
-    none true (items.Unit m u) e = refl
-    none true items.Eof e = refl
+    let both = fresh_parts family o above h in
+    ap (λ (s : Option Sample). cons_option s (filter_map (sample_in family) above)) (tells_nothing family (is_of family o) o.item both.0).1 ∙ fresh_unsampled family above both.1
 
 -- ---- one line more
 
@@ -118,14 +109,9 @@ type_apart st earlier name family kind e = go (bytes_eq name family) refl
 -- a line that breaks no rule declares nothing of the family, or has no line of it above that is a TYPE line or a sample
 declares_apart : (st : Setting) (earlier : List Item) (item : Item) (name family : List ℕ) → item_fault st earlier item ≡ None → owner_of st.format (owned_lines st.format earlier) item ≡ Some name
     → (declared_kind family (record { family = name; item = item }) ≡ None) ⊎ IsFresh (owned_lines st.format earlier) family
-declares_apart st earlier items.Blank name family e o = inl (nothing_declared (bytes_eq name family))
-declares_apart st earlier items.Comment name family e o = inl (nothing_declared (bytes_eq name family))
-declares_apart st earlier (items.Help m t) name family e o = inl (nothing_declared (bytes_eq name family))
 declares_apart st earlier (items.KindOf m k) name family e o =
     subst (λ n. (declared_kind family (record { family = n; item = items.KindOf m k }) ≡ None) ⊎ IsFresh (owned_lines st.format earlier) family) (same_Some m name o) (type_apart st earlier m family k e)
-declares_apart st earlier (items.Unit m u) name family e o = inl (nothing_declared (bytes_eq name family))
-declares_apart st earlier (items.Sample s) name family e o = inl (nothing_declared (bytes_eq name family))
-declares_apart st earlier items.Eof name family e o = inl (nothing_declared (bytes_eq name family))
+declares_apart st earlier _ name family e o = inl (nothing_declared (bytes_eq name family))
 
 -- ---- the kind stays
 

@@ -5,11 +5,13 @@ use Rattle.std.specs.Option.{option_or, option_and_then}
 use Rattle.std.proofs.lemmas.Option.{none-some, same_Some}
 use Rattle.label_sets.specs.Lists.{some_passes}
 use Rattle.page_model.specs.declared.item.Item.{Item}
-use Rattle.page_model.specs.declared.item.Item.TheVariants as items
+use Rattle.page_model.specs.declared.item.Sample.{Sample}
 use Rattle.page_model.specs.declared.rule.Rule.{Rule}
 use Rattle.page_model.specs.declared.rule.Rule.TheVariants as rules
 use Rattle.page_model.specs.Written.{Written, Setting, item_of}
 use Rattle.page_model.specs.RuleNames.{rule_number}
+use Rattle.page_model.specs.Items.{sample_of_line}
+use Rattle.page_model.specs.Owners.{owner_of, owned_lines}
 use Rattle.page_model.specs.Faults.{Line, Fault, line_breaks, line_rules, own_fault, sample_breaks, owned_breaks, item_breaks, item_rules, item_fault, end_breaks, end_rules, end_fault, line_fault, with_line, fault_from, fault_of, breaks_at, broken_at, Breaks, IsLeastFault}
 use Rattle.page_model.proofs.Groups.{Member}
 
@@ -70,136 +72,34 @@ line_rule : (st : Setting) (l : Line) (rule : Rule) → line_breaks st l rule �
 unfolding line_breaks
 line_rule st l rules.TooLong k = inl refl
 line_rule st l rules.Utf8 k = inr (inl refl)
-line_rule st l rules.NoNewline k = absurd (no_truth k)
 line_rule st l rules.Syntax k = inr (inr (inl refl))
 line_rule st l rules.Range k = inr (inr (inr (inl refl)))
 line_rule st l rules.Labels k = inr (inr (inr (inr (inl refl))))
-line_rule st l rules.AfterEof k = absurd (no_truth k)
-line_rule st l rules.NoEof k = absurd (no_truth k)
-line_rule st l rules.Descriptor k = absurd (no_truth k)
-line_rule st l rules.Exemplar k = absurd (no_truth k)
-line_rule st l rules.Split k = absurd (no_truth k)
-line_rule st l rules.Interleaved k = absurd (no_truth k)
-line_rule st l rules.Suffix k = absurd (no_truth k)
-line_rule st l rules.Duplicate k = absurd (no_truth k)
-line_rule st l rules.Value k = absurd (no_truth k)
-line_rule st l rules.Threshold k = absurd (no_truth k)
-line_rule st l rules.Order k = absurd (no_truth k)
-line_rule st l rules.Incomplete k = absurd (no_truth k)
-line_rule st l rules.Unit k = absurd (no_truth k)
-line_rule st l rules.TooMany k = absurd (no_truth k)
+line_rule st l _ k = absurd (no_truth k)
 
 -- a rule that the end breaks is one of its list
 end_rule : (st : Setting) (earlier : List Item) (clean : Bool) (rule : Rule) → end_breaks st earlier clean rule ≡ true → Member rule end_rules
 unfolding end_breaks
-end_rule st earlier clean rules.TooLong k = absurd (no_truth k)
-end_rule st earlier clean rules.Utf8 k = absurd (no_truth k)
 end_rule st earlier clean rules.NoNewline k = inl refl
-end_rule st earlier clean rules.Syntax k = absurd (no_truth k)
-end_rule st earlier clean rules.Range k = absurd (no_truth k)
-end_rule st earlier clean rules.Labels k = absurd (no_truth k)
-end_rule st earlier clean rules.AfterEof k = absurd (no_truth k)
 end_rule st earlier clean rules.NoEof k = inr (inl refl)
-end_rule st earlier clean rules.Descriptor k = absurd (no_truth k)
-end_rule st earlier clean rules.Exemplar k = absurd (no_truth k)
-end_rule st earlier clean rules.Split k = absurd (no_truth k)
-end_rule st earlier clean rules.Interleaved k = absurd (no_truth k)
-end_rule st earlier clean rules.Suffix k = absurd (no_truth k)
-end_rule st earlier clean rules.Duplicate k = absurd (no_truth k)
-end_rule st earlier clean rules.Value k = absurd (no_truth k)
-end_rule st earlier clean rules.Threshold k = absurd (no_truth k)
-end_rule st earlier clean rules.Order k = absurd (no_truth k)
 end_rule st earlier clean rules.Incomplete k = inr (inr (inl refl))
-end_rule st earlier clean rules.Unit k = absurd (no_truth k)
-end_rule st earlier clean rules.TooMany k = absurd (no_truth k)
+end_rule st earlier clean _ k = absurd (no_truth k)
 
--- no item breaks the rule TooLong
-no_toolong : (st : Setting) (earlier : List Item) (item : Item) → item_breaks st earlier item rules.TooLong ≡ true → ⊥
-unfolding item_breaks owned_breaks sample_breaks
-no_toolong st earlier items.Blank k = no_truth k
-no_toolong st earlier items.Comment k = no_truth k
-no_toolong st earlier (items.Help name text) k = no_truth k
-no_toolong st earlier (items.KindOf name kind) k = no_truth k
-no_toolong st earlier (items.Unit name unit) k = no_truth k
-no_toolong st earlier (items.Sample s) k = no_truth k
-no_toolong st earlier items.Eof k = no_truth k
+-- a test that nothing passes finds nothing
+none_passes : {A B : Type 0} (o : Option A) (p : Option B) → some_passes (λ (x : A). some_passes (λ (y : B). false) p) o ≡ true → ⊥
+none_passes None p k = no_truth k
+none_passes (Some x) None k = no_truth k
+none_passes (Some x) (Some y) k = no_truth k
 
--- no item breaks the rule Utf8
-no_utf8 : (st : Setting) (earlier : List Item) (item : Item) → item_breaks st earlier item rules.Utf8 ≡ true → ⊥
-unfolding item_breaks owned_breaks sample_breaks
-no_utf8 st earlier items.Blank k = no_truth k
-no_utf8 st earlier items.Comment k = no_truth k
-no_utf8 st earlier (items.Help name text) k = no_truth k
-no_utf8 st earlier (items.KindOf name kind) k = no_truth k
-no_utf8 st earlier (items.Unit name unit) k = no_truth k
-no_utf8 st earlier (items.Sample s) k = no_truth k
-no_utf8 st earlier items.Eof k = no_truth k
-
--- no item breaks the rule NoNewline
-no_nonewline : (st : Setting) (earlier : List Item) (item : Item) → item_breaks st earlier item rules.NoNewline ≡ true → ⊥
-unfolding item_breaks owned_breaks sample_breaks
-no_nonewline st earlier items.Blank k = no_truth k
-no_nonewline st earlier items.Comment k = no_truth k
-no_nonewline st earlier (items.Help name text) k = no_truth k
-no_nonewline st earlier (items.KindOf name kind) k = no_truth k
-no_nonewline st earlier (items.Unit name unit) k = no_truth k
-no_nonewline st earlier (items.Sample s) k = no_truth k
-no_nonewline st earlier items.Eof k = no_truth k
-
--- no item breaks the rule Syntax
-no_syntax : (st : Setting) (earlier : List Item) (item : Item) → item_breaks st earlier item rules.Syntax ≡ true → ⊥
-unfolding item_breaks owned_breaks sample_breaks
-no_syntax st earlier items.Blank k = no_truth k
-no_syntax st earlier items.Comment k = no_truth k
-no_syntax st earlier (items.Help name text) k = no_truth k
-no_syntax st earlier (items.KindOf name kind) k = no_truth k
-no_syntax st earlier (items.Unit name unit) k = no_truth k
-no_syntax st earlier (items.Sample s) k = no_truth k
-no_syntax st earlier items.Eof k = no_truth k
-
--- no item breaks the rule Range
-no_range : (st : Setting) (earlier : List Item) (item : Item) → item_breaks st earlier item rules.Range ≡ true → ⊥
-unfolding item_breaks owned_breaks sample_breaks
-no_range st earlier items.Blank k = no_truth k
-no_range st earlier items.Comment k = no_truth k
-no_range st earlier (items.Help name text) k = no_truth k
-no_range st earlier (items.KindOf name kind) k = no_truth k
-no_range st earlier (items.Unit name unit) k = no_truth k
-no_range st earlier (items.Sample s) k = no_truth k
-no_range st earlier items.Eof k = no_truth k
-
--- no item breaks the rule Labels
-no_labels : (st : Setting) (earlier : List Item) (item : Item) → item_breaks st earlier item rules.Labels ≡ true → ⊥
-unfolding item_breaks owned_breaks sample_breaks
-no_labels st earlier items.Blank k = no_truth k
-no_labels st earlier items.Comment k = no_truth k
-no_labels st earlier (items.Help name text) k = no_truth k
-no_labels st earlier (items.KindOf name kind) k = no_truth k
-no_labels st earlier (items.Unit name unit) k = no_truth k
-no_labels st earlier (items.Sample s) k = no_truth k
-no_labels st earlier items.Eof k = no_truth k
-
--- no item breaks the rule NoEof
-no_noeof : (st : Setting) (earlier : List Item) (item : Item) → item_breaks st earlier item rules.NoEof ≡ true → ⊥
-unfolding item_breaks owned_breaks sample_breaks
-no_noeof st earlier items.Blank k = no_truth k
-no_noeof st earlier items.Comment k = no_truth k
-no_noeof st earlier (items.Help name text) k = no_truth k
-no_noeof st earlier (items.KindOf name kind) k = no_truth k
-no_noeof st earlier (items.Unit name unit) k = no_truth k
-no_noeof st earlier (items.Sample s) k = no_truth k
-no_noeof st earlier items.Eof k = no_truth k
+-- a rule that neither a descriptor nor a sample breaks
+no_owned_rule : (st : Setting) (earlier : List Item) (item : Item)
+    → some_passes (λ (family : List ℕ). some_passes (λ (s : Sample). false) (sample_of_line item)) (owner_of st.format (owned_lines st.format earlier) item) ≡ true → ⊥
+no_owned_rule st earlier item k = none_passes (owner_of st.format (owned_lines st.format earlier) item) (sample_of_line item) k
 
 -- a rule that an item breaks is one of its list
 item_rule : (st : Setting) (earlier : List Item) (item : Item) (rule : Rule) → item_breaks st earlier item rule ≡ true → Member rule item_rules
-item_rule st earlier item rules.TooLong k = absurd (no_toolong st earlier item k)
-item_rule st earlier item rules.Utf8 k = absurd (no_utf8 st earlier item k)
-item_rule st earlier item rules.NoNewline k = absurd (no_nonewline st earlier item k)
-item_rule st earlier item rules.Syntax k = absurd (no_syntax st earlier item k)
-item_rule st earlier item rules.Range k = absurd (no_range st earlier item k)
-item_rule st earlier item rules.Labels k = absurd (no_labels st earlier item k)
+unfolding item_breaks owned_breaks sample_breaks
 item_rule st earlier item rules.AfterEof k = inl refl
-item_rule st earlier item rules.NoEof k = absurd (no_noeof st earlier item k)
 item_rule st earlier item rules.Descriptor k = inr (inl refl)
 item_rule st earlier item rules.Exemplar k = inr (inr (inl refl))
 item_rule st earlier item rules.Split k = inr (inr (inr (inl refl)))
@@ -212,6 +112,7 @@ item_rule st earlier item rules.Order k = inr (inr (inr (inr (inr (inr (inr (inr
 item_rule st earlier item rules.Incomplete k = inr (inr (inr (inr (inr (inr (inr (inr (inr (inr (inl refl))))))))))
 item_rule st earlier item rules.Unit k = inr (inr (inr (inr (inr (inr (inr (inr (inr (inr (inr (inl refl)))))))))))
 item_rule st earlier item rules.TooMany k = inr (inr (inr (inr (inr (inr (inr (inr (inr (inr (inr (inr (inl refl))))))))))))
+item_rule st earlier item _ k = absurd (no_owned_rule st earlier item k)
 
 line_rules_ascend : Ascend 0 line_rules
 unfolding rule_number
@@ -393,25 +294,7 @@ rule_at n = cond (n == 1) rules.TooLong (cond (n == 2) rules.Utf8 (cond (n == 3)
 rule_at-number : (r : Rule) → rule_at (rule_number r) ≡ r
 unfolding rule_at rule_number
 rule_at-number rules.TooLong = refl
-rule_at-number rules.Utf8 = refl
-rule_at-number rules.NoNewline = refl
-rule_at-number rules.Syntax = refl
-rule_at-number rules.Range = refl
-rule_at-number rules.Labels = refl
-rule_at-number rules.AfterEof = refl
-rule_at-number rules.NoEof = refl
-rule_at-number rules.Descriptor = refl
-rule_at-number rules.Exemplar = refl
-rule_at-number rules.Split = refl
-rule_at-number rules.Interleaved = refl
-rule_at-number rules.Suffix = refl
-rule_at-number rules.Duplicate = refl
-rule_at-number rules.Value = refl
-rule_at-number rules.Threshold = refl
-rule_at-number rules.Order = refl
-rule_at-number rules.Incomplete = refl
-rule_at-number rules.Unit = refl
-rule_at-number rules.TooMany = refl
+rule_at-number _ = refl
 
 -- a rule is told by its number
 pub same_rule : (r s : Rule) → rule_number r ≡ rule_number s → r ≡ s

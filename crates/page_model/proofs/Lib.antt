@@ -1,8 +1,4 @@
-mod Words
-mod TextCases
-mod TextHistogramCases
-mod OpenCases
-mod OpenHistogramCases
+mod FaultCases
 mod PageCases
 pub mod Fronts
 pub mod TokenChars
@@ -18,4 +14,5 @@ pub mod Least
 pub mod RightPages
 pub mod Texts
 pub mod KindLaws
+pub mod SampleNames
 pub mod Laws

@@ -6,7 +6,7 @@ use Rattle.std.proofs.lemmas.List.{append-nil}
 use Rattle.std.proofs.lemmas.Bool.{eqb-true, and_parts}
 use Rattle.std.proofs.lemmas.Option.{same_Some}
 use Rattle.label_sets.specs.declared.kind.Kind.{Kind}
-use Rattle.label_sets.specs.declared.kind.Kind.TheVariants.{Counter, Gauge, Histogram, GaugeHistogram, StateSet, Info, Summary, Unknown}
+use Rattle.label_sets.specs.declared.kind.Kind.TheVariants.{Counter}
 use Rattle.label_sets.specs.declared.label.Label.{Label}
 use Rattle.label_sets.specs.Lists.{behind}
 use Rattle.label_sets.specs.Names.{is_metric_name, is_metric_start, is_metric_char, is_label_name, is_label_start, is_label_char}
@@ -14,20 +14,12 @@ use Rattle.label_sets.specs.Escapes.{quote_escape, unescaped, is_quotable}
 use Rattle.page_model.proofs.Fronts.{Stops, take_while-append, rest_while-append, quoted-append}
 use Rattle.exact_decimal.specs.Tokens.{is_token_char, is_number_token, is_real}
 use Rattle.exact_decimal.proofs.Laws.{all_mono, real_passes, token_passes}
-use Rattle.page_model.proofs.TokenChars.{other_than, no_empty_real}
+use Rattle.page_model.proofs.TokenChars.{metric_chars, label_chars, differs, other_than, no_empty_real}
 use Rattle.page_model.specs.Written.{Written, WrittenSample, WrittenExemplar, blank, comment, eof, help, type_line, unit_line, sample}
 use Rattle.page_model.specs.OpenItems.{kind_word, SpellsOpen, SpellsOpenLabel, SpellsMoreLabels, SpellsOpenLabels, SpellsOpenList, SpellsOptionalList, SpellsOpenStamp, SpellsExemplar, SpellsOpenSample}
 use Rattle.page_model.specs.OpenReading.{label_at, more_labels_at, list_at, optional_list_at, value_at, is_not_space, stamp_at, exemplar_of, sample_of, kind_named, named_at, descriptor_of, open_line_of}
 
 -- ---- names and tokens
-
-metric_chars : (name : List ℕ) → is_metric_name name ≡ true → list_all is_metric_char name ≡ true
-metric_chars [] h = refl
-metric_chars (c ∷ cs) h = let both = and_parts (is_metric_start c) (list_all is_metric_char cs) h in rw (both.0, both.1) refl
-
-label_chars : (name : List ℕ) → is_label_name name ≡ true → list_all is_label_char name ≡ true
-label_chars [] h = refl
-label_chars (c ∷ cs) h = let both = and_parts (is_label_start c) (list_all is_label_char cs) h in rw (both.0, both.1) refl
 
 number_chars : (token : List ℕ) → is_number_token token ≡ true → list_all is_not_space token ≡ true
 number_chars token h = all_mono is_token_char is_not_space (other_than is_token_char 32 refl) token (token_passes token h)
@@ -64,13 +56,6 @@ more_again (suc n) text tail (l ∷ ls) few s =
     ap (more_labels_at (suc n)) regrouped ∙ rw (label_again front (rest ++ 125 ∷ tail) l s.2, again) refl
 
 -- ---- label lists
-
-differs : (p : ℕ → Bool) (n c : ℕ) → p n ≡ false → p c ≡ true → eqb n c ≡ false
-differs p n c without with_it = go (eqb n c) refl
-  where
-    go : (b : Bool) → eqb n c ≡ b → eqb n c ≡ false
-    go false e = e
-    go true e = absurd (let same : n ≡ c = eqb-true n c e in let h : p n ≡ true = subst (λ x. p x ≡ true) (sym same) with_it in let k : true ≡ false = sym h ∙ without in cc)
 
 first_differs : (n c : ℕ) (front cs : List ℕ) → eqb n c ≡ false → behind (n ∷ front) (c ∷ cs) ≡ None
 first_differs n c front cs e = rw e refl
@@ -206,13 +191,7 @@ sample_again line s p =
 kind_again : (kind : Kind) → kind_named (kind_word kind) ≡ Some kind
 unfolding kind_named
 kind_again Counter = refl
-kind_again Gauge = refl
-kind_again Histogram = refl
-kind_again GaugeHistogram = refl
-kind_again StateSet = refl
-kind_again Info = refl
-kind_again Summary = refl
-kind_again Unknown = refl
+kind_again _ = refl
 
 named_again : (name rest : List ℕ) → is_metric_name name ≡ true → named_at (name ++ 32 ∷ rest) ≡ Some (name, rest)
 unfolding named_at

@@ -17,19 +17,12 @@ use Rattle.label_sets.specs.Escapes.{help_escape, quote_escape, unescaped, is_qu
 use Rattle.page_model.proofs.Fronts.{Stops, rest_stops, take_while-append, rest_while-append, quoted-append}
 use Rattle.exact_decimal.specs.Tokens.{is_token_char, is_number_token}
 use Rattle.exact_decimal.proofs.Laws.{all_mono, token_passes}
-use Rattle.page_model.proofs.TokenChars.{integer_passes, no_empty_token}
+use Rattle.page_model.proofs.TokenChars.{metric_chars, label_chars, differs, integer_passes, no_empty_token}
 use Rattle.page_model.specs.Written.{Written, WrittenSample, WrittenExemplar, blank, comment, eof, help, type_line, unit_line, sample}
 use Rattle.page_model.specs.TextItems.{is_integer_token, without_leading_blanks, trimmed, AreBlanks, IsGap, is_not_blank, word_behind_mark, SpellsHelpText, text_kind_word, SpellsLabel, SpellsLabels, SpellsMiddle, SpellsStamp, SpellsSample, SpellsTrimmed, SpellsText}
 use Rattle.page_model.specs.TextReading.{begins_blank, at_blank, label_at, labels_at, middle_from, middle_at, stamp_of, sample_of, kind_named, named_at, marked_of, trimmed_of, text_line_of}
 
 -- ---- blanks, names and tokens
-
-differs : (p : ℕ → Bool) (n c : ℕ) → p n ≡ false → p c ≡ true → eqb n c ≡ false
-differs p n c without with_it = go (eqb n c) refl
-  where
-    go : (b : Bool) → eqb n c ≡ b → eqb n c ≡ false
-    go false e = e
-    go true e = absurd (let same : n ≡ c = eqb-true n c e in let h : p n ≡ true = subst (λ x. p x ≡ true) (sym same) with_it in let k : true ≡ false = sym h ∙ without in cc)
 
 eqb_flip : (a b : ℕ) → eqb a b ≡ false → eqb b a ≡ false
 eqb_flip a b h = go (eqb b a) refl
@@ -64,14 +57,6 @@ gap_stops p space tab (b ∷ bs) tail g = blank_fails p space tab b (and_parts (
 
 blanks_dropped : (bs tail : List ℕ) → AreBlanks bs → Stops is_blank tail → without_leading_blanks (bs ++ tail) ≡ tail
 blanks_dropped bs tail h s = rest_while-append is_blank bs tail h s
-
-metric_chars : (name : List ℕ) → is_metric_name name ≡ true → list_all is_metric_char name ≡ true
-metric_chars [] h = refl
-metric_chars (c ∷ cs) h = let both = and_parts (is_metric_start c) (list_all is_metric_char cs) h in rw (both.0, both.1) refl
-
-label_chars : (name : List ℕ) → is_label_name name ≡ true → list_all is_label_char name ≡ true
-label_chars [] h = refl
-label_chars (c ∷ cs) h = let both = and_parts (is_label_start c) (list_all is_label_char cs) h in rw (both.0, both.1) refl
 
 metric_starts : (name tail : List ℕ) → is_metric_name name ≡ true → Stops is_blank (name ++ tail)
 metric_starts [] tail h = absurd (let e : false ≡ true = h in cc)

@@ -10,6 +10,7 @@ pub mod OpenItems
 pub mod OpenReading
 pub mod Items
 pub mod Suffixes
+pub mod SuffixNames
 pub mod Owners
 pub mod Rules
 pub mod RuleNames

@@ -10,6 +10,7 @@ mod item;
 mod page;
 pub mod page_laws;
 mod rule;
+mod suffix;
 
 pub use counts::PageCounts;
 pub use event::{Cause, Event, Outcome, Shown};
@@ -18,3 +19,4 @@ pub use format::{Format, Treatment};
 pub use item::{Exemplar, Item, Sample};
 pub use page::{Bucket, Family, Page, Quantile, Reading, Value};
 pub use rule::Rule;
+pub use suffix::{Suffix, is_sample_name, sample_suffix};

@@ -51,6 +51,7 @@ pub fn distinct_keys()
 {}
 
 /// The page of a text is right, and so are the page of items without a fault and the page without families.
+#[tactic(auto, using(crate::proofs::RightPages::nothing_is_right, crate::proofs::Texts::items_make_text))]
 pub fn right_pages()
     ensures texts { TextsAreRight }
     ensures items { ItemsMakeTexts }

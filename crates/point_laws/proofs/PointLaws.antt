@@ -37,7 +37,7 @@ use Rattle.otlp_tree.specs.declared.tree.Shape.TheVariants as shapes
 use Rattle.target_core.specs.Points.{start_at, point_of, number_in, cumulative_layout, histogram_in, summary_in, number_point, histogram_point, summary_point}
 use Rattle.target_core.specs.Trees.{some_of, shape_of, metric_of}
 use Rattle.point_laws.specs.PageLaws.{points_in, points_of_family, TextPagesLoseNothing}
-use Rattle.point_laws.proofs.TextPages.{has_word, IsSpelled, text_items, spelled_items, family_has_word, free_lines}
+use Rattle.point_laws.proofs.TextPages.{has_word, IsSpelled, spelled_items, family_has_word, free_lines}
 
 -- ---- buckets that rise to `+Inf` are cumulative
 
@@ -173,7 +173,7 @@ module _ (moment : ℕ) where
   page_points st earlier clean text spelled free none =
       let lines : List Owned = reverse (owned_lines st.format earlier) in
       All-from_recursion (λ (f : Family). points_of_family moment f ≡ length f.readings) (map (family_of st lines) (families_of lines))
-      (families_points st lines (families_of lines) (page_words st earlier spelled free) (page_values st earlier clean text (text_items earlier spelled) free none))
+      (families_points st lines (families_of lines) (page_words st earlier spelled free) (page_values st earlier clean free none))
 
 pub text_pages_lose_nothing : TextPagesLoseNothing
 text_pages_lose_nothing st bytes page text is = λ moment.

@@ -17,7 +17,6 @@ use Rattle.page_model.specs.TextItems.{text_kind_word, trimmed, SpellsTrimmed}
 use Rattle.page_model.specs.Owners.{is_of, declared_kind, kind_of, owner_of, with_owner, owned_lines}
 use Rattle.page_model.specs.Faults.{Line, own_fault, item_fault, line_fault, end_fault, with_line, fault_from}
 use Rattle.page_model.specs.Pages.{AreLines, SaysWhatItSpells, AreFaultless}
-use Rattle.family_rules.specs.Checking.{IsTextItem, AreTextItems}
 
 -- ---- what a text line spells
 
@@ -39,26 +38,6 @@ spelled_item (help name text) line h = tt
 spelled_item (type_line name kind) line h = ap is_some h.kind_word
 spelled_item (unit_line name unit) line h = tt
 spelled_item (sample s) line h = rw h.no_exemplar refl
-
-text_item : (item : Item) → IsSpelled item → IsTextItem item
-text_item items.Blank h = tt
-text_item items.Comment h = tt
-text_item items.Eof h = tt
-text_item (items.Help name text) h = tt
-text_item (items.Unit name unit) h = tt
-text_item (items.Sample s) h = h
-text_item (items.KindOf name kinds.Counter) h = refl
-text_item (items.KindOf name kinds.Gauge) h = refl
-text_item (items.KindOf name kinds.Histogram) h = refl
-text_item (items.KindOf name kinds.GaugeHistogram) h = refl
-text_item (items.KindOf name kinds.StateSet) h = absurd cc
-text_item (items.KindOf name kinds.Info) h = absurd cc
-text_item (items.KindOf name kinds.Summary) h = refl
-text_item (items.KindOf name kinds.Unknown) h = refl
-
-pub text_items : (earlier : List Item) → AllByRecursion IsSpelled earlier → AreTextItems earlier
-text_items [] h = tt
-text_items (item ∷ earlier) h = (text_item item h.0, text_items earlier h.1)
 
 -- the items of lines, those above them among them
 pub spelled_items : (pieces : List (List ℕ)) (ls : List Line) (earlier : List Item) → AreLines Text pieces ls → AllByRecursion IsSpelled earlier → AllByRecursion IsSpelled (fold (λ above l. with_line Text l above) earlier ls)

@@ -108,6 +108,8 @@ gathers_other all places i p within at other so_far d =
     none (parts.Quantile q) other = absurd (other q refl)
     none (parts.Sum n) other = refl
     none (parts.Count n) other = refl
+    none (parts.Total n) other = refl
+    none (parts.Created n) other = refl
 
 pub gathers_all : (all : List Part) (places : List DecimalValue) (i : ℕ) → length all ≤ i → Gathers all places (drop i all) → HasPlacesOf (filter_map quantile_in all) places
 gathers_all all places i end so_far d = no_more (is_place_in places d) ∙ ap (λ l. is_place_in places d || has_place (filter_map quantile_in l) d) (sym (drop_all i all end)) ∙ so_far d

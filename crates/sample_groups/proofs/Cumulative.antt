@@ -6,11 +6,9 @@ use Rattle.std.proofs.lemmas.List.{append-nil}
 use Rattle.std.proofs.lemmas.List.Elements.{filter_map-append}
 use Rattle.std.specs.List.{list_all, last_or, cons_option, AllByRecursion}
 use Rattle.label_sets.specs.declared.kind.Kind.{Kind}
-use Rattle.label_sets.specs.declared.kind.Kind.TheVariants.{Counter, Gauge, Histogram, GaugeHistogram, StateSet, Info, Summary, Unknown}
 use Rattle.label_sets.specs.declared.label_set.LabelSet.{LabelSet}
 use Rattle.label_sets.specs.Labels.{label_sets_eq}
 use Rattle.label_sets.specs.Lists.{first_of_each, some_passes}
-use Rattle.page_model.specs.declared.format.Format.TheVariants.{Text}
 use Rattle.page_model.specs.declared.item.Sample.{Sample}
 use Rattle.page_model.specs.declared.page.Bucket.{Bucket}
 use Rattle.page_model.specs.Written.{Setting}
@@ -22,6 +20,7 @@ use Rattle.sample_groups.specs.declared.part.Part.TheVariants as parts
 use Rattle.sample_groups.specs.Parts.{is_grouped, part_of, entry_of}
 use Rattle.sample_groups.specs.Groups.{Gathered, bucket_in, group_from, parts_in, groups_from, breaks_last, breaks_order, ends_with, is_whole_group}
 use Rattle.sample_groups.specs.Sound.{IsSoundSample, AreSound}
+use Rattle.sample_groups.proofs.KindCases.{of_histograms}
 use Rattle.sample_groups.proofs.Members.{when, reverse-cons}
 use Rattle.sample_groups.proofs.Steps.{labels_of, group_at, group_is_kept}
 use Rattle.sample_groups.proofs.Samples.{bucket_part, is_in_group, entries, values_in-entries}
@@ -49,21 +48,14 @@ rising-snoc (c ∷ bs) before b h bound above = (h.0, h.1, rising-snoc bs (Some 
 -- a bucket with a bound that is allowed
 bound_of : (kind : Kind) (family : List ℕ) (s : Sample) → is_histogram kind ≡ true → has_bad_threshold kind family s ≡ false → is_bucket family s ≡ true → is_bound (threshold s) ≡ true
 unfolding has_bad_threshold
-bound_of Histogram family s h placed e = not-false (is_bound (threshold s)) (rw e at placed)
-bound_of GaugeHistogram family s h placed e = not-false (is_bound (threshold s)) (rw e at placed)
-bound_of Counter family s h placed e = absurd cc
-bound_of Gauge family s h placed e = absurd cc
-bound_of Summary family s h placed e = absurd cc
-bound_of StateSet family s h placed e = absurd cc
-bound_of Info family s h placed e = absurd cc
-bound_of Unknown family s h placed e = absurd cc
+bound_of kind family s histogram placed e = not-false (is_bound (threshold s)) (of_histograms (λ k. has_bad_threshold k family s ≡ false → not (is_bound (threshold s)) ≡ false) (λ p. rw e at p) (λ p. rw e at p) kind histogram placed)
 
 bucket_is : (family : List ℕ) (s : Sample) → is_bucket family s ≡ true → part_of family s ≡ parts.Bucket (bucket_of s)
 unfolding part_of
 bucket_is family s e = rw e refl
 
-module _ (st : Setting) (kind : Kind) (family : List ℕ) (histogram : is_histogram kind ≡ true) (text : st.format ≡ Text) where
-  grouped : is_grouped kind ≡ true
+module _ (st : Setting) (kind : Kind) (family : List ℕ) (histogram : is_histogram kind ≡ true) where
+  grouped : is_grouped st.format kind ≡ true
   grouped = rw histogram refl
 
   -- the buckets of a group
@@ -90,7 +82,7 @@ module _ (st : Setting) (kind : Kind) (family : List ℕ) (histogram : is_histog
       let es : List (LabelSet × Part) = entries st kind family (reverse above) in
       let part : part_of family s ≡ parts.Bucket (bucket_of s) = bucket_is family s bucket in
       let kept : is_out_of_order st kind family above s ≡ breaks_order (group_at es (sample_group st kind family s)) (part_of family s) =
-      order_kept st kind family above s grouped text sound own.named own.valued own.placed ∙ ap (λ g. breaks_order g (part_of family s)) (group_is_kept es (sample_group st kind family s)) in
+      order_kept st kind family above s grouped sound own.named own.valued own.placed ∙ ap (λ g. breaks_order g (part_of family s)) (group_is_kept es (sample_group st kind family s)) in
       sym (kept ∙ (λ i. breaks_order (group_at es (group i)) (part i))) ∙ own.ordered
 
   -- the buckets of a group rise

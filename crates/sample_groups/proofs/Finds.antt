@@ -1,150 +1,135 @@
 -- How the part of a sample is found: what its name and its rules come to.
-use Rattle.std.proofs.Common.{◌≡◌, ℕ, ◌≤◌, Bool, true, false, cond, not, ◌&&◌, ◌||◌, List, [], ◌∷◌, ◌++◌, find, length, drop, Option, Some, None, is_some, unwrap_or, Result, Ok, Err, refl, sym, ap, ◌∙◌, rules, codes, if◌then◌else◌, Bor}
-use Rattle.std.proofs.Math.Seq.{drop-append_seam}
-use Rattle.std.proofs.lemmas.List.{drop_all}
-use Rattle.std.specs.List.{list_any}
-use Rattle.std.specs.Option.{option_map, option_copied}
-use Rattle.std.specs.Str.{bytes_eq}
-use Rattle.std.specs.Cmp.Lexicographic.{bytes_decides}
+use Rattle.std.proofs.Common.{◌≡◌, ℕ, Bool, true, false, cond, not, ◌&&◌, ◌||◌, List, ◌++◌, Result, Ok, Err, refl, ◌∙◌, codes, if◌then◌else◌}
 use Rattle.label_sets.specs.declared.kind.Kind.{Kind}
-use Rattle.label_sets.specs.declared.kind.Kind.TheVariants.{Counter, Gauge, Histogram, GaugeHistogram, StateSet, Info, Summary, Unknown}
-use Rattle.label_sets.specs.declared.label.Label.{Label}
-use Rattle.label_sets.specs.Labels.{label_value, has_name}
-use Rattle.page_model.specs.declared.format.Format.TheVariants.{Text}
+use Rattle.label_sets.specs.declared.kind.Kind.TheVariants.{Counter, Histogram, GaugeHistogram, Summary}
+use Rattle.label_sets.specs.Labels.{has_name}
 use Rattle.page_model.specs.declared.item.Sample.{Sample}
 use Rattle.page_model.specs.declared.rule.Rule.{Rule}
 use Rattle.page_model.specs.declared.rule.Rule.TheVariants as rules_of
+use Rattle.page_model.specs.declared.suffix.Suffix.{Suffix}
+use Rattle.page_model.specs.declared.suffix.Suffix.TheVariants.{Own, Bucket, Count, GaugeCount, Sum, GaugeSum, Total, Created}
 use Rattle.page_model.specs.Written.{Setting}
-use Rattle.page_model.specs.Suffixes.{suffix_of, suffixes, is_sample_name}
-use Rattle.page_model.specs.Rules.{has_suffix, has_wrong_suffix, has_bad_value, has_forbidden_value, has_bad_threshold, is_bucket, is_count, is_whole, is_bound, threshold, quantile_at}
+use Rattle.page_model.specs.SuffixNames.{suffix_bytes}
+use Rattle.page_model.specs.Rules.{is_open_metrics, has_wrong_suffix, has_bad_value, has_forbidden_value, has_bad_threshold, is_whole, is_bound, threshold, quantile_at}
 use Rattle.page_model.specs.Readings.{bucket_of, quantile_of}
-use Rattle.exact_decimal.specs.Order.{whole, is_finite}
+use Rattle.exact_decimal.specs.Numbers.{number_of}
+use Rattle.exact_decimal.specs.Order.{less, is_finite, is_not_a_number}
 use Rattle.sample_groups.specs.declared.part.Part.{Part}
 use Rattle.sample_groups.specs.declared.part.Part.TheVariants as parts
-use Rattle.sample_groups.specs.declared.suffix.Suffix.{Suffix}
-use Rattle.sample_groups.specs.declared.suffix.Suffix.TheVariants.{Bucket, Count, Own, Sum}
 use Rattle.sample_groups.specs.Parts.{is_grouped, quantile_part, part_of}
-use Rattle.sample_groups.specs.Finding.{suffix_named, bucket_found, quantile_found, found}
+use Rattle.sample_groups.specs.Finding.{found}
+use Rattle.sample_groups.proofs.KindCases.{of_grouped}
+use Rattle.sample_groups.proofs.Samples.{by_name, count_of}
 
-pub some_copied : {A : Type 0} (r : Option (Bor A)) → is_some r ≡ is_some (option_copied r)
-some_copied None = refl
-some_copied (Some x) = refl
-
--- a label has a value exactly where the set has its name
-pub has_value_name : (name : List ℕ) (ls : List Label) → is_some (label_value name ls) ≡ has_name ls name
-has_value_name name [] = refl
-has_value_name name (l ∷ ls) = by (bytes_eq l.name name) (has_value_name name ls)
-  where
-    by : (b : Bool) → is_some (label_value name ls) ≡ has_name ls name
-        → is_some (option_map (λ (m : Label). m.value) (cond b (Some l) (find (λ (m : Label). bytes_eq m.name name) ls))) ≡ (b || has_name ls name)
-    by true rest = refl
-    by false rest = rest
-
--- behind a name that is no longer than the family's stands nothing
-pub nothing_behind : (family name : List ℕ) → length name ≤ length family → suffix_named (suffix_of family name) ≡ Own
-unfolding suffix_named
-nothing_behind family name h = ap suffix_named (drop_all (length family) name h)
-
--- ---- suffixes
-
-true_or : (a b : Bool) → b ≡ true → (a || b) ≡ true
-true_or true b e = refl
-true_or false b e = e
-
-false_and : (a : Bool) → (a && false) ≡ false
-false_and true = refl
-false_and false = refl
-
-true_from_not : (b : Bool) → not b ≡ false → b ≡ true
-true_from_not true e = refl
-true_from_not false e = absurd (let no : true ≡ false = e in cc)
-
--- what stands behind the family's name is the suffix
-behind : (family name : List ℕ) (allowed : List (List ℕ)) → list_any (λ suffix. bytes_eq name (family ++ suffix)) allowed ≡ true → list_any (bytes_eq (suffix_of family name)) allowed ≡ true
-behind family name [] h = h
-behind family name (x ∷ xs) h = by (bytes_eq name (family ++ x)) refl h (behind family name xs)
-  where
-    by : (b : Bool) → bytes_eq name (family ++ x) ≡ b → (b || list_any (λ suffix. bytes_eq name (family ++ suffix)) xs) ≡ true
-        → (list_any (λ suffix. bytes_eq name (family ++ suffix)) xs ≡ true → list_any (bytes_eq (suffix_of family name)) xs ≡ true) → (bytes_eq (suffix_of family name) x || list_any (bytes_eq (suffix_of family name)) xs) ≡ true
-    by true e h more =
-        let rest : suffix_of family name ≡ x = ap (drop (length family)) ((bytes_decides name (family ++ x)).0 e) ∙ drop-append_seam family x in
-        ap (λ b. b || list_any (bytes_eq (suffix_of family name)) xs) ((bytes_decides (suffix_of family name) x).1 rest)
-    by false e h more = true_or (bytes_eq (suffix_of family name) x) _ (more h)
-
--- one of these is none of those
-unlike : (bytes x : List ℕ) (allowed : List (List ℕ)) → list_any (bytes_eq bytes) allowed ≡ true → list_any (bytes_eq x) allowed ≡ false → bytes_eq bytes x ≡ false
-unlike bytes x allowed some none = by (bytes_eq bytes x) refl
-  where
-    by : (b : Bool) → bytes_eq bytes x ≡ b → b ≡ false
-    by true e = absurd (let same : bytes ≡ x = (bytes_decides bytes x).0 e in let no : true ≡ false = sym some ∙ ap (λ y. list_any (bytes_eq y) allowed) same ∙ none in cc)
-    by false e = refl
-
--- the suffix of a sample of the text format is one that its kind allows
-allowed_behind : (st : Setting) (kind : Kind) (family : List ℕ) (s : Sample) → st.format ≡ Text → has_wrong_suffix st kind family s ≡ false → list_any (bytes_eq (suffix_of family s.name)) (suffixes Text kind) ≡ true
-unfolding has_wrong_suffix
-allowed_behind st kind family s text right = behind family s.name (suffixes Text kind) (true_from_not _ (ap (λ f. not (is_sample_name f kind family s.name)) (sym text) ∙ right))
+or_none : (a : Bool) → (a || false) ≡ true → a ≡ true
+or_none true e = refl
+or_none false e = e
 
 -- ---- the rules
 
--- a function of the suffix, by the tests
-by_suffix : {A : Type 0} (f : Suffix → A) (b c o : Bool) → f (cond b Bucket (cond c Count (cond o Own Sum))) ≡ cond b (f Bucket) (cond c (f Count) (cond o (f Own) (f Sum)))
-by_suffix f true c o = refl
-by_suffix f false true o = refl
-by_suffix f false false true = refl
-by_suffix f false false false = refl
+-- no created time is asked for with another suffix
+not_created : (om finite : Bool) → (om && false && not finite) ≡ false
+not_created true finite = refl
+not_created false finite = refl
 
--- the parts and the rules that the steps find, against those that the rules of the page and the parts say
-module _ (bucket count quantile sum : Part) (whole : Bool) where
-  of_histogram : (b c o bound placed : Bool) (own : Result Part Rule) → o ≡ false
-      → cond b (cond whole (cond bound (Ok bucket) (Err rules_of.Threshold)) (Err rules_of.Value)) (cond c (cond whole (cond placed (Err rules_of.Threshold) (Ok count)) (Err rules_of.Value)) (cond o own (cond placed (Err rules_of.Threshold) (Ok sum))))
-      ≡ cond (((b || c) && not whole) || false) (Err rules_of.Value) (cond (cond b (not bound) placed) (Err rules_of.Threshold) (Ok (cond b bucket (cond c count (cond o quantile sum)))))
-  of_histogram b c true bound placed own e = absurd (let no : true ≡ false = e in cc)
-  of_histogram true c false bound placed own e = grind rules
-  of_histogram false true false bound placed own e = grind rules
-  of_histogram false false false bound placed own e = grind rules
+module _ (part : Part) (om finite : Bool) where
+  -- a bucket
+  with_bound : (whole bound : Bool) → cond whole (cond bound (Ok part) (Err rules_of.Threshold)) (Err rules_of.Value)
+      ≡ cond (not whole || (om && false && not finite)) (Err rules_of.Value) (cond (not bound) (Err rules_of.Threshold) (Ok part))
+  with_bound true true = rw (not_created om finite) refl
+  with_bound true false = rw (not_created om finite) refl
+  with_bound false bound = refl
 
-  of_summary : (b c o finite placed : Bool) (first : Result Part Rule) → b ≡ false → (c && o) ≡ false
-      → cond b first (cond c (cond whole (cond placed (Err rules_of.Threshold) (Ok count)) (Err rules_of.Value)) (cond o (cond finite (Ok quantile) (Err rules_of.Threshold)) (cond placed (Err rules_of.Threshold) (Ok sum))))
-      ≡ cond ((c && not whole) || false) (Err rules_of.Value) (cond (cond o (not finite) placed) (Err rules_of.Threshold) (Ok (cond b bucket (cond c count (cond o quantile sum)))))
-  of_summary true c o finite placed first e one = absurd (let no : true ≡ false = e in cc)
-  of_summary false true true finite placed first e one = absurd (let no : true ≡ false = one in cc)
-  of_summary false true false finite placed first e one = grind rules
-  of_summary false false true finite placed first e one = grind rules
-  of_summary false false false finite placed first e one = grind rules
+  -- a count
+  with_whole : (whole placed : Bool) → cond whole (cond placed (Err rules_of.Threshold) (Ok part)) (Err rules_of.Value)
+      ≡ cond (not whole || (om && false && not finite)) (Err rules_of.Value) (cond placed (Err rules_of.Threshold) (Ok part))
+  with_whole true placed = rw (not_created om finite) refl
+  with_whole false placed = refl
 
--- the family's own name is no count
-own_or_count : (bytes : List ℕ) → ((bytes_eq bytes (codes "_count") || bytes_eq bytes (codes "_gcount")) && bytes_eq bytes []) ≡ false
-own_or_count [] = refl
-own_or_count (b ∷ bs) = false_and _
+  -- a sum
+  with_any : (placed : Bool) → cond placed (Err rules_of.Threshold) (Ok part) ≡ cond (om && false && not finite) (Err rules_of.Value) (cond placed (Err rules_of.Threshold) (Ok part))
+  with_any placed = rw (not_created om finite) refl
+
+  -- a quantile
+  with_place : (placed : Bool) → cond placed (Ok part) (Err rules_of.Threshold) ≡ cond (om && false && not finite) (Err rules_of.Value) (cond (not placed) (Err rules_of.Threshold) (Ok part))
+  with_place true = rw (not_created om finite) refl
+  with_place false = rw (not_created om finite) refl
+
+  -- a total
+  with_total : (bad : Bool) → cond bad (Err rules_of.Value) (Ok part) ≡ cond (bad || (om && false && not finite)) (Err rules_of.Value) (Ok part)
+  with_total true = refl
+  with_total false = rw (not_created om finite) refl
+
+  -- a created time
+  with_time : (placed : Bool) → om ≡ true → cond finite (cond placed (Err rules_of.Threshold) (Ok part)) (Err rules_of.Value)
+      ≡ cond (om && true && not finite) (Err rules_of.Value) (cond placed (Err rules_of.Threshold) (Ok part))
+  with_time placed is = rw is (by finite)
+    where
+      by : (b : Bool) → cond b (cond placed (Err rules_of.Threshold) (Ok part)) (Err rules_of.Value) ≡ cond (not b) (Err rules_of.Value) (cond placed (Err rules_of.Threshold) (Ok part))
+      by true = refl
+      by false = refl
 
 -- the part of a sample whose name its kind allows, or the rule that it breaks
-pub found_is : (st : Setting) (kind : Kind) (family : List ℕ) (s : Sample) → st.format ≡ Text → is_grouped kind ≡ true → has_wrong_suffix st kind family s ≡ false
-    → found kind s (suffix_named (suffix_of family s.name))
-    ≡ (if has_bad_value st.format kind family s then Err rules_of.Value else if has_bad_threshold kind family s then Err rules_of.Threshold else Ok (part_of family s))
-unfolding suffix_named has_bad_value has_forbidden_value has_bad_threshold part_of
-found_is st Counter family s text grouped right = absurd (let no : false ≡ true = grouped in cc)
-found_is st Gauge family s text grouped right = absurd (let no : false ≡ true = grouped in cc)
-found_is st StateSet family s text grouped right = absurd (let no : false ≡ true = grouped in cc)
-found_is st Info family s text grouped right = absurd (let no : false ≡ true = grouped in cc)
-found_is st Unknown family s text grouped right = absurd (let no : false ≡ true = grouped in cc)
-found_is st Histogram family s text grouped right =
-    by_suffix (found Histogram s) (is_bucket family s) (is_count family s) (has_suffix family [] s)
-    ∙ of_histogram (parts.Bucket (bucket_of s)) (parts.Count (unwrap_or (whole s.value) 0)) (quantile_part (quantile_of s) s.value) (parts.Sum s.value) (is_whole s.value) (is_bucket family s) (is_count family s) (has_suffix family [] s)
-    (is_bound (threshold s)) (has_name s.labels (codes "le")) (quantile_found s) (unlike (suffix_of family s.name) [] (suffixes Text Histogram) (allowed_behind st Histogram family s text right) refl)
-    ∙ ap (λ f. if has_bad_value f Histogram family s then Err rules_of.Value else if has_bad_threshold Histogram family s then Err rules_of.Threshold else Ok (part_of family s)) (sym text)
-found_is st GaugeHistogram family s text grouped right =
-    by_suffix (found GaugeHistogram s) (is_bucket family s) (is_count family s) (has_suffix family [] s)
-    ∙ of_histogram (parts.Bucket (bucket_of s)) (parts.Count (unwrap_or (whole s.value) 0)) (quantile_part (quantile_of s) s.value) (parts.Sum s.value) (is_whole s.value) (is_bucket family s) (is_count family s) (has_suffix family [] s)
-    (is_bound (threshold s)) (has_name s.labels (codes "le")) (quantile_found s) (unlike (suffix_of family s.name) [] (suffixes Text GaugeHistogram) (allowed_behind st GaugeHistogram family s text right) refl)
-    ∙ ap (λ f. if has_bad_value f GaugeHistogram family s then Err rules_of.Value else if has_bad_threshold GaugeHistogram family s then Err rules_of.Threshold else Ok (part_of family s)) (sym text)
-found_is st Summary family s text grouped right =
-    by_suffix (found Summary s) (is_bucket family s) (is_count family s) (has_suffix family [] s)
-    ∙ of_summary (parts.Bucket (bucket_of s)) (parts.Count (unwrap_or (whole s.value) 0)) (quantile_part (quantile_of s) s.value) (parts.Sum s.value) (is_whole s.value) (is_bucket family s) (is_count family s) (has_suffix family [] s)
-    (is_finite (quantile_at s)) (has_name s.labels (codes "quantile")) (bucket_found s) (unlike (suffix_of family s.name) (codes "_bucket") (suffixes Text Summary) (allowed_behind st Summary family s text right) refl) (own_or_count (suffix_of family s.name))
-    ∙ ap (λ f. if has_bad_value f Summary family s then Err rules_of.Value else if has_bad_threshold Summary family s then Err rules_of.Threshold else Ok (part_of family s)) (sym text)
+module _ (st : Setting) (family : List ℕ) (s : Sample) (suffix : Suffix) (only : (x : Suffix) → s.name ≡ family ++ suffix_bytes x → suffix ≡ x) where
+  -- what the part or the rule is
+  abbrev IsTold : Kind → Type 0
+  IsTold kind = found kind s suffix ≡ (if has_bad_value st.format kind family s then Err rules_of.Value else if has_bad_threshold kind family s then Err rules_of.Threshold else Ok (part_of family s))
+
+  -- the format is OpenMetrics, and the value is finite
+  abbrev in_open : Bool
+  in_open = is_open_metrics st.format
+
+  abbrev finite : Bool
+  finite = is_finite s.value
+
+  counter_told : is_grouped st.format Counter ≡ true → has_wrong_suffix st Counter family s ≡ false → IsTold Counter
+  unfolding has_bad_value has_forbidden_value has_bad_threshold part_of
+  counter_told grouped named = by_name st Counter family s grouped named (IsTold Counter) (
+    λ h. rw (only Total h.name_is, h.behind) (with_total (parts.Total s.value) in_open finite (is_not_a_number s.value || less s.value (number_of 0))),
+    (λ h. rw (only Created h.name_is, h.behind) (with_time (parts.Created s.value) in_open finite false (or_none _ h.may)), tt),
+  )
+
+  histogram_told : has_wrong_suffix st Histogram family s ≡ false → IsTold Histogram
+  unfolding has_bad_value has_forbidden_value has_bad_threshold part_of
+  histogram_told named = by_name st Histogram family s refl named (IsTold Histogram) (
+    λ h. rw (only Bucket h.name_is, h.behind) (with_bound (parts.Bucket (bucket_of s)) in_open finite (is_whole s.value) (is_bound (threshold s))),
+    (
+      λ h. rw (only Count h.name_is, h.behind) (with_whole (parts.Count (count_of s)) in_open finite (is_whole s.value) (has_name s.labels (codes "le"))),
+      (
+        λ h. rw (only Sum h.name_is, h.behind) (with_any (parts.Sum s.value) in_open finite (has_name s.labels (codes "le"))),
+        (λ h. rw (only Created h.name_is, h.behind) (with_time (parts.Created s.value) in_open finite (has_name s.labels (codes "le")) (or_none _ h.may)), tt),
+      ),
+    ),
+  )
+
+  gauge_told : has_wrong_suffix st GaugeHistogram family s ≡ false → IsTold GaugeHistogram
+  unfolding has_bad_value has_forbidden_value has_bad_threshold part_of
+  gauge_told named = by_name st GaugeHistogram family s refl named (IsTold GaugeHistogram) (
+    λ h. rw (only Bucket h.name_is, h.behind) (with_bound (parts.Bucket (bucket_of s)) in_open finite (is_whole s.value) (is_bound (threshold s))),
+    (
+      λ h. rw (only GaugeCount h.name_is, h.behind) (with_whole (parts.Count (count_of s)) in_open finite (is_whole s.value) (has_name s.labels (codes "le"))),
+      (λ h. rw (only GaugeSum h.name_is, h.behind) (with_any (parts.Sum s.value) in_open finite (has_name s.labels (codes "le"))), tt),
+    ),
+  )
+
+  summary_told : has_wrong_suffix st Summary family s ≡ false → IsTold Summary
+  unfolding has_bad_value has_forbidden_value has_bad_threshold part_of
+  summary_told named = by_name st Summary family s refl named (IsTold Summary) (
+    λ h. rw (only Own h.name_is, h.behind) (with_place (quantile_part (quantile_of s) s.value) in_open finite (is_finite (quantile_at s))),
+    (
+      λ h. rw (only Count h.name_is, h.behind) (with_whole (parts.Count (count_of s)) in_open finite (is_whole s.value) (has_name s.labels (codes "quantile"))),
+      (
+        λ h. rw (only Sum h.name_is, h.behind) (with_any (parts.Sum s.value) in_open finite (has_name s.labels (codes "quantile"))),
+        (λ h. rw (only Created h.name_is, h.behind) (with_time (parts.Created s.value) in_open finite (has_name s.labels (codes "quantile")) (or_none _ h.may)), tt),
+      ),
+    ),
+  )
+
+  found_is : (kind : Kind) → is_grouped st.format kind ≡ true → has_wrong_suffix st kind family s ≡ false → IsTold kind
+  found_is = of_grouped st.format (λ k. has_wrong_suffix st k family s ≡ false → IsTold k) (record { histogram = histogram_told; gauge = gauge_told; summary = summary_told; counter = counter_told })
 
 -- the same of a sample with this suffix
-pub found_by : (kind : Kind) (family : List ℕ) (s : Sample) (suffix : Suffix) (part : Result Part Rule) → suffix ≡ suffix_named (suffix_of family s.name) → part ≡ found kind s suffix
-    → (st : Setting) → st.format ≡ Text → is_grouped kind ≡ true → has_wrong_suffix st kind family s ≡ false
+pub found_by : (kind : Kind) (family : List ℕ) (s : Sample) (suffix : Suffix) (part : Result Part Rule) → ((x : Suffix) → s.name ≡ family ++ suffix_bytes x → suffix ≡ x) → part ≡ found kind s suffix
+    → (st : Setting) → is_grouped st.format kind ≡ true → has_wrong_suffix st kind family s ≡ false
     → part ≡ (if has_bad_value st.format kind family s then Err rules_of.Value else if has_bad_threshold kind family s then Err rules_of.Threshold else Ok (part_of family s))
-found_by kind family s suffix part named is st text grouped right = is ∙ ap (found kind s) named ∙ found_is st kind family s text grouped right
+found_by kind family s suffix part only is st grouped named = is ∙ found_is st family s suffix only kind grouped named

@@ -1,20 +1,16 @@
 -- A group that has one part more, and what it is asked.
-use Rattle.std.proofs.Common.{◌≡◌, ℕ, Bool, true, false, ◌&&◌, ◌==◌, List, [], ◌∷◌, ◌++◌, filter_map, Option, Some, None, refl, sym, ap, subst, ◌∙◌, not}
+use Rattle.std.proofs.Common.{◌≡◌, Bool, true, false, ◌&&◌, ◌==◌, List, [], ◌∷◌, ◌++◌, filter_map, Option, Some, None, refl, sym, ap, subst, ◌∙◌, not}
 use Rattle.std.specs.List.{last_or, list_all}
 use Rattle.std.specs.declared.alloc.Global.{Global}
 use Rattle.std.specs.declared.boxed.Box.{Box}
-use Rattle.label_sets.specs.declared.kind.Kind.{Kind}
-use Rattle.label_sets.specs.declared.kind.Kind.TheVariants.{Counter, Gauge, Histogram, GaugeHistogram, StateSet, Info, Summary, Unknown}
-use Rattle.label_sets.specs.Lists.{first_some, some_passes}
-use Rattle.exact_decimal.specs.declared.number.Number.{Number}
+use Rattle.label_sets.specs.Lists.{some_passes}
 use Rattle.page_model.specs.declared.page.Bucket.{Bucket}
 use Rattle.page_model.specs.declared.page.Quantile.{Quantile}
-use Rattle.page_model.specs.declared.page.Value.TheVariants as values
 use Rattle.page_model.specs.Rules.{is_up}
 use Rattle.sample_groups.specs.declared.part.Part.{Part}
 use Rattle.sample_groups.specs.declared.part.Part.TheVariants as parts
 use Rattle.sample_groups.specs.declared.places.Places.{Places}
-use Rattle.sample_groups.specs.Groups.{Gathered, bucket_in, quantile_in, sum_in, count_in, group_from, with_one, breaks_last, breaks_order, ends_with, is_whole_group, group_value}
+use Rattle.sample_groups.specs.Groups.{Gathered, bucket_in, quantile_in, count_in, group_from, with_one, breaks_last, breaks_order, ends_with, is_whole_group}
 use Rattle.sample_groups.specs.Kept.{KnowsPlaces}
 use Rattle.sample_groups.proofs.Members.{first_some-head}
 use Rattle.sample_groups.proofs.Steps.{group_from-snoc, none_more, some_more}
@@ -59,28 +55,3 @@ whole_by ps slice g b up counts same is last up_is counts_is =
 pub never_whole : (ps slice : List Part) (g : Gathered) → slice ≡ ps → group_from ps ≡ g → None ≡ last_or None (filter_map bucket_in slice) → false ≡ is_whole_group g
 unfolding group_from
 never_whole ps slice g same is none = ap (λ l. ends_with l (group_from ps)) (none ∙ ap (λ l. last_or None (filter_map bucket_in l)) same) ∙ ap is_whole_group is
-
--- ---- its value
-
-module _ (ps slice : List Part) (g : Gathered) (same : slice ≡ ps) (is : group_from ps ≡ g) (sum : Option Number) (summed : sum ≡ first_some sum_in slice) where
-  pub summary_value : (kind : Kind) (qs : List Quantile) (count : Option ℕ) → kind ≡ Summary → qs ≡ filter_map quantile_in slice → count ≡ first_some count_in slice → values.Quantiles qs count sum ≡ group_value kind g
-  unfolding group_from
-  summary_value kind qs count own placed counted =
-      (λ i. values.Quantiles (placed i) (counted i) (summed i)) ∙ ap (λ l. values.Quantiles (filter_map quantile_in l) (first_some count_in l) (first_some sum_in l)) same
-      ∙ (λ i. group_value (sym own i) (is i))
-
-  pub buckets_value : (kind : Kind) (bs : List Bucket) → (kind ≡ Summary → ⊥) → bs ≡ filter_map bucket_in slice → values.Buckets bs sum ≡ group_value kind g
-  unfolding group_from
-  buckets_value kind bs other listed =
-      (λ i. values.Buckets (listed i) (summed i)) ∙ ap (λ l. values.Buckets (filter_map bucket_in l) (first_some sum_in l)) same
-      ∙ (λ i. values.Buckets (is i).buckets (is i).sum) ∙ by kind other
-    where
-      by : (k : Kind) → (k ≡ Summary → ⊥) → values.Buckets g.buckets g.sum ≡ group_value k g
-      by Summary other = absurd (other refl)
-      by Counter other = refl
-      by Gauge other = refl
-      by Histogram other = refl
-      by GaugeHistogram other = refl
-      by StateSet other = refl
-      by Info other = refl
-      by Unknown other = refl

@@ -1,10 +1,12 @@
 pub mod Members
+pub mod KindCases
 pub mod Steps
 pub mod Samples
 pub mod Orders
 pub mod Whole
 pub mod Made
 pub mod Cumulative
+pub mod LabelNames
 pub mod Finds
 pub mod Adding
 pub mod Grown

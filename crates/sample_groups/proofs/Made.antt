@@ -1,27 +1,30 @@
 -- The readings of a family, looking back over its samples, are those of its groups as they are kept.
-use Rattle.std.proofs.Common.{◌≡◌, ℕ, Bool, true, false, cond, not, ◌||◌, List, [], ◌∷◌, map, filter, filter_map, find, reverse, codes, Option, Some, None, option_map, option_and_then, refl, sym, ap, ◌∙◌, inl, inr}
-use Rattle.std.specs.List.{list_any}
+use Rattle.std.proofs.Common.{◌≡◌, ℕ, Bool, true, false, not, ◌||◌, ◌==◌, List, [], ◌∷◌, map, filter, filter_map, find, reverse, length, codes, Option, Some, None, is_some, option_map, option_and_then, refl, sym, ap, ◌∙◌, suc, arith}
+use Rattle.std.proofs.lemmas.Bool.Decides.{nat_tests}
+use Rattle.std.specs.List.{list_any, cons_option}
+use Rattle.std.specs.Option.{option_or}
 use Rattle.label_sets.specs.declared.kind.Kind.{Kind}
-use Rattle.label_sets.specs.declared.kind.Kind.TheVariants.{Counter, Gauge, Histogram, GaugeHistogram, StateSet, Info, Summary, Unknown}
+use Rattle.label_sets.specs.declared.kind.Kind.TheVariants.{Counter, Histogram, GaugeHistogram, Summary}
 use Rattle.label_sets.specs.declared.label_set.LabelSet.{LabelSet}
 use Rattle.label_sets.specs.Labels.{label_sets_eq}
 use Rattle.label_sets.specs.Lists.{first_of_each, first_some}
 use Rattle.exact_decimal.specs.declared.number.Number.{Number}
 use Rattle.exact_decimal.specs.Order.{whole}
-use Rattle.page_model.specs.declared.format.Format.TheVariants.{Text}
+use Rattle.page_model.specs.declared.format.Format.{Format}
+use Rattle.page_model.specs.declared.format.Format.TheVariants.{Text, OpenMetrics}
 use Rattle.page_model.specs.declared.item.Sample.{Sample}
-use Rattle.page_model.specs.declared.page.Value.TheVariants as values
 use Rattle.page_model.specs.Written.{Setting}
 use Rattle.page_model.specs.Rules.{has_suffix, is_bucket, sample_group}
-use Rattle.page_model.specs.Readings.{value_with, either_value, bucket_of, buckets_of, quantile_of, quantiles_of, sum_of, is_measured, value_of, stamp_of, exemplars_of, reading_of, readings_of}
-use Rattle.page_model.proofs.Laws.{Member, label_sets_decide}
+use Rattle.page_model.specs.Readings.{value_with, either_value, bucket_of, buckets_of, quantile_of, quantiles_of, sum_of, is_measured, counter_suffix, value_of, stamp_of, exemplars_of, reading_of, readings_of}
+use Rattle.page_model.proofs.Laws.{Member}
 use Rattle.sample_groups.specs.declared.part.Part.{Part}
 use Rattle.sample_groups.specs.Parts.{is_grouped, part_of, entry_of}
-use Rattle.sample_groups.specs.Groups.{Gathered, bucket_in, quantile_in, sum_in, count_in, group_from, parts_in, groups_from, group_value, reading_from}
+use Rattle.sample_groups.specs.Groups.{Gathered, bucket_in, quantile_in, sum_in, count_in, total_in, created_in, group_from, parts_in, groups_from, is_measured_group, reading_from}
 use Rattle.sample_groups.specs.Sound.{AreSound}
-use Rattle.sample_groups.proofs.Members.{when, map-map, filter_map-map, filter_map-filter, filter_map-agree, filter_map-when, filter_map-some, first_some-map, first_some-when, find-none, find-member, member-filter, member-reverse, has_key, has_key-first, eq_swap}
+use Rattle.sample_groups.proofs.KindCases.{of_grouped}
+use Rattle.sample_groups.proofs.Members.{when, filter_map-map, filter_map-filter, filter_map-agree, filter_map-when, first_some-map, first_some-when, list_any-agree, find-none, find-member, member-filter, member-reverse}
 use Rattle.sample_groups.proofs.Steps.{labels_of, group_at, groups_are_keyed}
-use Rattle.sample_groups.proofs.Samples.{IsFair, fair_at, count_of, bucket_part, count_part, quantile_part_is, whole_in_summary, histogram_created, histogram_gsum, histogram_sum, gauge_created, gauge_no_sum, gauge_sum, summary_created, summary_gsum, summary_count, summary_sum, is_in_group, entries, labels_of-entries, parts_in-entries}
+use Rattle.sample_groups.proofs.Samples.{IsFair, fair_at, count_of, is_measured_part, bucket_part, count_part, quantile_part_is, whole_in_summary, created_is, counter_total, histogram_gsum, histogram_sum, gauge_no_sum, gauge_sum, summary_gsum, summary_count, summary_sum, summary_measured, is_in_group, entries, labels_of-entries, parts_in-entries}
 
 -- ---- the parts of one group's samples
 
@@ -39,10 +42,10 @@ module _ (family : List ℕ) (own : List Sample) where
   own_quantiles = filter_map-filter quantile_of (has_suffix family []) own
       ∙ sym (filter_map-map quantile_in (part_of family) own ∙ filter_map-agree (λ s. quantile_in (part_of family s)) (λ s. when (has_suffix family [] s) (quantile_of s)) own (λ s m. quantile_part_is family s))
 
-  -- the first value with a suffix that no other sum has
-  own_value : (suffix : List ℕ) → ((s : Sample) → Member s own → sum_in (part_of family s) ≡ when (has_suffix family suffix s) (Some s.value)) → value_with family suffix own ≡ first_some sum_in own_parts
+  -- the first value with a suffix that just these parts have
+  own_value : (f : Part → Option Number) (suffix : List ℕ) → ((s : Sample) → Member s own → f (part_of family s) ≡ when (has_suffix family suffix s) (Some s.value)) → value_with family suffix own ≡ first_some f own_parts
   unfolding value_with
-  own_value suffix is = sym (first_some-map sum_in (part_of family) own ∙ first_some-when (λ s. sum_in (part_of family s)) (has_suffix family suffix) (λ (s : Sample). s.value) own is)
+  own_value f suffix is = sym (first_some-map f (part_of family) own ∙ first_some-when (λ s. f (part_of family s)) (has_suffix family suffix) (λ (s : Sample). s.value) own is)
 
   -- no value has a suffix that no sample has
   no_value : (suffix : List ℕ) → ((s : Sample) → Member s own → has_suffix family suffix s ≡ false) → value_with family suffix own ≡ None
@@ -51,7 +54,7 @@ module _ (family : List ℕ) (own : List Sample) where
 
   own_sum : ((s : Sample) → Member s own → sum_in (part_of family s) ≡ when (has_suffix family (codes "_sum") s) (Some s.value)) → ((s : Sample) → Member s own → has_suffix family (codes "_gsum") s ≡ false) → sum_of family own ≡ first_some sum_in own_parts
   unfolding sum_of
-  own_sum is none = rw (no_value (codes "_gsum") none, own_value (codes "_sum") is) (nothing (first_some sum_in own_parts))
+  own_sum is none = rw (no_value (codes "_gsum") none, own_value sum_in (codes "_sum") is) (nothing (first_some sum_in own_parts))
     where
       nothing : (o : Option Number) → either_value o None ≡ o
       nothing None = refl
@@ -59,7 +62,7 @@ module _ (family : List ℕ) (own : List Sample) where
 
   own_gsum : ((s : Sample) → Member s own → sum_in (part_of family s) ≡ when (has_suffix family (codes "_gsum") s) (Some s.value)) → ((s : Sample) → Member s own → has_suffix family (codes "_sum") s ≡ false) → sum_of family own ≡ first_some sum_in own_parts
   unfolding sum_of
-  own_gsum is none = rw (no_value (codes "_sum") none, own_value (codes "_gsum") is) refl
+  own_gsum is none = rw (no_value (codes "_sum") none, own_value sum_in (codes "_gsum") is) refl
 
   -- the first count, which is whole
   own_count : ((s : Sample) → Member s own → count_in (part_of family s) ≡ when (has_suffix family (codes "_count") s) (Some (count_of s))) → ((s : Sample) → Member s own → has_suffix family (codes "_count") s ≡ true → whole s.value ≡ Some (count_of s))
@@ -72,23 +75,56 @@ module _ (family : List ℕ) (own : List Sample) where
       of None e = rw e refl
       of (Some s) e = let at = find-member (has_suffix family (codes "_count")) own s e in rw e (wholes s at.0 at.1)
 
--- ---- the value of one group
+-- ---- a group with more than a created time
 
--- a sample of the list passes, where one of the group is there and each passes
-some_passes_in : (t p : Sample → Bool) (xs : List Sample) → list_any t xs ≡ true → ((x : Sample) → Member x xs → p x ≡ true) → list_any p (filter t xs) ≡ true
-some_passes_in t p [] h all = absurd cc
-some_passes_in t p (x ∷ xs) h all = by (t x) h (all x (inl refl)) (λ e. some_passes_in t p xs e (λ y m. all y (inr m)))
+some_in : {B : Type 0} (f : Part → Option B) (ps : List Part) → not (length (filter_map f ps) == 0) ≡ list_any (λ p. is_some (f p)) ps
+some_in f [] = refl
+some_in {B = B} f (p ∷ ps) = by (f p) (some_in f ps)
   where
-    by : (b : Bool) → (b || list_any t xs) ≡ true → p x ≡ true → (list_any t xs ≡ true → list_any p (filter t xs) ≡ true) → list_any p (cond b (x ∷ filter t xs) (filter t xs)) ≡ true
-    by true e f more = ap (λ c. c || list_any p (filter t xs)) f
-    by false e f more = more e
+    by : (o : Option B) → not (length (filter_map f ps) == 0) ≡ list_any (λ q. is_some (f q)) ps → not (length (cons_option o (filter_map f ps)) == 0) ≡ (is_some o || list_any (λ q. is_some (f q)) ps)
+    by None more = more
+    by (Some y) more = some (length (filter_map f ps))
+      where
+        some : (n : ℕ) → not (suc n == 0) ≡ true
+        some n = grind (arith, nat_tests)
 
--- the key is among the keys of the samples, so a sample has it
-list_any-keys : (f : Sample → LabelSet) (labels : LabelSet) (xs : List Sample) → list_any (label_sets_eq labels) (map f xs) ≡ list_any (λ s. label_sets_eq (f s) labels) xs
-list_any-keys f labels [] = refl
-list_any-keys f labels (x ∷ xs) = let first = eq_swap label_sets_eq label_sets_decide labels (f x) in let rest = list_any-keys f labels xs in λ i. first i || rest i
+first_in : {B : Type 0} (f : Part → Option B) (ps : List Part) → is_some (first_some f ps) ≡ list_any (λ p. is_some (f p)) ps
+first_in f [] = refl
+first_in {B = B} f (p ∷ ps) = by (f p) (first_in f ps)
+  where
+    by : (o : Option B) → is_some (first_some f ps) ≡ list_any (λ q. is_some (f q)) ps → is_some (option_or o (first_some f ps)) ≡ (is_some o || list_any (λ q. is_some (f q)) ps)
+    by None more = more
+    by (Some y) more = refl
 
-module _ (st : Setting) (family : List ℕ) (text : st.format ≡ Text) (samples : List Sample) (labels : LabelSet) where
+any_of : (a b c : Part → Bool) (ps : List Part) → (list_any a ps || list_any b ps || list_any c ps) ≡ list_any (λ p. a p || b p || c p) ps
+any_of a b c [] = refl
+any_of a b c (p ∷ ps) = by (a p) (b p) (c p) (list_any a ps) (list_any b ps) (list_any c ps) ∙ ap (λ t. (a p || b p || c p) || t) (any_of a b c ps)
+  where
+    by : (x y z u v w : Bool) → ((x || u) || (y || v) || (z || w)) ≡ ((x || y || z) || (u || v || w))
+    by true y z u v w = refl
+    by false true z true v w = refl
+    by false true z false v w = refl
+    by false false true true v w = refl
+    by false false true false true w = refl
+    by false false true false false w = refl
+    by false false false u v w = refl
+
+measured_group : (ps : List Part) → is_measured_group (group_from ps) ≡ list_any is_measured_part ps
+unfolding group_from
+measured_group ps = (λ i. some_in quantile_in ps i || first_in count_in ps i || first_in sum_in ps i) ∙ any_of (λ p. is_some (quantile_in p)) (λ p. is_some (count_in p)) (λ p. is_some (sum_in p)) ps
+
+list_any-map : (t : Part → Bool) (f : Sample → Part) (xs : List Sample) → list_any t (map f xs) ≡ list_any (λ s. t (f s)) xs
+list_any-map t f [] = refl
+list_any-map t f (x ∷ xs) = ap (λ b. t (f x) || b) (list_any-map t f xs)
+
+-- ---- the reading of one group
+
+-- a grouped counter's own sample has this suffix
+total_suffix : (f : Format) → is_grouped f Counter ≡ true → counter_suffix f ≡ codes "_total"
+total_suffix OpenMetrics grouped = refl
+total_suffix Text grouped = absurd (let no : false ≡ true = grouped in cc)
+
+module _ (st : Setting) (family : List ℕ) (samples : List Sample) (labels : LabelSet) where
   -- the samples of the group, and what is kept of it
   abbrev own : Kind → List Sample
   own kind = filter (is_in_group st kind family labels) samples
@@ -99,49 +135,50 @@ module _ (st : Setting) (family : List ℕ) (text : st.format ≡ Text) (samples
   in_kept : {B : Type 0} (kind : Kind) (f : List Part → B) → f (map (part_of family) (own kind)) ≡ f (parts_in labels (entries st kind family samples))
   in_kept kind f = ap f (sym (parts_in-entries st kind family labels samples))
 
-  in_own : (kind : Kind) (s : Sample) → Member s (own kind) → Member s samples
-  in_own kind s m = (member-filter (is_in_group st kind family labels) samples s m).0
+  -- what is so of all samples is so of the group's
+  module _ (kind : Kind) (fair : (s : Sample) → Member s samples → IsFair st kind family s) where
+    own_fair : (s : Sample) → Member s (own kind) → IsFair st kind family s
+    own_fair s m = fair s (member-filter (is_in_group st kind family labels) samples s m).0
 
-  module _ (fair : (s : Sample) → Member s samples → IsFair st Histogram family s) where
-    histogram_value : value_of st.format Histogram family (own Histogram) ≡ Some (group_value Histogram (kept Histogram))
-    unfolding value_of group_from
-    histogram_value =
-        let buckets = own_buckets family (own Histogram) ∙ in_kept Histogram (filter_map bucket_in) in
-        let sum = own_sum family (own Histogram) (λ s m. histogram_sum st family s text (fair s (in_own Histogram s m))) (λ s m. histogram_gsum st family s text (fair s (in_own Histogram s m))) ∙ in_kept Histogram (first_some sum_in) in
-        λ i. Some (values.Buckets (buckets i) (sum i))
+    own_created : is_grouped st.format kind ≡ true → value_with family (codes "_created") (own kind) ≡ (kept kind).created
+    unfolding group_from
+    own_created grouped = own_value family (own kind) created_in (codes "_created") (λ s m. created_is kind st family s grouped (own_fair s m)) ∙ in_kept kind (first_some created_in)
 
-    histogram_reading : (unit : List ℕ) → reading_of st Histogram family unit samples labels ≡ Some (reading_from Histogram family unit (labels, kept Histogram))
-    unfolding reading_of stamp_of exemplars_of
-    histogram_reading unit = rw (histogram_value, no_value family (own Histogram) (codes "_created") (λ s m. histogram_created st family s text (fair s (in_own Histogram s m)))) refl
+  kept_buckets : (kind : Kind) → buckets_of family (own kind) ≡ filter_map bucket_in (parts_in labels (entries st kind family samples))
+  kept_buckets kind = own_buckets family (own kind) ∙ in_kept kind (filter_map bucket_in)
 
-  module _ (fair : (s : Sample) → Member s samples → IsFair st GaugeHistogram family s) where
-    gauge_value : value_of st.format GaugeHistogram family (own GaugeHistogram) ≡ Some (group_value GaugeHistogram (kept GaugeHistogram))
-    unfolding value_of group_from
-    gauge_value =
-        let buckets = own_buckets family (own GaugeHistogram) ∙ in_kept GaugeHistogram (filter_map bucket_in) in
-        let sum = own_gsum family (own GaugeHistogram) (λ s m. gauge_sum st family s text (fair s (in_own GaugeHistogram s m))) (λ s m. gauge_no_sum st family s text (fair s (in_own GaugeHistogram s m))) ∙ in_kept GaugeHistogram (first_some sum_in) in
-        λ i. Some (values.Buckets (buckets i) (sum i))
+  module _ (unit : List ℕ) where
+    counter_reading : (fair : (s : Sample) → Member s samples → IsFair st Counter family s) → is_grouped st.format Counter ≡ true
+        → reading_of st Counter family unit samples labels ≡ reading_from st.format Counter family unit (labels, kept Counter)
+    unfolding reading_of stamp_of exemplars_of value_of group_from
+    counter_reading fair grouped =
+        let total = own_value family (own Counter) total_in (codes "_total") (λ s m. counter_total st family s grouped (own_fair Counter fair s m)) ∙ in_kept Counter (first_some total_in) in
+        rw (total_suffix st.format grouped, total, own_created Counter fair grouped) refl
 
-    gauge_reading : (unit : List ℕ) → reading_of st GaugeHistogram family unit samples labels ≡ Some (reading_from GaugeHistogram family unit (labels, kept GaugeHistogram))
-    unfolding reading_of stamp_of exemplars_of
-    gauge_reading unit = rw (gauge_value, no_value family (own GaugeHistogram) (codes "_created") (λ s m. gauge_created st family s text (fair s (in_own GaugeHistogram s m)))) refl
+    histogram_reading : (fair : (s : Sample) → Member s samples → IsFair st Histogram family s) → reading_of st Histogram family unit samples labels ≡ reading_from st.format Histogram family unit (labels, kept Histogram)
+    unfolding reading_of stamp_of exemplars_of value_of group_from
+    histogram_reading fair =
+        let sum = own_sum family (own Histogram) (λ s m. histogram_sum st family s (own_fair Histogram fair s m)) (λ s m. histogram_gsum st family s (own_fair Histogram fair s m)) in
+        rw (kept_buckets Histogram, sum ∙ in_kept Histogram (first_some sum_in), own_created Histogram fair refl) refl
 
-  module _ (fair : (s : Sample) → Member s samples → IsFair st Summary family s) (some : list_any (is_in_group st Summary family labels) samples ≡ true) where
-    summary_measured : list_any (is_measured family) (own Summary) ≡ true
-    summary_measured = some_passes_in (is_in_group st Summary family labels) (is_measured family) samples some (λ s m. ap not (summary_created st family s text (fair s m)))
+    gauge_reading : (fair : (s : Sample) → Member s samples → IsFair st GaugeHistogram family s) → reading_of st GaugeHistogram family unit samples labels ≡ reading_from st.format GaugeHistogram family unit (labels, kept GaugeHistogram)
+    unfolding reading_of stamp_of exemplars_of value_of group_from
+    gauge_reading fair =
+        let sum = own_gsum family (own GaugeHistogram) (λ s m. gauge_sum st family s (own_fair GaugeHistogram fair s m)) (λ s m. gauge_no_sum st family s (own_fair GaugeHistogram fair s m)) in
+        rw (kept_buckets GaugeHistogram, sum ∙ in_kept GaugeHistogram (first_some sum_in), own_created GaugeHistogram fair refl) refl
 
-    summary_value : value_of st.format Summary family (own Summary) ≡ Some (group_value Summary (kept Summary))
-    unfolding value_of group_from
-    summary_value =
+    summary_reading : (fair : (s : Sample) → Member s samples → IsFair st Summary family s) → reading_of st Summary family unit samples labels ≡ reading_from st.format Summary family unit (labels, kept Summary)
+    unfolding reading_of stamp_of exemplars_of value_of group_from parts_in
+    summary_reading fair =
+        let parts_of : List Part = parts_in labels (entries st Summary family samples) in
         let quantiles = own_quantiles family (own Summary) ∙ in_kept Summary (filter_map quantile_in) in
-        let count = own_count family (own Summary) (λ s m. count_part family s ∙ ap (λ b. when b (Some (count_of s))) (summary_count st family s text (fair s (in_own Summary s m))))
-        (λ s m e. whole_in_summary st family s (fair s (in_own Summary s m)) (summary_count st family s text (fair s (in_own Summary s m)) ∙ e)) ∙ in_kept Summary (first_some count_in) in
-        let sum = own_sum family (own Summary) (λ s m. summary_sum st family s text (fair s (in_own Summary s m))) (λ s m. summary_gsum st family s text (fair s (in_own Summary s m))) ∙ in_kept Summary (first_some sum_in) in
-        rw summary_measured (λ i. Some (values.Quantiles (quantiles i) (count i) (sum i)))
-
-    summary_reading : (unit : List ℕ) → reading_of st Summary family unit samples labels ≡ Some (reading_from Summary family unit (labels, kept Summary))
-    unfolding reading_of stamp_of exemplars_of
-    summary_reading unit = rw (summary_value, no_value family (own Summary) (codes "_created") (λ s m. summary_created st family s text (fair s (in_own Summary s m)))) refl
+        let count = own_count family (own Summary) (λ s m. count_part family s ∙ ap (λ b. when b (Some (count_of s))) (summary_count st family s (own_fair Summary fair s m)))
+        (λ s m e. whole_in_summary st family s (own_fair Summary fair s m) (summary_count st family s (own_fair Summary fair s m) ∙ e)) ∙ in_kept Summary (first_some count_in) in
+        let sum = own_sum family (own Summary) (λ s m. summary_sum st family s (own_fair Summary fair s m)) (λ s m. summary_gsum st family s (own_fair Summary fair s m)) ∙ in_kept Summary (first_some sum_in) in
+        let measured : list_any (is_measured family) (own Summary) ≡ is_measured_group (kept Summary) =
+        sym (measured_group parts_of ∙ sym (in_kept Summary (list_any is_measured_part)) ∙ list_any-map is_measured_part (part_of family) (own Summary)
+        ∙ list_any-agree (λ s. is_measured_part (part_of family s)) (is_measured family) (own Summary) (λ s m. summary_measured st family s (own_fair Summary fair s m))) in
+        rw (quantiles, count, sum, measured, own_created Summary fair refl) refl
 
 -- ---- the readings of a family
 
@@ -150,29 +187,22 @@ module _ (st : Setting) (kind : Kind) (family unit : List ℕ) (samples : List S
   abbrev groups : List LabelSet
   groups = first_of_each label_sets_eq (map (sample_group st kind family) samples)
 
-  each_reading : ((labels : LabelSet) → has_key label_sets_eq label_sets_decide labels (map (sample_group st kind family) samples) ≡ true
-      → reading_of st kind family unit samples labels ≡ Some (reading_from kind family unit (labels, group_at (entries st kind family samples) labels)))
-      → filter_map (reading_of st kind family unit samples) groups ≡ map (reading_from kind family unit) (groups_from (entries st kind family samples))
+  each_reading : ((labels : LabelSet) → reading_of st kind family unit samples labels ≡ reading_from st.format kind family unit (labels, group_at (entries st kind family samples) labels))
+      → filter_map (reading_of st kind family unit samples) groups ≡ filter_map (reading_from st.format kind family unit) (groups_from (entries st kind family samples))
   each_reading each =
-      filter_map-some label_sets_eq label_sets_decide (reading_of st kind family unit samples) (λ labels. reading_from kind family unit (labels, group_at (entries st kind family samples) labels)) groups
-      (λ labels e. each labels (sym (has_key-first label_sets_eq label_sets_decide labels (map (sample_group st kind family) samples)) ∙ e))
-      ∙ ap (λ ls. map (λ labels. reading_from kind family unit (labels, group_at (entries st kind family samples) labels)) (first_of_each label_sets_eq ls)) (sym (labels_of-entries st kind family samples))
-      ∙ sym (map-map (reading_from kind family unit) (λ labels. (labels, group_at (entries st kind family samples) labels)) (first_of_each label_sets_eq (labels_of (entries st kind family samples))))
-      ∙ ap (map (reading_from kind family unit)) (sym (groups_are_keyed (entries st kind family samples)))
+      filter_map-agree (reading_of st kind family unit samples) (λ labels. reading_from st.format kind family unit (labels, group_at (entries st kind family samples) labels)) groups (λ labels _. each labels)
+      ∙ ap (λ ls. filter_map (λ labels. reading_from st.format kind family unit (labels, group_at (entries st kind family samples) labels)) (first_of_each label_sets_eq ls)) (sym (labels_of-entries st kind family samples))
+      ∙ sym (filter_map-map (reading_from st.format kind family unit) (λ labels. (labels, group_at (entries st kind family samples) labels)) (first_of_each label_sets_eq (labels_of (entries st kind family samples))))
+      ∙ ap (filter_map (reading_from st.format kind family unit)) (sym (groups_are_keyed (entries st kind family samples)))
 
 -- the readings looking back are those of the groups as they are kept
-pub readings_made : (st : Setting) (kind : Kind) (family unit : List ℕ) (above : List Sample) → is_grouped kind ≡ true → st.format ≡ Text → AreSound st kind family above
-    → readings_of st kind family unit (reverse above) ≡ map (reading_from kind family unit) (groups_from (map (entry_of st kind family) (reverse above)))
+pub readings_made : (st : Setting) (kind : Kind) (family unit : List ℕ) (above : List Sample) → is_grouped st.format kind ≡ true → AreSound st kind family above
+    → readings_of st kind family unit (reverse above) ≡ filter_map (reading_from st.format kind family unit) (groups_from (map (entry_of st kind family) (reverse above)))
 unfolding readings_of
-readings_made st Histogram family unit above grouped text sound =
-    each_reading st Histogram family unit (reverse above) (λ labels _. histogram_reading st family text (reverse above) labels (λ s m. fair_at above st Histogram family sound s (member-reverse above s m)) unit)
-readings_made st GaugeHistogram family unit above grouped text sound =
-    each_reading st GaugeHistogram family unit (reverse above) (λ labels _. gauge_reading st family text (reverse above) labels (λ s m. fair_at above st GaugeHistogram family sound s (member-reverse above s m)) unit)
-readings_made st Summary family unit above grouped text sound =
-    each_reading st Summary family unit (reverse above) (λ labels e. summary_reading st family text (reverse above) labels (λ s m. fair_at above st Summary family sound s (member-reverse above s m))
-    (sym (list_any-keys (sample_group st Summary family) labels (reverse above)) ∙ e) unit)
-readings_made st Counter family unit above grouped text sound = absurd cc
-readings_made st Gauge family unit above grouped text sound = absurd cc
-readings_made st StateSet family unit above grouped text sound = absurd cc
-readings_made st Info family unit above grouped text sound = absurd cc
-readings_made st Unknown family unit above grouped text sound = absurd cc
+readings_made st kind family unit above grouped sound =
+    of_grouped st.format (λ k. ((s : Sample) → Member s (reverse above) → IsFair st k family s) → readings_of st k family unit (reverse above) ≡ filter_map (reading_from st.format k family unit) (groups_from (entries st k family (reverse above)))) (record {
+      histogram = λ fair. each_reading st Histogram family unit (reverse above) (λ labels. histogram_reading st family (reverse above) labels unit fair);
+      gauge = λ fair. each_reading st GaugeHistogram family unit (reverse above) (λ labels. gauge_reading st family (reverse above) labels unit fair);
+      summary = λ fair. each_reading st Summary family unit (reverse above) (λ labels. summary_reading st family (reverse above) labels unit fair);
+      counter = λ is fair. each_reading st Counter family unit (reverse above) (λ labels. counter_reading st family (reverse above) labels unit fair is);
+    }) kind grouped (λ s m. fair_at above st kind family sound s (member-reverse above s m))

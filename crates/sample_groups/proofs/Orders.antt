@@ -1,17 +1,16 @@
 -- A sample breaks the order of its group just where its part breaks that of the parts that are kept.
-use Rattle.std.proofs.Common.{◌≡◌, ℕ, Bool, true, false, not, ◌&&◌, List, [], ◌∷◌, map, filter, filter_map, find, reverse, Option, Some, None, option_map, nat_lt, nat_le, refl, sym, ap, ◌∙◌, if◌then◌else◌, arith}
+use Rattle.std.proofs.Common.{◌≡◌, ℕ, Bool, true, false, not, ◌&&◌, List, [], ◌∷◌, map, filter, filter_map, find, reverse, codes, Option, Some, None, option_map, nat_lt, nat_le, refl, sym, ap, ◌∙◌, if◌then◌else◌, arith}
 use Rattle.std.proofs.lemmas.Bool.Decides.{nat_tests}
 use Rattle.std.proofs.lemmas.Bool.{and_parts}
 use Rattle.std.specs.List.{list_any, last_or}
 use Rattle.label_sets.specs.declared.kind.Kind.{Kind}
-use Rattle.label_sets.specs.declared.kind.Kind.TheVariants.{Counter, Gauge, Histogram, GaugeHistogram, StateSet, Info, Summary, Unknown}
+use Rattle.label_sets.specs.declared.kind.Kind.TheVariants.{Counter, Histogram, GaugeHistogram, Summary}
 use Rattle.label_sets.specs.declared.label_set.LabelSet.{LabelSet}
 use Rattle.label_sets.specs.Lists.{some_passes}
 use Rattle.exact_decimal.specs.Decimals.{DecimalValue}
 use Rattle.exact_decimal.specs.declared.number.Number.TheVariants.{Finite}
 use Rattle.exact_decimal.specs.Order.{less, same}
 use Rattle.exact_decimal.proofs.Laws.{whole_less}
-use Rattle.page_model.specs.declared.format.Format.TheVariants.{Text}
 use Rattle.page_model.specs.declared.item.Sample.{Sample}
 use Rattle.page_model.specs.declared.page.Bucket.{Bucket}
 use Rattle.page_model.specs.declared.page.Quantile.{Quantile}
@@ -23,19 +22,22 @@ use Rattle.sample_groups.specs.declared.part.Part.TheVariants as parts
 use Rattle.sample_groups.specs.Parts.{is_grouped, quantile_part, part_of, entry_of}
 use Rattle.sample_groups.specs.Groups.{Gathered, bucket_in, quantile_in, group_from, parts_in, groups_from, known_group, or_empty, breaks_last, breaks_order}
 use Rattle.sample_groups.specs.Sound.{AreSound}
+use Rattle.sample_groups.proofs.KindCases.{of_histograms, of_grouped}
 use Rattle.sample_groups.proofs.Members.{when, find-member, first_some-when, last_or-reverse, list_any-reverse, list_any-agree, list_any-filter_map}
 use Rattle.sample_groups.proofs.Steps.{group_at, group_is_kept}
-use Rattle.sample_groups.proofs.Samples.{IsFair, fair_at, count_of, bucket_part, own_part, quantile_part_is, whole_in_histogram, place_of, histogram_own, gauge_own, summary_bucket, is_in_group, entries, values_in-entries}
+use Rattle.sample_groups.proofs.Samples.{IsFair, fair_at, count_of, bucket_part, own_part, quantile_part_is, whole_in_histogram, place_of, histogram_own, gauge_own, summary_bucket, counter_by, is_in_group, entries, values_in-entries}
 
 -- ---- a part that is neither a bucket nor a quantile
 
 other_part : (family : List ℕ) (s : Sample) (g : Gathered) → is_bucket family s ≡ false → has_suffix family [] s ≡ false → breaks_order g (part_of family s) ≡ false
 unfolding part_of
-other_part family s g e f = rw (e, f) (by (is_count family s))
+other_part family s g e f = rw (e, f) (by (is_count family s) (has_suffix family (codes "_total") s) (has_suffix family (codes "_created") s))
   where
-    by : (b : Bool) → breaks_order g (if b then parts.Count (count_of s) else parts.Sum s.value) ≡ false
-    by true = refl
-    by false = refl
+    by : (b t c : Bool) → breaks_order g (if b then parts.Count (count_of s) else if t then parts.Total s.value else if c then parts.Created s.value else parts.Sum s.value) ≡ false
+    by true t c = refl
+    by false true c = refl
+    by false false true = refl
+    by false false false = refl
 
 -- ---- buckets
 
@@ -75,14 +77,8 @@ module _ (st : Setting) (kind : Kind) (family : List ℕ) (above : List Sample) 
 pub order_of : (kind : Kind) (st : Setting) (family : List ℕ) (above : List Sample) (s : Sample) → is_histogram kind ≡ true
     → is_out_of_order st kind family above s ≡ (is_bucket family s && breaks_bucket_order (buckets_of_group st kind family above s) s)
 unfolding is_out_of_order
-order_of Histogram st family above s e = refl
-order_of GaugeHistogram st family above s e = refl
-order_of Counter st family above s e = absurd cc
-order_of Gauge st family above s e = absurd cc
-order_of Summary st family above s e = absurd cc
-order_of StateSet st family above s e = absurd cc
-order_of Info st family above s e = absurd cc
-order_of Unknown st family above s e = absurd cc
+order_of kind st family above s histogram =
+    of_histograms (λ k. is_out_of_order st k family above s ≡ (is_bucket family s && breaks_bucket_order (buckets_of_group st k family above s) s)) refl refl kind histogram
 
 module _ (st : Setting) (kind : Kind) (family : List ℕ) (above : List Sample) (s : Sample) (histogram : is_histogram kind ≡ true)
     (fair : (t : Sample) → Member t above → IsFair st kind family t) (own : IsFair st kind family s) where
@@ -107,7 +103,7 @@ module _ (st : Setting) (kind : Kind) (family : List ℕ) (above : List Sample) 
 
 -- ---- quantiles
 
-module _ (st : Setting) (family : List ℕ) (above : List Sample) (s : Sample) (text : st.format ≡ Text) (fair : (t : Sample) → Member t above → IsFair st Summary family t) (own : IsFair st Summary family s) where
+module _ (st : Setting) (family : List ℕ) (above : List Sample) (s : Sample) (fair : (t : Sample) → Member t above → IsFair st Summary family t) (own : IsFair st Summary family s) where
   -- the sample has the group's labels and the place
   abbrev stands_at : LabelSet → DecimalValue → Sample → Bool
   stands_at labels d t = has_suffix family [] t && is_in_group st Summary family labels t && same (quantile_at t) (Finite d)
@@ -135,7 +131,7 @@ module _ (st : Setting) (family : List ℕ) (above : List Sample) (s : Sample) (
     where
       by : (b : Bool) → has_suffix family [] s ≡ b → (b && list_any (λ t. has_suffix family [] t && in_one_group st Summary family t s && same (quantile_at t) (quantile_at s)) above)
           ≡ breaks_order (group_at (entries st Summary family (reverse above)) (sample_group st Summary family s)) (part_of family s)
-      by false e = sym (other_part family s (group_at (entries st Summary family (reverse above)) (sample_group st Summary family s)) (summary_bucket st family s text own) e)
+      by false e = sym (other_part family s (group_at (entries st Summary family (reverse above)) (sample_group st Summary family s)) (summary_bucket st family s own) e)
       by true e =
           let place = place_of st family s own e in
           let part : part_of family s ≡ parts.Quantile (record { at = place.0; value = s.value }) = own_part family s e ∙ ap (λ v. quantile_part (placed_quantile v s.value) s.value) place.1 in
@@ -143,23 +139,20 @@ module _ (st : Setting) (family : List ℕ) (above : List Sample) (s : Sample) (
 
 -- ---- all kinds
 
+-- a counter's samples have no order
+no_order : (st : Setting) (family : List ℕ) (above : List Sample) (s : Sample) → is_out_of_order st Counter family above s ≡ false
+unfolding is_out_of_order
+no_order st family above s = refl
+
 -- a sample breaks the order looking back just where its part breaks that of what is kept
-pub order_kept : (st : Setting) (kind : Kind) (family : List ℕ) (above : List Sample) (s : Sample) → is_grouped kind ≡ true → st.format ≡ Text → AreSound st kind family above
+pub order_kept : (st : Setting) (kind : Kind) (family : List ℕ) (above : List Sample) (s : Sample) → is_grouped st.format kind ≡ true → AreSound st kind family above
     → has_wrong_suffix st kind family s ≡ false → has_bad_value st.format kind family s ≡ false → has_bad_threshold kind family s ≡ false
     → is_out_of_order st kind family above s ≡ breaks_order (or_empty (known_group (groups_from (map (entry_of st kind family) (reverse above))) (sample_group st kind family s))) (part_of family s)
-order_kept st Histogram family above s grouped text sound named valued placed =
-    let own : IsFair st Histogram family s = record { named = named; valued = valued; placed = placed } in
-    bucket_order st Histogram family above s refl (fair_at above st Histogram family sound) own (histogram_own st family s text own)
-    ∙ ap (λ g. breaks_order g (part_of family s)) (sym (group_is_kept (entries st Histogram family (reverse above)) (sample_group st Histogram family s)))
-order_kept st GaugeHistogram family above s grouped text sound named valued placed =
-    let own : IsFair st GaugeHistogram family s = record { named = named; valued = valued; placed = placed } in
-    bucket_order st GaugeHistogram family above s refl (fair_at above st GaugeHistogram family sound) own (gauge_own st family s text own)
-    ∙ ap (λ g. breaks_order g (part_of family s)) (sym (group_is_kept (entries st GaugeHistogram family (reverse above)) (sample_group st GaugeHistogram family s)))
-order_kept st Summary family above s grouped text sound named valued placed =
-    quantile_order st family above s text (fair_at above st Summary family sound) (record { named = named; valued = valued; placed = placed })
-    ∙ ap (λ g. breaks_order g (part_of family s)) (sym (group_is_kept (entries st Summary family (reverse above)) (sample_group st Summary family s)))
-order_kept st Counter family above s grouped text sound named valued placed = absurd cc
-order_kept st Gauge family above s grouped text sound named valued placed = absurd cc
-order_kept st StateSet family above s grouped text sound named valued placed = absurd cc
-order_kept st Info family above s grouped text sound named valued placed = absurd cc
-order_kept st Unknown family above s grouped text sound named valued placed = absurd cc
+order_kept st kind family above s grouped sound named valued placed =
+    of_grouped st.format (λ k. ((t : Sample) → Member t above → IsFair st k family t) → IsFair st k family s → is_out_of_order st k family above s ≡ breaks_order (group_at (entries st k family (reverse above)) (sample_group st k family s)) (part_of family s)) (record {
+      histogram = λ fair own. bucket_order st Histogram family above s refl fair own (histogram_own st family s own);
+      gauge = λ fair own. bucket_order st GaugeHistogram family above s refl fair own (gauge_own st family s own);
+      summary = λ fair own. quantile_order st family above s fair own;
+      counter = λ is fair own. no_order st family above s ∙ sym (counter_by st family s is own (λ x p. breaks_order (group_at (entries st Counter family (reverse above)) (sample_group st Counter family s)) p ≡ false) refl refl);
+    }) kind grouped (fair_at above st kind family sound) (record { named = named; valued = valued; placed = placed })
+    ∙ ap (λ g. breaks_order g (part_of family s)) (sym (group_is_kept (entries st kind family (reverse above)) (sample_group st kind family s)))

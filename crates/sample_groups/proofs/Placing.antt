@@ -1,17 +1,16 @@
 -- The place of a group among the groups, and the group with one part more.
-use Rattle.std.proofs.Common.{◌≡◌, ℕ, zero, suc, ◌+◌, ◌<◌, Bool, true, false, cond, ◌&&◌, ◌||◌, ◌==◌, List, [], ◌∷◌, ◌++◌, map, length, drop, append_assoc, slice_get, slice_set, get_or, Some, None, refl, sym, ap, subst, ◌∙◌, arith}
-use Rattle.std.specs.List.{list_any, list_all, zip}
+use Rattle.std.proofs.Common.{◌≡◌, ℕ, zero, suc, ◌+◌, ◌<◌, Bool, true, false, cond, not, ◌&&◌, ◌||◌, ◌==◌, List, [], ◌∷◌, ◌++◌, map, filter_map, length, drop, append_assoc, slice_get, slice_set, get_or, Option, Some, None, refl, sym, ap, subst, ◌∙◌, arith}
+use Rattle.std.specs.List.{list_any, list_all, zip, cons_option}
 use Rattle.std.proofs.lemmas.Bool.{eqb-true, eqb-false}
 use Rattle.label_sets.specs.declared.label_set.LabelSet.{LabelSet}
 use Rattle.label_sets.specs.declared.kind.Kind.{Kind}
-use Rattle.label_sets.specs.declared.kind.Kind.TheVariants.{Counter, Gauge, Histogram, GaugeHistogram, StateSet, Info, Summary, Unknown}
 use Rattle.label_sets.proofs.Laws.{sets_decide}
-use Rattle.label_sets.specs.Labels.{label_sets_eq, without_label}
+use Rattle.label_sets.specs.Labels.{label_sets_eq}
 use Rattle.page_model.specs.declared.page.Reading.{Reading}
 use Rattle.sample_groups.specs.declared.part.Part.{Part}
-use Rattle.sample_groups.specs.Groups.{Gathered, empty_group, known_group, or_empty, with_one, put_group, with_part, is_whole_group, reading_from, shared_labels}
-use Rattle.sample_groups.specs.Finding.{place_name}
+use Rattle.sample_groups.specs.Groups.{Gathered, empty_group, known_group, or_empty, with_one, put_group, with_part, breaks_order, shared_labels, AddsPart, is_whole_group, reading_named}
 use Rattle.sample_groups.specs.Beside.{AreBeside}
+use Rattle.packed_keys.specs.Packing.{with_set}
 use Rattle.sample_groups.specs.Placing.{HasPlace, with_group_at}
 use Rattle.sample_groups.proofs.BesideLaws.{taken_off, one_more, zip-snoc, beside_more, found_beside, missing_beside, suc_same, first_apart_from, distinct_rest}
 
@@ -98,7 +97,7 @@ at_end ss gs labels many new =
 -- what the table of labels answers of a set that it is given
 pub record IsEntered (before after : List LabelSet) (labels : LabelSet) (place : ℕ) : Type 0 where
   pub at : slice_get after place ≡ Some labels
-  pub sets : after ≡ cond (list_any (label_sets_eq labels) before) before (before ++ labels ∷ [])
+  pub sets : after ≡ with_set before labels
 
 -- a new set stands last alone
 last_only : (labels : LabelSet) (ss : List LabelSet) (place : ℕ) → list_any (label_sets_eq labels) ss ≡ false → slice_get (ss ++ labels ∷ []) place ≡ Some labels → place ≡ length ss
@@ -177,36 +176,37 @@ known_first labels first g es own = ap (λ b. or_empty (cond b (Some g) (known_g
 known_other : (labels first : LabelSet) (g : Gathered) (es : List (LabelSet × Gathered)) → label_sets_eq labels first ≡ false → known_group es labels ≡ known_group ((first, g) ∷ es) labels
 known_other labels first g es other = ap (λ b. cond b (Some g) (known_group es labels)) (sym other)
 
-pub with_first : (labels first : LabelSet) (g : Gathered) (es : List (LabelSet × Gathered)) (part : Part) → label_sets_eq labels first ≡ true → (first, with_one g part) ∷ es ≡ with_part ((first, g) ∷ es) labels part
+with_first : (labels first : LabelSet) (g : Gathered) (es : List (LabelSet × Gathered)) (part : Part) → label_sets_eq labels first ≡ true → (first, with_one g part) ∷ es ≡ with_part ((first, g) ∷ es) labels part
 unfolding with_part
 with_first labels first g es part own =
     ap (λ h. (first, with_one h part) ∷ es) (known_first labels first g es own)
     ∙ ap (λ b. cond b ((first, with_one (or_empty (known_group ((first, g) ∷ es) labels)) part) ∷ es) ((first, g) ∷ put_group es labels (with_one (or_empty (known_group ((first, g) ∷ es) labels)) part))) (sym own)
 
-pub with_other : (labels first : LabelSet) (g : Gathered) (es : List (LabelSet × Gathered)) (part : Part) → label_sets_eq labels first ≡ false → (first, g) ∷ with_part es labels part ≡ with_part ((first, g) ∷ es) labels part
+with_other : (labels first : LabelSet) (g : Gathered) (es : List (LabelSet × Gathered)) (part : Part) → label_sets_eq labels first ≡ false → (first, g) ∷ with_part es labels part ≡ with_part ((first, g) ∷ es) labels part
 unfolding with_part
 with_other labels first g es part other =
     ap (λ k. (first, g) ∷ put_group es labels (with_one (or_empty k) part)) (known_other labels first g es other)
     ∙ ap (λ b. cond b ((first, with_one (or_empty (known_group ((first, g) ∷ es) labels)) part) ∷ es) ((first, g) ∷ put_group es labels (with_one (or_empty (known_group ((first, g) ∷ es) labels)) part))) (sym other)
 
+-- a part added to the first group, or to one of the others
+module _ (kind : Kind) (labels : LabelSet) (part : Part) (first : LabelSet) (g : Gathered) (es : List (LabelSet × Gathered)) (is_added : Bool) where
+  pub adds_first : (grown : Gathered) → label_sets_eq (shared_labels kind labels) first ≡ true → is_added ≡ not (breaks_order g part) → (is_added ≡ true → grown ≡ with_one g part)
+      → AddsPart kind labels part ((first, g) ∷ es) ((first, grown) ∷ es) is_added
+  adds_first grown own answer added = record {
+    answer = answer ∙ ap (λ h. not (breaks_order h part)) (known_first (shared_labels kind labels) first g es own);
+    added = λ e. ap (λ h. (first, h) ∷ es) (added e) ∙ with_first (shared_labels kind labels) first g es part own;
+  }
+
+  pub adds_other : (new : List (LabelSet × Gathered)) → label_sets_eq (shared_labels kind labels) first ≡ false → AddsPart kind labels part es new is_added → AddsPart kind labels part ((first, g) ∷ es) ((first, g) ∷ new) is_added
+  adds_other new other adds = record {
+    answer = adds.answer ∙ ap (λ k. not (breaks_order (or_empty k) part)) (known_other (shared_labels kind labels) first g es other);
+    added = λ e. ap (λ l. (first, g) ∷ l) (adds.added e) ∙ with_other (shared_labels kind labels) first g es part other;
+  }
+
 -- the first part of a family
 pub with_only : (labels : LabelSet) (part : Part) → with_part ((labels, empty_group) ∷ []) labels part ≡ with_part [] labels part
 unfolding with_part
 with_only labels part = sym (with_first labels labels empty_group [] part ((sets_decide labels labels).1 refl))
-
--- the labels that are shared, by the name of the label that tells buckets or quantiles apart
-shared_is : (kind : Kind) (labels : LabelSet) → without_label (place_name kind) labels ≡ shared_labels kind labels
-shared_is Counter labels = refl
-shared_is Gauge labels = refl
-shared_is Histogram labels = refl
-shared_is GaugeHistogram labels = refl
-shared_is StateSet labels = refl
-shared_is Info labels = refl
-shared_is Summary labels = refl
-shared_is Unknown labels = refl
-
-pub shared_by : (kind : Kind) (labels : LabelSet) (name : List ℕ) → name ≡ place_name kind → without_label name labels ≡ shared_labels kind labels
-shared_by kind labels name is = ap (λ n. without_label n labels) is ∙ shared_is kind labels
 
 -- ---- whole groups
 
@@ -218,14 +218,19 @@ whole_beside (s ∷ ss) (g ∷ gs) e = ap (λ b. is_whole_group g && b) (whole_b
 
 -- ---- readings
 
--- one reading more
-pub one_reading : (kind : Kind) (family unit : List ℕ) (sets : List LabelSet) (place : ℕ) (labels : LabelSet) (group : Gathered) (one : Reading) (left next : List Gathered) (old new whole : List Reading)
-    → slice_get sets place ≡ Some labels → left ≡ group ∷ next → one ≡ reading_from kind family unit (labels, group) → new ≡ old ++ one ∷ []
-    → old ++ map (reading_from kind family unit) (zip (drop place sets) left) ≡ whole → new ++ map (reading_from kind family unit) (zip (drop (place + 1) sets) next) ≡ whole
-one_reading kind family unit sets place labels group one left next old new whole at first is more so_far =
-    ap (λ l. l ++ map (reading_from kind family unit) (zip (drop (place + 1) sets) next)) (more ∙ ap (λ r. old ++ r ∷ []) is)
-    ∙ append_assoc old (reading_from kind family unit (labels, group) ∷ []) (map (reading_from kind family unit) (zip (drop (place + 1) sets) next))
-    ∙ sym (λ i. old ++ map (reading_from kind family unit) (zip (taken_off sets place labels at i) (first i))) ∙ so_far
+-- the reading of one group more, where it has one
+pub one_reading : (kind : Kind) (name unit : List ℕ) (sets : List LabelSet) (place : ℕ) (labels : LabelSet) (group : Gathered) (left next : List Gathered) (old new whole : List Reading)
+    → slice_get sets place ≡ Some labels → left ≡ group ∷ next → new ≡ old ++ cons_option (reading_named kind name unit (labels, group)) []
+    → old ++ filter_map (reading_named kind name unit) (zip (drop place sets) left) ≡ whole → new ++ filter_map (reading_named kind name unit) (zip (drop (place + 1) sets) next) ≡ whole
+one_reading kind name unit sets place labels group left next old new whole at first more so_far =
+    ap (λ l. l ++ filter_map (reading_named kind name unit) (zip (drop (place + 1) sets) next)) more
+    ∙ append_assoc old (cons_option (reading_named kind name unit (labels, group)) []) (filter_map (reading_named kind name unit) (zip (drop (place + 1) sets) next))
+    ∙ ap (λ l. old ++ l) (in_front (reading_named kind name unit (labels, group)) (filter_map (reading_named kind name unit) (zip (drop (place + 1) sets) next)))
+    ∙ sym (λ i. old ++ filter_map (reading_named kind name unit) (zip (taken_off sets place labels at i) (first i))) ∙ so_far
+  where
+    in_front : (o : Option Reading) (rs : List Reading) → cons_option o [] ++ rs ≡ cons_option o rs
+    in_front None rs = refl
+    in_front (Some r) rs = refl
 
 -- ---- a group at its place
 

@@ -1,13 +1,13 @@
 -- What one sample is to its group: the suffix of its name, and the part that it is.
 use Rattle.std.proofs.Common.{◌≡◌, ℕ, Bool, true, false, not, ◌&&◌, ◌||◌, List, [], ◌∷◌, ◌++◌, map, filter, filter_map, reverse, codes, length, drop, Option, Some, None, unwrap_or, is_some, refl, sym, ap, subst, ◌∙◌, inl, inr, ◌⊎◌, if◌then◌else◌}
 use Rattle.std.specs.Prelude.{⊤}
-use Rattle.std.proofs.lemmas.Bool.{not-false, or_cases, or_parts}
+use Rattle.std.proofs.lemmas.Bool.{and_parts, not-false, or_cases, or_parts}
 use Rattle.std.proofs.lemmas.List.{drop_at, map-append}
 use Rattle.std.specs.List.{list_any}
 use Rattle.std.specs.Str.{bytes_eq}
 use Rattle.std.specs.Cmp.Lexicographic.{bytes_decides}
 use Rattle.label_sets.specs.declared.kind.Kind.{Kind}
-use Rattle.label_sets.specs.declared.kind.Kind.TheVariants.{Counter, Gauge, Histogram, GaugeHistogram, StateSet, Info, Summary, Unknown}
+use Rattle.label_sets.specs.declared.kind.Kind.TheVariants.{Counter, Histogram, GaugeHistogram, Summary}
 use Rattle.label_sets.specs.declared.label_set.LabelSet.{LabelSet}
 use Rattle.label_sets.specs.Labels.{label_sets_eq}
 use Rattle.exact_decimal.specs.Decimals.{DecimalValue}
@@ -15,19 +15,20 @@ use Rattle.exact_decimal.specs.declared.number.Number.{Number}
 use Rattle.exact_decimal.specs.declared.number.Number.TheVariants.{Finite, Up, Down, NotANumber}
 use Rattle.exact_decimal.specs.Order.{whole, is_finite}
 use Rattle.page_model.specs.declared.format.Format.{Format}
-use Rattle.page_model.specs.declared.format.Format.TheVariants.{Text}
+use Rattle.page_model.specs.declared.format.Format.TheVariants.{Text, OpenMetrics}
 use Rattle.page_model.specs.declared.item.Sample.{Sample}
 use Rattle.page_model.specs.declared.page.Quantile.{Quantile}
 use Rattle.page_model.specs.Written.{Setting}
 use Rattle.page_model.specs.Suffixes.{suffixes, is_sample_name, suffix_of}
-use Rattle.page_model.specs.Rules.{is_histogram, has_suffix, is_bucket, is_count, sample_group, quantile_at, is_whole, has_wrong_suffix, has_forbidden_value, has_bad_value, has_bad_threshold}
-use Rattle.page_model.specs.Readings.{bucket_of, placed_quantile, quantile_of}
+use Rattle.page_model.specs.Rules.{is_open_metrics, is_histogram, has_suffix, is_bucket, is_count, sample_group, quantile_at, is_whole, has_wrong_suffix, has_forbidden_value, has_bad_value, has_bad_threshold}
+use Rattle.page_model.specs.Readings.{bucket_of, placed_quantile, quantile_of, is_measured}
 use Rattle.page_model.proofs.Laws.{Member}
 use Rattle.sample_groups.specs.declared.part.Part.{Part}
 use Rattle.sample_groups.specs.declared.part.Part.TheVariants as parts
-use Rattle.sample_groups.specs.Parts.{quantile_part, part_of, entry_of}
-use Rattle.sample_groups.specs.Groups.{bucket_in, quantile_in, sum_in, count_in, parts_in, groups_from, with_part}
+use Rattle.sample_groups.specs.Parts.{is_grouped, quantile_part, part_of, entry_of}
+use Rattle.sample_groups.specs.Groups.{bucket_in, quantile_in, sum_in, count_in, total_in, created_in, parts_in, groups_from, with_part}
 use Rattle.sample_groups.specs.Sound.{AreSound}
+use Rattle.sample_groups.proofs.KindCases.{of_histograms, of_grouped}
 use Rattle.sample_groups.proofs.Members.{when, reverse-cons, map-map, filter-map, filter_map-map, filter_map-filter}
 use Rattle.sample_groups.proofs.Steps.{labels_of, one_part_more}
 
@@ -47,29 +48,66 @@ fair_at (t ∷ above) st kind family sound s (inr m) = fair_at above st kind fam
 
 -- ---- the suffix of its name
 
-named_suffix : (xs : List (List ℕ)) (family name : List ℕ) → list_any (λ x. bytes_eq name (family ++ x)) xs ≡ true → Member (suffix_of family name) xs
-named_suffix [] family name h = absurd cc
-named_suffix (x ∷ xs) family name h = by (or_cases (bytes_eq name (family ++ x)) (list_any (λ y. bytes_eq name (family ++ y)) xs) h) (named_suffix xs family name)
-  where
-    by : (bytes_eq name (family ++ x) ≡ true) ⊎ (list_any (λ y. bytes_eq name (family ++ y)) xs ≡ true) → (list_any (λ y. bytes_eq name (family ++ y)) xs ≡ true → Member (suffix_of family name) xs) → Member (suffix_of family name) (x ∷ xs)
-    by (inl e) more = inl (ap (drop (length family)) ((bytes_decides name (family ++ x)).0 e) ∙ drop_at family x (length family) refl)
-    by (inr e) more = inr (more e)
+-- a created time stands in OpenMetrics alone
+abbrev pub may_have : Format → List ℕ → Bool
+may_have f suffix = is_open_metrics f || not (bytes_eq suffix (codes "_created"))
 
--- in the text format it is one of those of its kind
-text_suffix : (st : Setting) (kind : Kind) (family : List ℕ) (s : Sample) → st.format ≡ Text → IsFair st kind family s → Member (suffix_of family s.name) (suffixes Text kind)
-unfolding has_wrong_suffix
-text_suffix st kind family s text fair =
-    named_suffix (suffixes Text kind) family s.name (subst (λ (f : Format). is_sample_name f kind family s.name ≡ true) text (not-false (is_sample_name st.format kind family s.name) fair.named))
+-- one of three is among these four, in their order there
+among_four : (a b c d : Bool) → (a || (b || (c || false))) ≡ true → (a || (c || (b || (d || false)))) ≡ true
+among_four true b c d h = refl
+among_four false true true d h = refl
+among_four false true false d h = refl
+among_four false false true d h = refl
+among_four false false false d h = absurd (let no : false ≡ true = h in cc)
+
+-- a suffix that a grouped kind has in a format is one that it has in OpenMetrics, and a created time only there
+in_open_metrics : (f : Format) (kind : Kind) (p : List ℕ → Bool) → is_grouped f kind ≡ true → list_any p (suffixes f kind) ≡ true → list_any (λ x. may_have f x && p x) (suffixes OpenMetrics kind) ≡ true
+in_open_metrics OpenMetrics kind p grouped h = h
+in_open_metrics Text kind p grouped h = of_grouped Text (λ k. list_any p (suffixes Text k) ≡ true → list_any (λ x. may_have Text x && p x) (suffixes OpenMetrics k) ≡ true) (record {
+  histogram = among_four (p (codes "_bucket")) (p (codes "_sum")) (p (codes "_count")) false;
+  gauge = λ e. e;
+  summary = among_four (p []) (p (codes "_sum")) (p (codes "_count")) false;
+  counter = λ is. absurd (let no : false ≡ true = is in cc);
+}) kind grouped h
 
 -- what is so for each of some suffixes
-abbrev Each : (List ℕ → Type 0) → List (List ℕ) → Type 0
+abbrev pub Each : (List ℕ → Type 0) → List (List ℕ) → Type 0
 Each P [] = ⊤
 Each P (x ∷ xs) = P x × Each P xs
 
-each_at : (xs : List (List ℕ)) (P : List ℕ → Type 0) (x : List ℕ) → Each P xs → Member x xs → P x
-each_at [] P x each m = absurd m
-each_at (y ∷ ys) P x each (inl e) = subst P (sym e) each.0
-each_at (y ∷ ys) P x each (inr m) = each_at ys P x each.1 m
+-- the name has this suffix behind the family's
+pub record HasSuffix (f : Format) (family name suffix : List ℕ) : Type 0 where
+  pub behind : suffix_of family name ≡ suffix
+  pub name_is : name ≡ family ++ suffix
+  pub may : may_have f suffix ≡ true
+
+-- what each of the suffixes gives, where the name has it, is so
+one_of : (f : Format) (family name : List ℕ) (G : Type 0) (xs : List (List ℕ)) → list_any (λ x. may_have f x && bytes_eq name (family ++ x)) xs ≡ true → Each (λ x. HasSuffix f family name x → G) xs → G
+one_of f family name G [] h each = absurd (let no : false ≡ true = h in cc)
+one_of f family name G (x ∷ xs) h each =
+    by (or_cases (may_have f x && bytes_eq name (family ++ x)) (list_any (λ y. may_have f y && bytes_eq name (family ++ y)) xs) h) (λ e. one_of f family name G xs e each.1)
+  where
+    by : ((may_have f x && bytes_eq name (family ++ x)) ≡ true) ⊎ (list_any (λ y. may_have f y && bytes_eq name (family ++ y)) xs ≡ true) → (list_any (λ y. may_have f y && bytes_eq name (family ++ y)) xs ≡ true → G) → G
+    by (inl e) more =
+        let both = and_parts (may_have f x) (bytes_eq name (family ++ x)) e in
+        let is : name ≡ family ++ x = (bytes_decides name (family ++ x)).0 both.1 in
+        each.0 (record { behind = ap (drop (length family)) is ∙ drop_at family x (length family) refl; name_is = is; may = both.0 })
+    by (inr e) more = more e
+
+module _ (st : Setting) (kind : Kind) (family : List ℕ) (s : Sample) (grouped : is_grouped st.format kind ≡ true) (named : has_wrong_suffix st kind family s ≡ false) where
+  -- what each suffix of the kind gives, where the sample's name has it, is so
+  pub by_name : (G : Type 0) → Each (λ x. HasSuffix st.format family s.name x → G) (suffixes OpenMetrics kind) → G
+  unfolding has_wrong_suffix
+  by_name G each = one_of st.format family s.name G (suffixes OpenMetrics kind)
+      (in_open_metrics st.format kind (λ x. bytes_eq s.name (family ++ x)) grouped (not-false (is_sample_name st.format kind family s.name) named)) each
+
+  -- what is so for each suffix of the kind is so for the sample's
+  pub by_suffix : (P : List ℕ → Type 0) → Each P (suffixes OpenMetrics kind) → P (suffix_of family s.name)
+  by_suffix P each = by_name (P (suffix_of family s.name)) (had (suffixes OpenMetrics kind) each)
+    where
+      had : (xs : List (List ℕ)) → Each P xs → Each (λ x. HasSuffix st.format family s.name x → P (suffix_of family s.name)) xs
+      had [] each = tt
+      had (x ∷ xs) each = (λ h. subst P (sym h.behind) each.0, had xs each.1)
 
 -- a name has one suffix
 apart : (x a b : List ℕ) → bytes_eq a b ≡ false → bytes_eq x a ≡ true → bytes_eq x b ≡ false
@@ -77,67 +115,91 @@ apart x a b f e = ap (λ y. bytes_eq y b) ((bytes_decides x a).0 e) ∙ f
 
 -- ---- the part that it is
 
+-- a quantile, a count or a sum
+abbrev pub is_measured_part : Part → Bool
+is_measured_part p = is_some (quantile_in p) || is_some (count_in p) || is_some (sum_in p)
+
 -- the count of a bucket or a count
 abbrev pub count_of : Sample → ℕ
 count_of s = unwrap_or (whole s.value) 0
 
+-- the part by the suffix, where it is none of buckets, counts and quantiles
+abbrev rest_by : List ℕ → Sample → Part
+rest_by x s =
+    if bytes_eq x (codes "_total") then parts.Total s.value
+    else if bytes_eq x (codes "_created") then parts.Created s.value
+    else parts.Sum s.value
+
 -- the part by the suffix
-abbrev part_by : List ℕ → Sample → Part
+abbrev pub part_by : List ℕ → Sample → Part
 part_by x s =
     if bytes_eq x (codes "_bucket") then parts.Bucket (bucket_of s)
     else if bytes_eq x (codes "_count") || bytes_eq x (codes "_gcount") then parts.Count (count_of s)
     else if bytes_eq x [] then quantile_part (quantile_of s) s.value
-    else parts.Sum s.value
+    else rest_by x s
 
-part_is : (family : List ℕ) (s : Sample) → part_of family s ≡ part_by (suffix_of family s.name) s
+pub part_is : (family : List ℕ) (s : Sample) → part_of family s ≡ part_by (suffix_of family s.name) s
 unfolding part_of
 part_is family s = refl
 
 module _ (family : List ℕ) (s : Sample) where
+  -- such a part has none of what the others have
+  rest_none : {B : Type 0} (f : Part → Option B) (t c : Bool) → f (parts.Total s.value) ≡ None → f (parts.Created s.value) ≡ None → f (parts.Sum s.value) ≡ None
+      → f (if t then parts.Total s.value else if c then parts.Created s.value else parts.Sum s.value) ≡ None
+  rest_none f true c total created sum = total
+  rest_none f false true total created sum = created
+  rest_none f false false total created sum = sum
+
   -- it is a bucket where its suffix is that of buckets
   pub bucket_part : bucket_in (part_of family s) ≡ when (is_bucket family s) (Some (bucket_of s))
   unfolding part_of
-  bucket_part = by (is_bucket family s) (is_count family s) (has_suffix family [] s) (quantile_of s)
+  bucket_part = by (is_bucket family s) (is_count family s) (has_suffix family [] s) (quantile_of s) (rest_by (suffix_of family s.name) s)
+      (rest_none bucket_in (has_suffix family (codes "_total") s) (has_suffix family (codes "_created") s) refl refl refl)
     where
-      by : (b c d : Bool) (o : Option Quantile) → bucket_in (if b then parts.Bucket (bucket_of s) else if c then parts.Count (count_of s) else if d then quantile_part o s.value else parts.Sum s.value) ≡ when b (Some (bucket_of s))
-      by true c d o = refl
-      by false true d o = refl
-      by false false true None = refl
-      by false false true (Some q) = refl
-      by false false false o = refl
+      by : (b c d : Bool) (o : Option Quantile) (rest : Part) → bucket_in rest ≡ None → bucket_in (if b then parts.Bucket (bucket_of s) else if c then parts.Count (count_of s) else if d then quantile_part o s.value else rest) ≡ when b (Some (bucket_of s))
+      by true c d o rest none = refl
+      by false true d o rest none = refl
+      by false false true None rest none = refl
+      by false false true (Some q) rest none = refl
+      by false false false o rest none = none
 
   -- it is a count where its suffix is one of counts
   pub count_part : count_in (part_of family s) ≡ when (is_count family s) (Some (count_of s))
   unfolding part_of
-  count_part = by (is_bucket family s) (is_count family s) (has_suffix family [] s) (quantile_of s) (λ e. bucket_no_count (suffix_of family s.name) e)
+  count_part = by (is_bucket family s) (is_count family s) (has_suffix family [] s) (quantile_of s) (rest_by (suffix_of family s.name) s) (λ e. bucket_no_count (suffix_of family s.name) e)
+      (rest_none count_in (has_suffix family (codes "_total") s) (has_suffix family (codes "_created") s) refl refl refl)
     where
       bucket_no_count : (x : List ℕ) → bytes_eq x (codes "_bucket") ≡ true → (bytes_eq x (codes "_count") || bytes_eq x (codes "_gcount")) ≡ false
       bucket_no_count x e = rw (apart x (codes "_bucket") (codes "_count") refl e) (apart x (codes "_bucket") (codes "_gcount") refl e)
 
-      by : (b c d : Bool) (o : Option Quantile) → (b ≡ true → c ≡ false) → count_in (if b then parts.Bucket (bucket_of s) else if c then parts.Count (count_of s) else if d then quantile_part o s.value else parts.Sum s.value) ≡ when c (Some (count_of s))
-      by true true d o f = absurd (let g = f refl in cc)
-      by true false d o f = refl
-      by false true d o f = refl
-      by false false true None f = refl
-      by false false true (Some q) f = refl
-      by false false false o f = refl
+      by : (b c d : Bool) (o : Option Quantile) (rest : Part) → (b ≡ true → c ≡ false) → count_in rest ≡ None
+          → count_in (if b then parts.Bucket (bucket_of s) else if c then parts.Count (count_of s) else if d then quantile_part o s.value else rest) ≡ when c (Some (count_of s))
+      by true true d o rest f none = absurd (let g = f refl in cc)
+      by true false d o rest f none = refl
+      by false true d o rest f none = refl
+      by false false true None rest f none = refl
+      by false false true (Some q) rest f none = refl
+      by false false false o rest f none = none
 
   -- it is a quantile where its name is the family's own
   pub quantile_part_is : quantile_in (part_of family s) ≡ when (has_suffix family [] s) (quantile_of s)
   unfolding part_of
-  quantile_part_is = by (is_bucket family s) (is_count family s) (has_suffix family [] s) (quantile_of s) (λ e. apart (suffix_of family s.name) [] (codes "_bucket") refl e) (λ e. own_no_count (suffix_of family s.name) e)
+  quantile_part_is = by (is_bucket family s) (is_count family s) (has_suffix family [] s) (quantile_of s) (rest_by (suffix_of family s.name) s)
+      (λ e. apart (suffix_of family s.name) [] (codes "_bucket") refl e) (λ e. own_no_count (suffix_of family s.name) e)
+      (rest_none quantile_in (has_suffix family (codes "_total") s) (has_suffix family (codes "_created") s) refl refl refl)
     where
       own_no_count : (x : List ℕ) → bytes_eq x [] ≡ true → (bytes_eq x (codes "_count") || bytes_eq x (codes "_gcount")) ≡ false
       own_no_count x e = rw (apart x [] (codes "_count") refl e) (apart x [] (codes "_gcount") refl e)
 
-      by : (b c d : Bool) (o : Option Quantile) → (d ≡ true → b ≡ false) → (d ≡ true → c ≡ false) → quantile_in (if b then parts.Bucket (bucket_of s) else if c then parts.Count (count_of s) else if d then quantile_part o s.value else parts.Sum s.value) ≡ when d o
-      by true c true o f g = absurd (let h = f refl in cc)
-      by true c false o f g = refl
-      by false true true o f g = absurd (let h = g refl in cc)
-      by false true false o f g = refl
-      by false false true None f g = refl
-      by false false true (Some q) f g = refl
-      by false false false o f g = refl
+      by : (b c d : Bool) (o : Option Quantile) (rest : Part) → (d ≡ true → b ≡ false) → (d ≡ true → c ≡ false) → quantile_in rest ≡ None
+          → quantile_in (if b then parts.Bucket (bucket_of s) else if c then parts.Count (count_of s) else if d then quantile_part o s.value else rest) ≡ when d o
+      by true c true o rest f g none = absurd (let h = f refl in cc)
+      by true c false o rest f g none = refl
+      by false true true o rest f g none = absurd (let h = g refl in cc)
+      by false true false o rest f g none = refl
+      by false false true None rest f g none = refl
+      by false false true (Some q) rest f g none = refl
+      by false false false o rest f g none = none
 
   -- with the family's own name it is a quantile, or a sum where it has no place
   pub own_part : has_suffix family [] s ≡ true → part_of family s ≡ quantile_part (quantile_of s) s.value
@@ -160,14 +222,9 @@ forbids_none false c h e = absurd cc
 -- a bucket and a count of a histogram have whole numbers
 pub whole_in_histogram : (kind : Kind) (st : Setting) (family : List ℕ) (s : Sample) → is_histogram kind ≡ true → IsFair st kind family s → (is_bucket family s || is_count family s) ≡ true → whole s.value ≡ Some (count_of s)
 unfolding has_bad_value has_forbidden_value
-whole_in_histogram Histogram st family s grouped fair e = has_whole s.value (forbids_none (is_bucket family s || is_count family s) (is_whole s.value) (or_parts (has_forbidden_value Histogram family s) _ fair.valued).0 e)
-whole_in_histogram GaugeHistogram st family s grouped fair e = has_whole s.value (forbids_none (is_bucket family s || is_count family s) (is_whole s.value) (or_parts (has_forbidden_value GaugeHistogram family s) _ fair.valued).0 e)
-whole_in_histogram Counter st family s grouped fair e = absurd cc
-whole_in_histogram Gauge st family s grouped fair e = absurd cc
-whole_in_histogram Summary st family s grouped fair e = absurd cc
-whole_in_histogram StateSet st family s grouped fair e = absurd cc
-whole_in_histogram Info st family s grouped fair e = absurd cc
-whole_in_histogram Unknown st family s grouped fair e = absurd cc
+whole_in_histogram kind st family s histogram fair e =
+    has_whole s.value (forbids_none (is_bucket family s || is_count family s) (is_whole s.value) (of_histograms (λ k. has_bad_value st.format k family s ≡ false → ((is_bucket family s || is_count family s) && not (is_whole s.value)) ≡ false)
+    (λ valued. (or_parts (has_forbidden_value Histogram family s) _ valued).0) (λ valued. (or_parts (has_forbidden_value GaugeHistogram family s) _ valued).0) kind histogram fair.valued) e)
 
 -- a count of a summary has one
 pub whole_in_summary : (st : Setting) (family : List ℕ) (s : Sample) → IsFair st Summary family s → is_count family s ≡ true → whole s.value ≡ Some (count_of s)
@@ -187,57 +244,78 @@ pub place_of : (st : Setting) (family : List ℕ) (s : Sample) → IsFair st Sum
 unfolding has_bad_threshold
 place_of st family s fair e = finite_number (quantile_at s) (rw e at fair.placed)
 
--- ---- the names of each kind in the text format
+-- ---- the names of each kind
 
-module _ (st : Setting) (family : List ℕ) (s : Sample) (text : st.format ≡ Text) where
-  -- what is so for each suffix of the kind is so for the sample's
-  by_suffix : (kind : Kind) (P : List ℕ → Type 0) → Each P (suffixes Text kind) → IsFair st kind family s → P (suffix_of family s.name)
-  by_suffix kind P each fair = each_at (suffixes Text kind) P (suffix_of family s.name) each (text_suffix st kind family s text fair)
+-- a quantile or a sum is no created time
+own_created : (o : Option Quantile) (v : Number) → created_in (quantile_part o v) ≡ None
+own_created None v = refl
+own_created (Some q) v = refl
 
-  -- a histogram's sample is no quantile and no created time, and its sum has this suffix
+module _ (st : Setting) (family : List ℕ) (s : Sample) where
+  -- a histogram's sample is no quantile, and its sum has this suffix
   pub histogram_own : IsFair st Histogram family s → has_suffix family [] s ≡ false
-  histogram_own fair = by_suffix Histogram (λ x. bytes_eq x [] ≡ false) (refl, (refl, (refl, tt))) fair
-
-  pub histogram_created : IsFair st Histogram family s → has_suffix family (codes "_created") s ≡ false
-  histogram_created fair = by_suffix Histogram (λ x. bytes_eq x (codes "_created") ≡ false) (refl, (refl, (refl, tt))) fair
+  histogram_own fair = by_suffix st Histogram family s refl fair.named (λ x. bytes_eq x [] ≡ false) (refl, (refl, (refl, (refl, tt))))
 
   pub histogram_gsum : IsFair st Histogram family s → has_suffix family (codes "_gsum") s ≡ false
-  histogram_gsum fair = by_suffix Histogram (λ x. bytes_eq x (codes "_gsum") ≡ false) (refl, (refl, (refl, tt))) fair
+  histogram_gsum fair = by_suffix st Histogram family s refl fair.named (λ x. bytes_eq x (codes "_gsum") ≡ false) (refl, (refl, (refl, (refl, tt))))
 
   pub histogram_sum : IsFair st Histogram family s → sum_in (part_of family s) ≡ when (has_suffix family (codes "_sum") s) (Some s.value)
-  histogram_sum fair = ap sum_in (part_is family s) ∙ by_suffix Histogram (λ x. sum_in (part_by x s) ≡ when (bytes_eq x (codes "_sum")) (Some s.value)) (refl, (refl, (refl, tt))) fair
+  histogram_sum fair = ap sum_in (part_is family s) ∙ by_suffix st Histogram family s refl fair.named (λ x. sum_in (part_by x s) ≡ when (bytes_eq x (codes "_sum")) (Some s.value)) (refl, (refl, (refl, (refl, tt))))
 
   -- the same of a gauge histogram's
   pub gauge_own : IsFair st GaugeHistogram family s → has_suffix family [] s ≡ false
-  gauge_own fair = by_suffix GaugeHistogram (λ x. bytes_eq x [] ≡ false) (refl, (refl, (refl, tt))) fair
-
-  pub gauge_created : IsFair st GaugeHistogram family s → has_suffix family (codes "_created") s ≡ false
-  gauge_created fair = by_suffix GaugeHistogram (λ x. bytes_eq x (codes "_created") ≡ false) (refl, (refl, (refl, tt))) fair
+  gauge_own fair = by_suffix st GaugeHistogram family s refl fair.named (λ x. bytes_eq x [] ≡ false) (refl, (refl, (refl, tt)))
 
   pub gauge_no_sum : IsFair st GaugeHistogram family s → has_suffix family (codes "_sum") s ≡ false
-  gauge_no_sum fair = by_suffix GaugeHistogram (λ x. bytes_eq x (codes "_sum") ≡ false) (refl, (refl, (refl, tt))) fair
+  gauge_no_sum fair = by_suffix st GaugeHistogram family s refl fair.named (λ x. bytes_eq x (codes "_sum") ≡ false) (refl, (refl, (refl, tt)))
 
   pub gauge_sum : IsFair st GaugeHistogram family s → sum_in (part_of family s) ≡ when (has_suffix family (codes "_gsum") s) (Some s.value)
-  gauge_sum fair = ap sum_in (part_is family s) ∙ by_suffix GaugeHistogram (λ x. sum_in (part_by x s) ≡ when (bytes_eq x (codes "_gsum")) (Some s.value)) (refl, (refl, (refl, tt))) fair
+  gauge_sum fair = ap sum_in (part_is family s) ∙ by_suffix st GaugeHistogram family s refl fair.named (λ x. sum_in (part_by x s) ≡ when (bytes_eq x (codes "_gsum")) (Some s.value)) (refl, (refl, (refl, tt)))
 
-  -- a summary's sample is no bucket and no created time, and its count and its sum have these suffixes
+  -- a summary's sample is no bucket, and its count and its sum have these suffixes
   pub summary_bucket : IsFair st Summary family s → is_bucket family s ≡ false
-  summary_bucket fair = by_suffix Summary (λ x. bytes_eq x (codes "_bucket") ≡ false) (refl, (refl, (refl, tt))) fair
-
-  pub summary_created : IsFair st Summary family s → has_suffix family (codes "_created") s ≡ false
-  summary_created fair = by_suffix Summary (λ x. bytes_eq x (codes "_created") ≡ false) (refl, (refl, (refl, tt))) fair
+  summary_bucket fair = by_suffix st Summary family s refl fair.named (λ x. bytes_eq x (codes "_bucket") ≡ false) (refl, (refl, (refl, (refl, tt))))
 
   pub summary_gsum : IsFair st Summary family s → has_suffix family (codes "_gsum") s ≡ false
-  summary_gsum fair = by_suffix Summary (λ x. bytes_eq x (codes "_gsum") ≡ false) (refl, (refl, (refl, tt))) fair
+  summary_gsum fair = by_suffix st Summary family s refl fair.named (λ x. bytes_eq x (codes "_gsum") ≡ false) (refl, (refl, (refl, (refl, tt))))
 
   pub summary_count : IsFair st Summary family s → is_count family s ≡ has_suffix family (codes "_count") s
-  summary_count fair = by_suffix Summary (λ x. (bytes_eq x (codes "_count") || bytes_eq x (codes "_gcount")) ≡ bytes_eq x (codes "_count")) (refl, (refl, (refl, tt))) fair
+  summary_count fair = by_suffix st Summary family s refl fair.named (λ x. (bytes_eq x (codes "_count") || bytes_eq x (codes "_gcount")) ≡ bytes_eq x (codes "_count")) (refl, (refl, (refl, (refl, tt))))
+
+  -- what is so of each part that a summary's sample may be, by its suffix
+  summary_by : (P : List ℕ → Part → Type 0) → IsFair st Summary family s → ((q : Quantile) → P [] (parts.Quantile q)) → P (codes "_count") (parts.Count (count_of s)) → P (codes "_sum") (parts.Sum s.value) → P (codes "_created") (parts.Created s.value)
+      → P (suffix_of family s.name) (part_of family s)
+  summary_by P fair own count sum created = subst (P (suffix_of family s.name)) (sym (part_is family s)) (by_suffix st Summary family s refl fair.named
+      (λ x. (bytes_eq x [] ≡ true → (d : DecimalValue) × (quantile_at s ≡ Finite d)) → P x (part_by x s))
+      (λ f. (let place = f refl in subst (λ (v : Number). P [] (quantile_part (placed_quantile v s.value) s.value)) (sym place.1) (own (record { at = place.0; value = s.value }))), (λ f. count, (λ f. sum, (λ f. created, tt))))
+      (place_of st family s fair))
 
   pub summary_sum : IsFair st Summary family s → sum_in (part_of family s) ≡ when (has_suffix family (codes "_sum") s) (Some s.value)
-  summary_sum fair = ap sum_in (part_is family s) ∙ by_suffix Summary
-      (λ x. (bytes_eq x [] ≡ true → (d : DecimalValue) × (quantile_at s ≡ Finite d)) → sum_in (part_by x s) ≡ when (bytes_eq x (codes "_sum")) (Some s.value))
-      (λ f. (let place = f refl in ap (λ (v : Number). sum_in (quantile_part (placed_quantile v s.value) s.value)) place.1), (λ f. refl, (λ f. refl, tt))) fair
-      (place_of st family s fair)
+  summary_sum fair = summary_by (λ x p. sum_in p ≡ when (bytes_eq x (codes "_sum")) (Some s.value)) fair (λ q. refl) refl refl refl
+
+  -- all but a created time are a quantile, a count or a sum
+  pub summary_measured : IsFair st Summary family s → is_measured_part (part_of family s) ≡ is_measured family s
+  summary_measured fair = summary_by (λ x p. is_measured_part p ≡ not (bytes_eq x (codes "_created"))) fair (λ q. refl) refl refl refl
+
+  -- a counter's sample is its total or its created time
+  pub counter_by : is_grouped st.format Counter ≡ true → IsFair st Counter family s → (P : List ℕ → Part → Type 0) → P (codes "_total") (parts.Total s.value) → P (codes "_created") (parts.Created s.value) → P (suffix_of family s.name) (part_of family s)
+  counter_by grouped fair P total created = subst (P (suffix_of family s.name)) (sym (part_is family s)) (by_suffix st Counter family s grouped fair.named (λ x. P x (part_by x s)) (total, (created, tt)))
+
+  pub counter_total : is_grouped st.format Counter ≡ true → IsFair st Counter family s → total_in (part_of family s) ≡ when (has_suffix family (codes "_total") s) (Some s.value)
+  counter_total grouped fair = counter_by grouped fair (λ x p. total_in p ≡ when (bytes_eq x (codes "_total")) (Some s.value)) refl refl
+
+-- a created time has this suffix
+pub created_is : (kind : Kind) (st : Setting) (family : List ℕ) (s : Sample) → is_grouped st.format kind ≡ true → IsFair st kind family s → created_in (part_of family s) ≡ when (has_suffix family (codes "_created") s) (Some s.value)
+created_is kind st family s grouped fair = ap created_in (part_is family s) ∙ of_grouped st.format
+    (λ k. has_wrong_suffix st k family s ≡ false → created_in (part_by (suffix_of family s.name) s) ≡ when (has_suffix family (codes "_created") s) (Some s.value)) (record {
+      histogram = λ named. by_suffix st Histogram family s refl named has_time (refl, (refl, (refl, (refl, tt))));
+      gauge = λ named. by_suffix st GaugeHistogram family s refl named has_time (refl, (refl, (refl, tt)));
+      summary = λ named. by_suffix st Summary family s refl named has_time (own_created (quantile_of s) s.value, (refl, (refl, (refl, tt))));
+      counter = λ is named. by_suffix st Counter family s is named has_time (refl, (refl, tt));
+    }) kind grouped fair.named
+  where
+    has_time : List ℕ → Type 0
+    has_time x = created_in (part_by x s) ≡ when (bytes_eq x (codes "_created")) (Some s.value)
 
 -- ---- the parts of samples
 

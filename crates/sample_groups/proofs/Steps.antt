@@ -6,7 +6,6 @@ use Rattle.std.proofs.lemmas.List.Folds.{list_all-append}
 use Rattle.std.specs.List.{list_all, cons_option}
 use Rattle.std.specs.Option.{option_or}
 use Rattle.label_sets.specs.declared.kind.Kind.{Kind}
-use Rattle.label_sets.specs.declared.kind.Kind.TheVariants.{Counter, Gauge, Histogram, GaugeHistogram, StateSet, Info, Summary, Unknown}
 use Rattle.label_sets.specs.declared.label_set.LabelSet.{LabelSet}
 use Rattle.label_sets.specs.Labels.{label_sets_eq}
 use Rattle.label_sets.specs.Lists.{first_of_each, first_some, some_passes}
@@ -16,23 +15,17 @@ use Rattle.page_model.specs.Owners.{kept_labels}
 use Rattle.page_model.specs.Rules.{sample_group}
 use Rattle.page_model.proofs.Laws.{label_sets_decide}
 use Rattle.sample_groups.specs.declared.part.Part.{Part}
-use Rattle.sample_groups.specs.declared.part.Part.TheVariants as parts
 use Rattle.sample_groups.specs.Parts.{is_grouped}
-use Rattle.sample_groups.specs.Groups.{Gathered, bucket_in, quantile_in, sum_in, count_in, are_one, group_from, shared_labels, parts_in, groups_from, with_one, known_group, or_empty, put_group, with_part}
+use Rattle.sample_groups.specs.Groups.{Gathered, bucket_in, quantile_in, sum_in, count_in, total_in, created_in, are_one, are_one_count, group_from, shared_labels, parts_in, groups_from, with_one, known_group, or_empty, put_group, with_part}
+use Rattle.sample_groups.proofs.KindCases.{of_grouped}
 use Rattle.sample_groups.proofs.Members.{when, head_of, has_key, has_key-first, eq_swap, keyed, lookup-keyed, with_key, first_of_each-snoc, AreApart, first_apart, keyed_agree, first_some-head, and_true}
 
 -- ---- the labels of a group
 
 -- the labels that the samples of a group share are those of the sample's group
-pub shared_group : (st : Setting) (kind : Kind) (family : List ℕ) (s : Sample) → is_grouped kind ≡ true → sample_group st kind family s ≡ shared_labels kind (kept_labels st.treatment s.labels)
-shared_group st Histogram family s e = refl
-shared_group st GaugeHistogram family s e = refl
-shared_group st Summary family s e = refl
-shared_group st Counter family s e = absurd cc
-shared_group st Gauge family s e = absurd cc
-shared_group st StateSet family s e = absurd cc
-shared_group st Info family s e = absurd cc
-shared_group st Unknown family s e = absurd cc
+pub shared_group : (st : Setting) (kind : Kind) (family : List ℕ) (s : Sample) → is_grouped st.format kind ≡ true → sample_group st kind family s ≡ shared_labels kind (kept_labels st.treatment s.labels)
+shared_group st kind family s grouped =
+    of_grouped st.format (λ k. sample_group st k family s ≡ shared_labels k (kept_labels st.treatment s.labels)) (record { histogram = refl; gauge = refl; summary = refl; counter = λ _. refl }) kind grouped
 
 -- ---- one part more in its group
 
@@ -57,6 +50,11 @@ are_one-snoc (m ∷ ms) n = list_all-append (λ k. m == k) ms (n ∷ []) ∙ ap 
     twice true = refl
     twice false = refl
 
+-- all are one, with one more where there is one
+are_one-more : (ns : List ℕ) (o : Option ℕ) → are_one (ns ++ cons_option o []) ≡ (are_one ns && are_one_count (head_of ns) o)
+are_one-more ns None = ap are_one (append-nil ns) ∙ sym (and_true (are_one ns))
+are_one-more ns (Some n) = are_one-snoc ns n
+
 module _ (ps : List Part) (p : Part) where
   -- what some of the parts have, where the one more has it
   pub some_more : {B : Type 0} (f : Part → Option B) (y : B) → f p ≡ Some y → filter_map f (ps ++ p ∷ []) ≡ filter_map f ps ++ y ∷ []
@@ -65,49 +63,19 @@ module _ (ps : List Part) (p : Part) where
   pub none_more : {B : Type 0} (f : Part → Option B) → f p ≡ None → filter_map f (ps ++ p ∷ []) ≡ filter_map f ps
   none_more f e = filter_map-append f ps (p ∷ []) ∙ ap (λ o. filter_map f ps ++ cons_option o []) e ∙ append-nil (filter_map f ps)
 
-  first_more : {B : Type 0} (f : Part → Option B) (o : Option B) → f p ≡ o → first_some f (ps ++ p ∷ []) ≡ option_or (first_some f ps) o
-  first_more f o e = first_some-snoc f ps p ∙ ap (option_or (first_some f ps)) e
-
-  no_first_more : {B : Type 0} (f : Part → Option B) → f p ≡ None → first_some f (ps ++ p ∷ []) ≡ first_some f ps
-  no_first_more f e = first_more f None e ∙ or_none (first_some f ps)
-
--- a group of parts and one more
-pub group_from-snoc : (ps : List Part) (p : Part) → group_from (ps ++ p ∷ []) ≡ with_one (group_from ps) p
-unfolding group_from with_one
-group_from-snoc ps (parts.Bucket b) =
-    let p : Part = parts.Bucket b in
-    let buckets = some_more ps p bucket_in b refl in
-    let quantiles = none_more ps p quantile_in refl in
-    let sum = no_first_more ps p sum_in refl in
-    let count = no_first_more ps p count_in refl in
-    let counts = none_more ps p count_in refl in
-    λ i. record { buckets = buckets i; quantiles = quantiles i; sum = sum i; count = count i; counts_agree = are_one (counts i) }
-group_from-snoc ps (parts.Quantile q) =
-    let p : Part = parts.Quantile q in
-    let buckets = none_more ps p bucket_in refl in
-    let quantiles = some_more ps p quantile_in q refl in
-    let sum = no_first_more ps p sum_in refl in
-    let count = no_first_more ps p count_in refl in
-    let counts = none_more ps p count_in refl in
-    λ i. record { buckets = buckets i; quantiles = quantiles i; sum = sum i; count = count i; counts_agree = are_one (counts i) }
-group_from-snoc ps (parts.Sum n) =
-    let p : Part = parts.Sum n in
-    let buckets = none_more ps p bucket_in refl in
-    let quantiles = none_more ps p quantile_in refl in
-    let sum = first_more ps p sum_in (Some n) refl in
-    let count = no_first_more ps p count_in refl in
-    let counts = none_more ps p count_in refl in
-    λ i. record { buckets = buckets i; quantiles = quantiles i; sum = sum i; count = count i; counts_agree = are_one (counts i) }
-group_from-snoc ps (parts.Count n) =
-    let p : Part = parts.Count n in
-    let buckets = none_more ps p bucket_in refl in
-    let quantiles = none_more ps p quantile_in refl in
-    let sum = no_first_more ps p sum_in refl in
-    let count = first_more ps p count_in (Some n) refl in
-    let counts : filter_map count_in (ps ++ p ∷ []) ≡ filter_map count_in ps ++ n ∷ [] = some_more ps p count_in n refl in
-    let agree : are_one (filter_map count_in (ps ++ p ∷ [])) ≡ (are_one (filter_map count_in ps) && not (some_passes (λ m. not (m == n)) (first_some count_in ps))) =
-    ap are_one counts ∙ are_one-snoc (filter_map count_in ps) n ∙ ap (λ o. are_one (filter_map count_in ps) && not (some_passes (λ m. not (m == n)) o)) (sym (first_some-head count_in ps)) in
-    λ i. record { buckets = buckets i; quantiles = quantiles i; sum = sum i; count = count i; counts_agree = agree i }
+  -- a group of parts and one more
+  pub group_from-snoc : group_from (ps ++ p ∷ []) ≡ with_one (group_from ps) p
+  unfolding group_from with_one
+  group_from-snoc =
+      let buckets = filter_map-append bucket_in ps (p ∷ []) in
+      let quantiles = filter_map-append quantile_in ps (p ∷ []) in
+      let sum = first_some-snoc sum_in ps p in
+      let count = first_some-snoc count_in ps p in
+      let total = first_some-snoc total_in ps p in
+      let created = first_some-snoc created_in ps p in
+      let agree : are_one (filter_map count_in (ps ++ p ∷ [])) ≡ (are_one (filter_map count_in ps) && are_one_count (first_some count_in ps) (count_in p)) =
+      ap are_one (filter_map-append count_in ps (p ∷ [])) ∙ are_one-more (filter_map count_in ps) (count_in p) ∙ ap (λ o. are_one (filter_map count_in ps) && are_one_count o (count_in p)) (sym (first_some-head count_in ps)) in
+      λ i. record { buckets = buckets i; quantiles = quantiles i; sum = sum i; count = count i; counts_agree = agree i; total = total i; created = created i }
 
 -- ---- the parts of one group
 

@@ -13,7 +13,6 @@ use Rattle.exact_decimal.specs.declared.number.Number.{Number}
 use Rattle.exact_decimal.specs.declared.number.Number.TheVariants.{Finite, Up, Down, NotANumber}
 use Rattle.exact_decimal.specs.Order.{less, same}
 use Rattle.exact_decimal.proofs.Laws.{whole_same}
-use Rattle.page_model.specs.declared.format.Format.TheVariants.{Text}
 use Rattle.page_model.specs.declared.item.Sample.{Sample}
 use Rattle.page_model.specs.Written.{Setting}
 use Rattle.page_model.specs.Rules.{is_histogram, is_bucket, is_count, sample_group, threshold, is_up, buckets_of_group, breaks_bucket_order, is_complete_at}
@@ -152,9 +151,9 @@ module _ (st : Setting) (kind : Kind) (family : List ℕ) (histogram : is_histog
             unbounded b at.0 (and_parts (is_bucket family b) (is_in_group st kind family labels b) at.1).0 (is_up (threshold b))
 
 -- all samples of a histogram are complete looking back just where each group is whole as it is kept
-pub whole_kept : (st : Setting) (kind : Kind) (family : List ℕ) (above : List Sample) → is_histogram kind ≡ true → st.format ≡ Text → AreSound st kind family above
+pub whole_kept : (st : Setting) (kind : Kind) (family : List ℕ) (above : List Sample) → is_histogram kind ≡ true → AreSound st kind family above
     → list_all (is_complete_at st kind family above) above ≡ list_all (λ (g : LabelSet × Gathered). is_whole_group g.1) (groups_from (map (entry_of st kind family) (reverse above)))
-whole_kept st kind family above histogram text sound =
+whole_kept st kind family above histogram sound =
     let kept : List (LabelSet × Part) = entries st kind family (reverse above) in
     let is_whole : LabelSet → Bool = λ labels. is_whole_group (group_at kept labels) in
     complete_by_groups st kind family above

@@ -1,11 +1,11 @@
--- The groups of a histogram's or a summary's family: the samples that share their labels, but for those that tell buckets and quantiles apart.
--- OpenMetrics 1.0, "Metric" and "MetricPoint" of "Histogram", "GaugeHistogram" and "Summary".
-use Rattle.std.specs.Prelude.{ℕ, Bool, true, false, not, ◌&&◌, ◌==◌, List, [], ◌∷◌, ◌++◌, map, filter, filter_map, codes, Option, Some, None, nat_le, if◌then◌else◌}
-use Rattle.std.specs.List.{list_all, last_or}
+-- The groups of a family whose readings have several samples: the samples that share their labels, but for those that tell buckets and quantiles apart.
+-- OpenMetrics 1.0, "Metric" and "MetricPoint" of "Counter", "Histogram", "GaugeHistogram" and "Summary".
+use Rattle.std.specs.Prelude.{◌≡◌, ℕ, Bool, true, false, not, ◌&&◌, ◌||◌, ◌==◌, List, [], ◌∷◌, ◌++◌, map, filter, filter_map, length, codes, Option, Some, None, option_map, is_some, nat_le, if◌then◌else◌}
+use Rattle.std.specs.List.{list_all, last_or, cons_option}
 use Rattle.std.specs.Map.{lookup}
 use Rattle.std.specs.Option.{option_or}
 use Rattle.label_sets.specs.declared.kind.Kind.{Kind}
-use Rattle.label_sets.specs.declared.kind.Kind.TheVariants.{Summary}
+use Rattle.label_sets.specs.declared.kind.Kind.TheVariants.{Counter, Summary}
 use Rattle.label_sets.specs.declared.label_set.LabelSet.{LabelSet}
 use Rattle.label_sets.specs.Labels.{label_sets_eq, without_label}
 use Rattle.label_sets.specs.Lists.{first_of_each, first_some, some_passes}
@@ -17,6 +17,8 @@ use Rattle.page_model.specs.declared.page.Reading.{Reading}
 use Rattle.page_model.specs.declared.page.Value.{Value}
 use Rattle.page_model.specs.declared.page.Value.TheVariants as values
 use Rattle.page_model.specs.Rules.{is_up}
+use Rattle.page_model.specs.Readings.{key_name}
+use Rattle.page_model.specs.declared.format.Format.{Format}
 use Rattle.sample_groups.specs.Places.{has_place}
 use Rattle.sample_groups.specs.declared.part.Part.{Part}
 use Rattle.sample_groups.specs.declared.part.Part.TheVariants as parts
@@ -35,6 +37,10 @@ pub record Gathered : Type 0 where
   pub count : Option ℕ
   -- all counts are the first one
   pub counts_agree : Bool
+  -- a counter's first total
+  pub total : Option Number
+  -- the first created time
+  pub created : Option Number
 
 -- the bucket of a part that is one
 abbrev pub bucket_in : Part → Option Bucket
@@ -56,12 +62,22 @@ abbrev pub count_in : Part → Option ℕ
 count_in (parts.Count n) = Some n
 count_in _ = None
 
+-- the total of a part that is one
+abbrev pub total_in : Part → Option Number
+total_in (parts.Total n) = Some n
+total_in _ = None
+
+-- the created time of a part that is one
+abbrev pub created_in : Part → Option Number
+created_in (parts.Created n) = Some n
+created_in _ = None
+
 -- all of these are the first of them
 abbrev pub are_one : List ℕ → Bool
 are_one [] = true
 are_one (n ∷ ns) = list_all (λ m. n == m) ns
 
--- a group of these parts, in the order of their lines: its buckets and quantiles, its first sum and its first count, and whether all its counts are that one
+-- a group of these parts, in the order of their lines: its buckets and quantiles, the first of each other sort, and whether all its counts are the first
 unfoldable pub group_from : List Part → Gathered
 group_from ps = record {
   buckets = filter_map bucket_in ps;
@@ -69,14 +85,26 @@ group_from ps = record {
   sum = first_some sum_in ps;
   count = first_some count_in ps;
   counts_agree = are_one (filter_map count_in ps);
+  total = first_some total_in ps;
+  created = first_some created_in ps;
 }
 
 -- ---- the groups of a family
 
+-- the name of the label that tells the samples of a group apart, where the kind has one
+abbrev pub place_name : Kind → Option (List ℕ)
+place_name Counter = None
+place_name Summary = Some (codes "quantile")
+place_name _ = Some (codes "le")
+
+-- the labels without the one of this name, where there is one to leave out
+abbrev pub without_place : Option (List ℕ) → LabelSet → LabelSet
+without_place None ls = ls
+without_place (Some name) ls = without_label name ls
+
 -- the labels that the samples of one group share
 abbrev pub shared_labels : Kind → LabelSet → LabelSet
-shared_labels Summary ls = without_label (codes "quantile") ls
-shared_labels _ ls = without_label (codes "le") ls
+shared_labels kind ls = without_place (place_name kind) ls
 
 -- the parts with these labels
 unfoldable pub parts_in : LabelSet → List (LabelSet × Part) → List Part
@@ -86,12 +114,22 @@ parts_in labels es = map (λ (e : LabelSet × Part). e.1) (filter (λ (e : Label
 unfoldable pub groups_from : List (LabelSet × Part) → List (LabelSet × Gathered)
 groups_from es = map (λ labels. (labels, group_from (parts_in labels es))) (first_of_each label_sets_eq (map (λ (e : LabelSet × Part). e.0) es))
 
+-- the second count, where there is one, is the first, where there is one
+abbrev pub are_one_count : Option ℕ → Option ℕ → Bool
+are_one_count first None = true
+are_one_count first (Some n) = not (some_passes (λ m. not (m == n)) first)
+
 -- a group with one part more
 unfoldable pub with_one : Gathered → Part → Gathered
-with_one g (parts.Bucket b) = record g { buckets = g.buckets ++ b ∷ [] }
-with_one g (parts.Quantile q) = record g { quantiles = g.quantiles ++ q ∷ [] }
-with_one g (parts.Sum n) = record g { sum = option_or g.sum (Some n) }
-with_one g (parts.Count n) = record g { count = option_or g.count (Some n); counts_agree = g.counts_agree && not (some_passes (λ m. not (m == n)) g.count) }
+with_one g p = record {
+  buckets = g.buckets ++ cons_option (bucket_in p) [];
+  quantiles = g.quantiles ++ cons_option (quantile_in p) [];
+  sum = option_or g.sum (sum_in p);
+  count = option_or g.count (count_in p);
+  counts_agree = g.counts_agree && are_one_count g.count (count_in p);
+  total = option_or g.total (total_in p);
+  created = option_or g.created (created_in p);
+}
 
 -- the group without parts
 abbrev pub empty_group : Gathered
@@ -137,19 +175,33 @@ ends_with (Some b) g = is_up b.le && g.counts_agree && not (some_passes (λ n. n
 abbrev pub is_whole_group : Gathered → Bool
 is_whole_group g = ends_with (last_or None g.buckets) g
 
+-- the answer to a part of a sample with these labels: it is added to its group, unless it breaks the order there
+pub record AddsPart (kind : Kind) (labels : LabelSet) (part : Part) (old new : List (LabelSet × Gathered)) (is_added : Bool) : Type 0 where
+  pub answer : is_added ≡ not (breaks_order (or_empty (known_group old (shared_labels kind labels))) part)
+  pub added : is_added ≡ true → new ≡ with_part old (shared_labels kind labels) part
+
 -- ---- readings
 
--- the value of a group of this kind
-abbrev pub group_value : Kind → Gathered → Value
-group_value Summary g = values.Quantiles g.quantiles g.count g.sum
-group_value _ g = values.Buckets g.buckets g.sum
+-- a group with more than a created time
+abbrev pub is_measured_group : Gathered → Bool
+is_measured_group g = not (length g.quantiles == 0) || is_some g.count || is_some g.sum
 
--- the reading of a group
-abbrev pub reading_from : Kind → List ℕ → List ℕ → LabelSet × Gathered → Reading
-reading_from kind family unit g = record {
-  key = record { name = family; kind = kind; unit = unit; labels = g.0 };
-  value = group_value kind g.1;
-  created = None;
+-- the value of a group of this kind, where its samples make one
+abbrev pub group_value : Kind → Gathered → Option Value
+group_value Counter g = option_map values.Plain g.total
+group_value Summary g = if is_measured_group g then Some (values.Quantiles g.quantiles g.count g.sum) else None
+group_value _ g = Some (values.Buckets g.buckets g.sum)
+
+-- the reading of a group, whose key has this name
+abbrev pub reading_named : Kind → List ℕ → List ℕ → LabelSet × Gathered → Option Reading
+reading_named kind name unit g = option_map (λ value. record {
+  key = record { name = name; kind = kind; unit = unit; labels = g.0 };
+  value = value;
+  created = g.1.created;
   stamp = None;
   exemplars = [];
-}
+}) (group_value kind g.1)
+
+-- the reading of a group of a family
+abbrev pub reading_from : Format → Kind → List ℕ → List ℕ → LabelSet × Gathered → Option Reading
+reading_from format kind family unit = reading_named kind (key_name format kind family) unit

@@ -1,8 +1,9 @@
 //! What the samples of one group come to.
-ghost use Rattle.std.specs.Prelude.{◌≡◌, true, not, ◌++◌, [], ◌∷◌, IfOk, OnOk, OnErr};
+ghost use Rattle.std.specs.Prelude.{◌≡◌, true, not, ◌++◌, [], ◌∷◌, Some, IfOk, OnOk, OnErr};
+ghost use Rattle.label_sets.specs.declared.kind.Kind.TheVariants.{Counter, Summary, Histogram};
 ghost use Rattle.page_model.specs.Rules.{is_up};
 ghost use Rattle.sample_groups.specs.declared.part.Part.TheVariants as parts;
-ghost use Rattle.sample_groups.specs.Groups.{empty_group, with_one, breaks_order, breaks_last, is_whole_group, group_value};
+ghost use Rattle.sample_groups.specs.Groups.{empty_group, with_one, breaks_order, breaks_last, is_whole_group, group_from, group_value};
 ghost use Rattle.sample_groups.specs.Places.{has_place};
 
 use crate::part::Part;
@@ -69,6 +70,42 @@ fn put<T: Drop>(values: &mut Vec<T>, value: T) -> Result<(), Memory>
     Ok(())
 }
 
+/// The value of a counter's group, where it has a total.
+#[tactic(auto, unfolding(crate::specs::Groups::group_from))]
+fn total_value(parts: &[Part]) -> Option<Value>
+    ensures { result ≡ group_value Counter (group_from parts.now) }
+{
+    match parts::first_total(parts) {
+        Some(total) => Some(Value::Plain(total)),
+        None => None,
+    }
+}
+
+/// The value of a summary's group, unless that has a created time alone.
+#[tactic(auto, unfolding(crate::specs::Groups::group_from))]
+fn quantiles_value(alloc: Global, parts: &[Part]) -> Result<Option<Value>, Memory>
+    ensures { IfOk result (λ value. value ≡ group_value Summary (group_from parts.now)) }
+{
+    let list = parts::quantiles(alloc, parts)?;
+    let count = parts::first_count(parts);
+    let sum = parts::first_sum(parts);
+    if list.is_empty() && count.is_none() && sum.is_none() {
+        return Ok(None);
+    }
+    let list = List::from_vec(list)?;
+    Ok(Some(Value::Quantiles { list, count, sum }))
+}
+
+/// The value of a histogram's group.
+#[tactic(auto, unfolding(crate::specs::Groups::group_from))]
+fn buckets_value(alloc: Global, parts: &[Part]) -> Result<Value, Memory>
+    ensures { IfOk result (λ value. Some value ≡ group_value Histogram (group_from parts.now)) }
+{
+    let buckets = List::from_vec(parts::buckets(alloc, parts)?)?;
+    let sum = parts::first_sum(parts);
+    Ok(Value::Buckets { buckets, sum })
+}
+
 impl Group {
     /// A group without parts. It takes no memory.
     pub(crate) fn new(alloc: Global) -> Group
@@ -133,6 +170,14 @@ impl Group {
                 put(&mut self.parts, Part::Count(count))?;
                 Ok(true)
             }
+            Part::Total(total) => {
+                put(&mut self.parts, Part::Total(total))?;
+                Ok(true)
+            }
+            Part::Created(created) => {
+                put(&mut self.parts, Part::Created(created))?;
+                Ok(true)
+            }
         }
     }
 
@@ -148,22 +193,23 @@ impl Group {
         }
     }
 
-    /// The value of the group's reading.
-    pub(crate) fn into_value(self, alloc: Global, kind: Kind) -> Result<Value, Memory>
+    /// When its counts began.
+    #[tactic(auto, unfolding(crate::specs::Groups::group_from))]
+    pub(crate) fn created_time(&self) -> Option<Number>
+        ensures { result ≡ self.now.created }
+    {
+        parts::first_created(self.parts.as_slice())
+    }
+
+    /// The value of the group's reading, where its samples make one.
+    pub(crate) fn into_value(self, alloc: Global, kind: Kind) -> Result<Option<Value>, Memory>
         ensures { IfOk result (λ value. value ≡ group_value kind self) }
     {
         let parts = self.parts.as_slice();
-        let sum = parts::first_sum(parts);
         match kind {
-            Kind::Summary => Ok(Value::Quantiles {
-                list: List::from_vec(parts::quantiles(alloc, parts)?)?,
-                count: parts::first_count(parts),
-                sum,
-            }),
-            _ => Ok(Value::Buckets {
-                buckets: List::from_vec(parts::buckets(alloc, parts)?)?,
-                sum,
-            }),
+            Kind::Counter => Ok(total_value(parts)),
+            Kind::Summary => quantiles_value(alloc, parts),
+            _ => Ok(Some(buckets_value(alloc, parts)?)),
         }
     }
 }

@@ -1,13 +1,15 @@
 //! The groups of one family, in the order of their first lines.
-ghost use Rattle.std.specs.Prelude.{◌≡◌, [], true, not, map, IfOk};
+ghost use Rattle.std.specs.Prelude.{◌≡◌, [], true, not, filter_map, IfOk};
 ghost use Rattle.std.specs.List.{list_all};
 ghost use Rattle.label_sets.specs.declared.label_set.LabelSet.{LabelSet as Labels};
 ghost use Rattle.sample_groups.specs.Groups.{Gathered, with_part, known_group, or_empty, breaks_order, is_whole_group, reading_from, shared_labels};
 
-use crate::part::{Part, place_name};
+use crate::part::Part;
+use crate::reading::key_name;
+use crate::shared::shared_labels;
 use crate::table::Table;
 use label_sets::{Kind, LabelSet, List, Memory, Name, Text};
-use page_model::Reading;
+use page_model::{Format, Reading};
 use std::alloc::Global;
 use std::marker::Model;
 use std::mem;
@@ -55,16 +57,15 @@ impl Groups {
         ensures answer { IfOk result (λ added. added ≡ not (breaks_order (or_empty (known_group self.old (shared_labels kind labels.now))) part)) }
         ensures added { IfOk result (λ added. added ≡ true → self.new ≡ with_part self.old (shared_labels kind labels.now) part) }
     {
-        let name = place_name(kind);
         match &mut self.table {
             Some(table) => {
-                let added = table.add(alloc, name, labels, part)?;
+                let added = table.add(alloc, kind, labels, part)?;
                 Ok(added)
             }
             None => {
-                let shared = labels.without(alloc, name)?;
+                let shared = shared_labels(alloc, kind, labels)?;
                 let mut table = Table::of(alloc, shared);
-                let added = table.add(alloc, name, labels, part)?;
+                let added = table.add(alloc, kind, labels, part)?;
                 self.table = Some(Box::new(alloc, table)?);
                 Ok(added)
             }
@@ -82,18 +83,23 @@ impl Groups {
         }
     }
 
-    /// The readings of the groups, in their order.
+    /// The readings of the groups, in their order. A counter's group without a total and a summary's with a
+    /// created time alone have none.
     pub fn into_readings(
         self,
         alloc: Global,
+        format: Format,
         kind: Kind,
         family: &Name,
         unit: &Text,
     ) -> Result<List<Reading>, Memory>
-        ensures { IfOk result (λ readings. readings ≡ map (reading_from kind family.now unit.now) self) }
+        ensures { IfOk result (λ readings. readings ≡ filter_map (reading_from format kind family.now unit.now) self) }
     {
         match self.table {
-            Some(table) => Box::into_inner(table).into_readings(alloc, kind, family, unit),
+            Some(table) => {
+                let name = key_name(alloc, format, kind, family)?;
+                Box::into_inner(table).into_readings(alloc, kind, &name, unit)
+            }
             None => Ok(List::new(alloc)),
         }
     }

@@ -1,4 +1,5 @@
-//! The samples of a histogram's or a summary's family, gathered by the labels that they share.
+//! The samples of a family whose readings have several, gathered by the labels that they share: those of
+//! histograms and summaries, and of OpenMetrics' counters.
 #![tactic(auto)]
 
 mod group;
@@ -8,7 +9,7 @@ mod part;
 mod parts;
 mod places;
 mod reading;
-mod suffix;
+mod shared;
 mod table;
 #[cfg(test)]
 mod tests;

@@ -1,16 +1,17 @@
 //! The groups of a family behind its first one, found by their labels.
-ghost use Rattle.std.specs.Prelude.{◌≡◌, ◌<◌, [], ◌∷◌, ◌++◌, length, slice_get, vec_len, true, not, map, Some, IfOk, OnOk, OnErr, IfSome};
+ghost use Rattle.std.specs.Prelude.{◌≡◌, ◌<◌, [], ◌∷◌, ◌++◌, length, slice_get, vec_len, filter_map, Some, IfOk, OnOk, OnErr, IfSome};
 ghost use Rattle.std.specs.List.{list_all, zip};
 ghost use Rattle.std.specs.Vec.{vec_capacity};
 ghost use Rattle.label_sets.specs.declared.label_set.LabelSet.{LabelSet as Labels};
-ghost use Rattle.label_sets.specs.Labels.{label_sets_eq, without_label};
+ghost use Rattle.label_sets.specs.Labels.{label_sets_eq};
 ghost use Rattle.sample_groups.specs.Beside.{AreBeside};
-ghost use Rattle.sample_groups.specs.Groups.{Gathered, empty_group, with_part, known_group, or_empty, breaks_order, is_whole_group, reading_from};
+ghost use Rattle.sample_groups.specs.Groups.{Gathered, empty_group, AddsPart, is_whole_group, reading_named, shared_labels};
 ghost use Rattle.sample_groups.specs.Placing.{HasPlace};
 
 use crate::group::Group;
 use crate::part::Part;
-use crate::reading::reading;
+use crate::reading::put_reading;
+use crate::shared::{are_shared, insert_shared, shared_labels};
 use label_sets::{Kind, LabelSet, Memory, Name, Text};
 use packed_keys::SeenSets;
 use page_model::Reading;
@@ -65,19 +66,19 @@ fn all_whole(groups: &[Group]) -> bool
 fn put_all(
     alloc: Global,
     kind: Kind,
-    family: &Name,
+    name: &Name,
     unit: &Text,
     sets: &SeenSets,
     groups: Vec<Group>,
     readings: &mut Vec<Reading>,
 ) -> Result<(), Memory>
     requires { length sets.now ≡ length groups.items }
-    ensures { OnOk result (readings.new.items ≡ readings.old.items ++ map (reading_from kind family.now unit.now) (zip sets.now groups.items)) }
+    ensures { OnOk result (readings.new.items ≡ readings.old.items ++ filter_map (reading_named kind name.now unit.now) (zip sets.now groups.items)) }
 {
     let mut place = 0;
     for group in groups {
         let labels = sets.set(alloc, place)?;
-        readings.push(reading(alloc, kind, family, unit, labels, group)?)?;
+        put_reading(alloc, kind, name, unit, labels, group, readings)?;
         place += 1;
     }
     Ok(())
@@ -94,24 +95,23 @@ fn put_new(alloc: Global, groups: &mut Vec<Group>, place: usize)
     }
 }
 
-/// The place of the group with the labels of a sample without the one of this name, which is a new one
-/// behind the others where there was none.
+/// The place of a sample's group, which is a new one behind the others where there was none.
 fn place_in(
     alloc: Global,
     sets: &mut SeenSets,
     groups: &mut Vec<Group>,
-    name: &[u8],
+    kind: Kind,
     labels: &LabelSet,
 ) -> Result<usize, Memory>
     requires { AreBeside label_sets_eq sets.old groups.old.items }
-    ensures place { IfOk result (HasPlace (zip sets.old groups.old.items) (zip sets.new groups.new.items) (without_label name.now labels.now)) }
+    ensures place { IfOk result (HasPlace (zip sets.old groups.old.items) (zip sets.new groups.new.items) (shared_labels kind labels.now)) }
     ensures beside { OnOk result (AreBeside label_sets_eq sets.new groups.new.items) }
-    ensures set { IfOk result (λ place. slice_get sets.new place ≡ Some (without_label name.now labels.now)) }
+    ensures set { IfOk result (λ place. slice_get sets.new place ≡ Some (shared_labels kind labels.now)) }
     ensures err { OnErr result ((sets.new ≡ sets.old) × (groups.new.items ≡ groups.old.items)) }
 {
     // So that nothing can fail behind the set.
     groups.reserve(1)?;
-    let place = sets.insert_without(labels, name)?;
+    let place = insert_shared(alloc, sets, kind, labels)?;
     put_new(alloc, groups, place);
     Ok(place)
 }
@@ -135,24 +135,22 @@ impl Others {
         self.groups.len()
     }
 
-    /// The place of the nearest group, where it has the labels of a sample without the one of this name. It
-    /// takes no memory.
-    fn nearest_place(&self, name: &[u8], labels: &LabelSet) -> Option<usize>
-        ensures { IfSome result (HasPlace self.now self.now (without_label name.now labels.now)) }
+    /// The place of the nearest group, where it is the sample's. It takes no memory.
+    fn nearest_place(&self, kind: Kind, labels: &LabelSet) -> Option<usize>
+        ensures { IfSome result (HasPlace self.now self.now (shared_labels kind labels.now)) }
     {
         match &self.nearest {
-            Some(nearest) if labels.is_without(name, &nearest.labels) => Some(nearest.place),
+            Some(nearest) if are_shared(kind, labels, &nearest.labels) => Some(nearest.place),
             _ => None,
         }
     }
 
-    /// The place of the group with the labels of a sample without the one of this name, which is a new one
-    /// behind the others where there was none.
-    fn place_of(&mut self, alloc: Global, name: &[u8], labels: &LabelSet) -> Result<usize, Memory>
-        ensures { IfOk result (HasPlace self.old self.new (without_label name.now labels.now)) }
+    /// The place of a sample's group, which is a new one behind the others where there was none.
+    fn place_of(&mut self, alloc: Global, kind: Kind, labels: &LabelSet) -> Result<usize, Memory>
+        ensures { IfOk result (HasPlace self.old self.new (shared_labels kind labels.now)) }
     {
-        let shared = labels.without(alloc, name)?;
-        let place = place_in(alloc, &mut self.sets, &mut self.groups, name, labels)?;
+        let shared = shared_labels(alloc, kind, labels)?;
+        let place = place_in(alloc, &mut self.sets, &mut self.groups, kind, labels)?;
         self.nearest = Some(Placed {
             place,
             labels: shared,
@@ -161,28 +159,27 @@ impl Others {
     }
 
     /// The same, at first at the nearest place.
-    fn place_from(&mut self, alloc: Global, name: &[u8], labels: &LabelSet) -> Result<usize, Memory>
-        ensures { IfOk result (HasPlace self.old self.new (without_label name.now labels.now)) }
+    fn place_from(&mut self, alloc: Global, kind: Kind, labels: &LabelSet) -> Result<usize, Memory>
+        ensures { IfOk result (HasPlace self.old self.new (shared_labels kind labels.now)) }
     {
-        match self.nearest_place(name, labels) {
+        match self.nearest_place(kind, labels) {
             Some(place) => Ok(place),
-            None => self.place_of(alloc, name, labels),
+            None => self.place_of(alloc, kind, labels),
         }
     }
 
-    /// Adds a part of a sample with these labels, of which the one of this name tells buckets or quantiles
-    /// apart, to its group, unless it breaks the order of the group.
+    /// Adds a part of a sample of this kind with these labels to its group, unless it breaks the order of
+    /// the group.
     pub(crate) fn add(
         &mut self,
         alloc: Global,
-        name: &[u8],
+        kind: Kind,
         labels: &LabelSet,
         part: Part,
     ) -> Result<bool, Memory>
-        ensures answer { IfOk result (λ added. added ≡ not (breaks_order (or_empty (known_group self.old (without_label name.now labels.now))) part)) }
-        ensures added { IfOk result (λ added. added ≡ true → self.new ≡ with_part self.old (without_label name.now labels.now) part) }
+        ensures { IfOk result (AddsPart kind labels.now part self.old self.new) }
     {
-        let place = self.place_from(alloc, name, labels)?;
+        let place = self.place_from(alloc, kind, labels)?;
         let added = self.groups[place].add(alloc, part)?;
         Ok(added)
     }
@@ -199,13 +196,13 @@ impl Others {
         self,
         alloc: Global,
         kind: Kind,
-        family: &Name,
+        name: &Name,
         unit: &Text,
         readings: &mut Vec<Reading>,
     ) -> Result<(), Memory>
-        ensures { OnOk result (readings.new.items ≡ readings.old.items ++ map (reading_from kind family.now unit.now) self) }
+        ensures { OnOk result (readings.new.items ≡ readings.old.items ++ filter_map (reading_named kind name.now unit.now) self) }
     {
         let Others { sets, groups, .. } = self;
-        put_all(alloc, kind, family, unit, &sets, groups, readings)
+        put_all(alloc, kind, name, unit, &sets, groups, readings)
     }
 }

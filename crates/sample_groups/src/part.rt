@@ -1,21 +1,20 @@
 //! What a sample is to its group, by its name, its value and its label `le` or `quantile` (Prometheus text
-//! format 0.0.4, "Histograms and summaries").
+//! format 0.0.4, "Histograms and summaries"; OpenMetrics 1.0, "Metric types").
 ghost use Rattle.std.specs.Prelude.{◌≡◌, true, false, Ok, Err, if◌then◌else◌};
 ghost use Rattle.std.specs.Option.{option_map_or};
 ghost use Rattle.exact_decimal.specs.declared.number.Number.TheVariants.{NotANumber};
 ghost use Rattle.exact_decimal.specs.Numbers.{number};
-ghost use Rattle.label_sets.specs.Labels.{label_value, has_name};
-ghost use Rattle.page_model.specs.declared.format.Format.TheVariants.{Text};
+ghost use Rattle.label_sets.specs.Labels.{label_value};
 ghost use Rattle.page_model.specs.declared.rule.Rule.TheVariants as rules;
 ghost use Rattle.page_model.specs.Written.{Setting};
 ghost use Rattle.page_model.specs.Rules.{has_wrong_suffix, has_bad_value, has_bad_threshold};
 ghost use Rattle.sample_groups.specs.Parts.{is_grouped, part_of};
-ghost use Rattle.sample_groups.specs.Finding.{place_name, unplaced, bucket_found, count_found, quantile_found};
+ghost use Rattle.sample_groups.specs.Finding.{unplaced, bucket_found, count_found, quantile_found, total_found, created_found, found};
 
-use crate::suffix::{Suffix, suffix_of};
-use exact_decimal::{Number, read, whole};
+use crate::shared::{has_label, place_name};
+use exact_decimal::{Number, less, of, read, whole};
 use label_sets::{Kind, Name};
-use page_model::{Bucket, Quantile, Rule, Sample};
+use page_model::{Bucket, Format, Quantile, Rule, Sample, Suffix, sample_suffix};
 
 /// What a sample is to its group.
 #[derive(Clone, Copy, Debug, PartialEq, Eq)]
@@ -24,10 +23,14 @@ pub enum Part {
     Quantile(Quantile),
     Sum(Number),
     Count(u64),
+    /// A counter's value in OpenMetrics.
+    Total(Number),
+    /// When the counts began, in seconds.
+    Created(Number),
 }
 
 impl Part {
-    ghost use Rattle.sample_groups.specs.Groups.{bucket_in, quantile_in, sum_in, count_in};
+    ghost use Rattle.sample_groups.specs.Groups.{bucket_in, quantile_in, sum_in, count_in, total_in, created_in};
 
     /// The bucket that it is.
     pub(crate) fn bucket(&self) -> Option<Bucket>
@@ -68,22 +71,36 @@ impl Part {
             _ => None,
         }
     }
+
+    /// The total that it is.
+    pub(crate) fn total(&self) -> Option<Number>
+        ensures { result ≡ total_in self.now }
+    {
+        match self {
+            Part::Total(total) => Some(*total),
+            _ => None,
+        }
+    }
+
+    /// The created time that it is.
+    pub(crate) fn created_time(&self) -> Option<Number>
+        ensures { result ≡ created_in self.now }
+    {
+        match self {
+            Part::Created(created) => Some(*created),
+            _ => None,
+        }
+    }
 }
 
 /// Whether several samples of a family of this kind make one reading.
-pub fn is_grouped(kind: Kind) -> bool
-    ensures { result ≡ is_grouped kind }
-{
-    matches!(kind, Kind::Histogram | Kind::GaugeHistogram | Kind::Summary)
-}
-
-/// The name of the label that tells the samples of a group apart.
-pub(crate) fn place_name(kind: Kind) -> &'static [u8]
-    ensures { result.now ≡ place_name kind }
+pub fn is_grouped(format: Format, kind: Kind) -> bool
+    ensures { result ≡ is_grouped format kind }
 {
     match kind {
-        Kind::Summary => b"quantile",
-        _ => b"le",
+        Kind::Histogram | Kind::GaugeHistogram | Kind::Summary => true,
+        Kind::Counter => format == Format::OpenMetrics,
+        _ => false,
     }
 }
 
@@ -97,21 +114,14 @@ fn label_number(sample: &Sample, name: &[u8]) -> Number
     }
 }
 
-/// Whether a sample has a label.
-fn has_label(sample: &Sample, name: &[u8]) -> bool
-    ensures { result ≡ has_name sample.now.labels name.now }
-{
-    sample.labels.value(name).is_some()
-}
-
 /// The part of a sample that may have no label `le` or `quantile`, or rule `Threshold`.
 fn unplaced(kind: Kind, sample: &Sample, part: Part) -> Result<Part, Rule>
     ensures { result ≡ unplaced kind sample.now part }
 {
-    if has_label(sample, place_name(kind)) {
-        return Err(Rule::Threshold);
+    match place_name(kind) {
+        Some(name) if has_label(&sample.labels, name) => Err(Rule::Threshold),
+        _ => Ok(part),
     }
-    Ok(part)
 }
 
 /// A bucket, or the rule that it breaks.
@@ -150,17 +160,51 @@ fn quantile(sample: &Sample) -> Result<Part, Rule>
     }
 }
 
+/// A total, or the rule that it breaks.
+fn total(sample: &Sample) -> Result<Part, Rule>
+    ensures { result ≡ total_found sample.now }
+{
+    if sample.value == Number::NotANumber || less(&sample.value, &of(0)) {
+        Err(Rule::Value)
+    } else {
+        Ok(Part::Total(sample.value))
+    }
+}
+
+/// A created time, or the rule that it breaks.
+fn created_time(kind: Kind, sample: &Sample) -> Result<Part, Rule>
+    ensures { result ≡ created_found kind sample.now }
+{
+    match sample.value {
+        Number::Finite(_) => unplaced(kind, sample, Part::Created(sample.value)),
+        _ => Err(Rule::Value),
+    }
+}
+
+/// The part of a sample with this suffix, or the rule that it breaks.
+fn part_with(kind: Kind, sample: &Sample, suffix: Suffix) -> Result<Part, Rule>
+    ensures { result ≡ found kind sample.now suffix }
+{
+    match suffix {
+        Suffix::Own => quantile(sample),
+        Suffix::Bucket => bucket(sample),
+        Suffix::Count | Suffix::GaugeCount => count(kind, sample),
+        Suffix::Total => total(sample),
+        Suffix::Created => created_time(kind, sample),
+        Suffix::Sum | Suffix::GaugeSum | Suffix::Info => {
+            unplaced(kind, sample, Part::Sum(sample.value))
+        }
+    }
+}
+
 /// The part of a sample whose name the kind allows, or the rule that its value or its label breaks.
 pub fn part_of(kind: Kind, family: &Name, sample: &Sample) -> Result<Part, Rule>
-    ensures { (st : Setting) → st.format ≡ Text → is_grouped kind ≡ true → has_wrong_suffix st kind family.now sample.now ≡ false
+    ensures { (st : Setting) → is_grouped st.format kind ≡ true → has_wrong_suffix st kind family.now sample.now ≡ false
         → result ≡ (if has_bad_value st.format kind family.now sample.now then Err rules.Value
         else if has_bad_threshold kind family.now sample.now then Err rules.Threshold
         else Ok (part_of family.now sample.now)) }
 {
-    match suffix_of(family, &sample.name) {
-        Suffix::Bucket => bucket(sample),
-        Suffix::Count => count(kind, sample),
-        Suffix::Own => quantile(sample),
-        Suffix::Sum => unplaced(kind, sample, Part::Sum(sample.value)),
-    }
+    // A name that the kind allows has a suffix.
+    let suffix = sample_suffix(family, &sample.name).unwrap_or(Suffix::Sum);
+    part_with(kind, sample, suffix)
 }

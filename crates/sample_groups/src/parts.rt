@@ -5,7 +5,7 @@ ghost use Rattle.label_sets.specs.Lists.{first_some, some_passes};
 ghost use Rattle.exact_decimal.specs.declared.number.Number.TheVariants.{Finite};
 ghost use Rattle.exact_decimal.specs.Order.{same};
 ghost use Rattle.page_model.specs.declared.page.Quantile.{Quantile as AnyQuantile};
-ghost use Rattle.sample_groups.specs.Groups.{bucket_in, quantile_in, sum_in, count_in};
+ghost use Rattle.sample_groups.specs.Groups.{bucket_in, quantile_in, sum_in, count_in, total_in, created_in};
 ghost use Rattle.sample_groups.specs.Places.{has_place};
 
 use crate::part::Part;
@@ -50,6 +50,32 @@ pub(crate) fn first_count(parts: &[Part]) -> Option<u64>
         let count = part.count();
         if count.is_some() {
             return count;
+        }
+    }
+    None
+}
+
+/// The first total.
+pub(crate) fn first_total(parts: &[Part]) -> Option<Number>
+    ensures { result ≡ first_some total_in parts.now }
+{
+    for part in parts {
+        let total = part.total();
+        if total.is_some() {
+            return total;
+        }
+    }
+    None
+}
+
+/// The first created time.
+pub(crate) fn first_created(parts: &[Part]) -> Option<Number>
+    ensures { result ≡ first_some created_in parts.now }
+{
+    for part in parts {
+        let created = part.created_time();
+        if created.is_some() {
+            return created;
         }
     }
     None

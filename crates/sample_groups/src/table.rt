@@ -1,15 +1,15 @@
 //! The groups of a family that has some, in the order of their first lines.
-ghost use Rattle.std.specs.Prelude.{◌≡◌, [], ◌∷◌, true, not, map, IfOk};
+ghost use Rattle.std.specs.Prelude.{◌≡◌, [], ◌∷◌, filter_map, IfOk};
 ghost use Rattle.std.specs.List.{list_all};
 ghost use Rattle.label_sets.specs.declared.label_set.LabelSet.{LabelSet as Labels};
-ghost use Rattle.label_sets.specs.Labels.{without_label};
-ghost use Rattle.sample_groups.specs.Groups.{Gathered, empty_group, with_part, known_group, or_empty, breaks_order, is_whole_group, reading_from};
+ghost use Rattle.sample_groups.specs.Groups.{Gathered, empty_group, AddsPart, is_whole_group, reading_named};
 ghost use Rattle.sample_groups.specs.Tables.{others_in};
 
 use crate::group::Group;
 use crate::others::Others;
 use crate::part::Part;
-use crate::reading::reading;
+use crate::reading::put_reading;
+use crate::shared::are_shared;
 use label_sets::{Kind, LabelSet, List, Memory, Name, Text};
 use page_model::Reading;
 use std::alloc::Global;
@@ -41,21 +41,20 @@ impl Model for Table {
 fn add_other(
     alloc: Global,
     others: &mut Option<Box<Others>>,
-    name: &[u8],
+    kind: Kind,
     labels: &LabelSet,
     part: Part,
 ) -> Result<bool, Memory>
-    ensures answer { IfOk result (λ added. added ≡ not (breaks_order (or_empty (known_group (others_in others.old) (without_label name.now labels.now))) part)) }
-    ensures added { IfOk result (λ added. added ≡ true → others_in others.new ≡ with_part (others_in others.old) (without_label name.now labels.now) part) }
+    ensures { IfOk result (AddsPart kind labels.now part (others_in others.old) (others_in others.new)) }
 {
     match others {
         Some(others) => {
-            let added = others.add(alloc, name, labels, part)?;
+            let added = others.add(alloc, kind, labels, part)?;
             Ok(added)
         }
         None => {
             let mut first = Others::new(alloc);
-            let added = first.add(alloc, name, labels, part)?;
+            let added = first.add(alloc, kind, labels, part)?;
             *others = Some(Box::new(alloc, first)?);
             Ok(added)
         }
@@ -74,23 +73,22 @@ impl Table {
         }
     }
 
-    /// Adds a part of a sample with these labels, of which the one of this name tells buckets or quantiles
-    /// apart, to its group, unless it breaks the order of the group.
+    /// Adds a part of a sample of this kind with these labels to its group, unless it breaks the order of
+    /// the group.
     pub(crate) fn add(
         &mut self,
         alloc: Global,
-        name: &[u8],
+        kind: Kind,
         labels: &LabelSet,
         part: Part,
     ) -> Result<bool, Memory>
-        ensures answer { IfOk result (λ added. added ≡ not (breaks_order (or_empty (known_group self.old (without_label name.now labels.now))) part)) }
-        ensures added { IfOk result (λ added. added ≡ true → self.new ≡ with_part self.old (without_label name.now labels.now) part) }
+        ensures { IfOk result (AddsPart kind labels.now part self.old self.new) }
     {
-        if labels.is_without(name, &self.first_labels) {
+        if are_shared(kind, labels, &self.first_labels) {
             let added = self.first.add(alloc, part)?;
             return Ok(added);
         }
-        let added = add_other(alloc, &mut self.others, name, labels, part)?;
+        let added = add_other(alloc, &mut self.others, kind, labels, part)?;
         Ok(added)
     }
 
@@ -110,10 +108,10 @@ impl Table {
         self,
         alloc: Global,
         kind: Kind,
-        family: &Name,
+        name: &Name,
         unit: &Text,
     ) -> Result<List<Reading>, Memory>
-        ensures { IfOk result (λ readings. readings ≡ map (reading_from kind family.now unit.now) self) }
+        ensures { IfOk result (λ readings. readings ≡ filter_map (reading_named kind name.now unit.now) self) }
     {
         let Table {
             first_labels,
@@ -125,9 +123,9 @@ impl Table {
             None => 1,
         };
         let mut readings = Vec::with_capacity(alloc, room)?;
-        readings.push(reading(alloc, kind, family, unit, first_labels, first)?)?;
+        put_reading(alloc, kind, name, unit, first_labels, first, &mut readings)?;
         if let Some(others) = others {
-            Box::into_inner(others).put_readings(alloc, kind, family, unit, &mut readings)?;
+            Box::into_inner(others).put_readings(alloc, kind, name, unit, &mut readings)?;
         }
         let readings = List::from_vec(readings)?;
         Ok(readings)

@@ -1,7 +1,7 @@
 use crate::{Groups, is_grouped, part_of};
 use exact_decimal::{Number, read};
 use label_sets::{Kind, Label, LabelSet, Memory, Name, Text};
-use page_model::{Rule, Sample, Value};
+use page_model::{Format, Rule, Sample, Value};
 use std::alloc::{AllocError, Global};
 
 /// A name, the value of the label `code`, that of `le` or `quantile`, and a value. A label without a value
@@ -38,6 +38,10 @@ fn sample(alloc: Global, kind: Kind, row: Row<'_>) -> Result<Sample, Memory> {
         stamp: None,
         exemplar: None,
     })
+}
+
+fn is_plain(value: &Value, token: &str) -> bool {
+    matches!(value, Value::Plain(plain) if *plain == number(token))
 }
 
 /// Gathers the rows of the family `h`, and answers the rule that the first wrong one breaks.
@@ -82,7 +86,7 @@ fn makes_the_readings_of_a_histogram(rt: HostRuntime) -> Result<(), Memory> {
 
     let family = Name::from_str(alloc, "h")?;
     let unit = Text::from_str(alloc, "")?;
-    let readings = groups.into_readings(alloc, Kind::Histogram, &family, &unit)?;
+    let readings = groups.into_readings(alloc, Format::Text, Kind::Histogram, &family, &unit)?;
     let [plain, coded] = readings.as_slice() else {
         panic!(rt; "not two readings");
     };
@@ -113,7 +117,7 @@ fn makes_the_reading_of_a_summary(rt: HostRuntime) -> Result<(), Memory> {
     assert!(rt; gather(alloc, Kind::Summary, &rows, &mut groups)?.is_none());
     let family = Name::from_str(alloc, "h")?;
     let unit = Text::from_str(alloc, "")?;
-    let readings = groups.into_readings(alloc, Kind::Summary, &family, &unit)?;
+    let readings = groups.into_readings(alloc, Format::Text, Kind::Summary, &family, &unit)?;
     let [reading] = readings.as_slice() else {
         panic!(rt; "not one reading");
     };
@@ -130,45 +134,137 @@ fn makes_the_reading_of_a_summary(rt: HostRuntime) -> Result<(), Memory> {
 }
 
 #[test]
-fn names_the_broken_rule(rt: HostRuntime) -> Result<(), Memory> {
+fn makes_the_readings_of_a_counter(rt: HostRuntime) -> Result<(), Memory> {
     let alloc = rt.alloc();
+    assert!(rt; !is_grouped(Format::Text, Kind::Counter));
+    let mut groups = Groups::new(alloc);
+    let rows = [
+        ("h_total", "a", "", "5"),
+        ("h_created", "a", "", "1.5"),
+        ("h_total", "a", "1", "+Inf"),
+        ("h_created", "b", "", "2"),
+        ("h_total", "a", "2", "0"),
+    ];
+    assert!(rt; gather(alloc, Kind::Counter, &rows, &mut groups)?.is_none());
+    let family = Name::from_str(alloc, "h")?;
+    let unit = Text::from_str(alloc, "")?;
+    let readings = groups.into_readings(alloc, Format::OpenMetrics, Kind::Counter, &family, &unit)?;
+    let [first, second, third] = readings.as_slice() else {
+        panic!(rt; "not three readings");
+    };
+    assert!(rt; first.key.name.as_str() == "h_total" && first.key.labels.len() == 1);
+    assert!(rt; is_plain(&first.value, "5") && first.created == Some(number("1.5")));
+    assert!(rt; is_plain(&second.value, "+Inf") && second.created.is_none());
+    assert!(rt; is_plain(&third.value, "0") && third.key.labels.len() == 2);
+    Ok(())
+}
+
+#[test]
+fn takes_created_times(rt: HostRuntime) -> Result<(), Memory> {
+    let alloc = rt.alloc();
+    let family = Name::from_str(alloc, "h")?;
+    let unit = Text::from_str(alloc, "")?;
+    let mut summaries = Groups::new(alloc);
+    let rows = [("h_created", "a", "", "3"), ("h_sum", "b", "", "4")];
+    assert!(rt; gather(alloc, Kind::Summary, &rows, &mut summaries)?.is_none());
+    let readings = summaries.into_readings(
+        alloc,
+        Format::OpenMetrics,
+        Kind::Summary,
+        &family,
+        &unit,
+    )?;
+    let [summary] = readings.as_slice() else {
+        panic!(rt; "not one reading");
+    };
+    assert!(rt; summary.created.is_none() && summary.key.name == family);
+
+    let mut histograms = Groups::new(alloc);
+    let rows = [
+        ("h_created", "", "", "3"),
+        ("h_bucket", "", "+Inf", "4"),
+        ("h_created", "", "", "5"),
+    ];
+    assert!(rt; gather(alloc, Kind::Histogram, &rows, &mut histograms)?.is_none());
+    let readings = histograms.into_readings(
+        alloc,
+        Format::OpenMetrics,
+        Kind::Histogram,
+        &family,
+        &unit,
+    )?;
+    let [histogram] = readings.as_slice() else {
+        panic!(rt; "not one reading");
+    };
+    assert!(rt; histogram.created == Some(number("3")));
+    Ok(())
+}
+
+#[test]
+fn tells_a_whole_gauge_histogram(rt: HostRuntime) -> Result<(), Memory> {
+    let alloc = rt.alloc();
+    for (count, whole) in [("4", true), ("5", false)] {
+        let mut groups = Groups::new(alloc);
+        let rows = [("h_bucket", "", "+Inf", "4"), ("h_gcount", "", "", count)];
+        assert!(rt; gather(alloc, Kind::GaugeHistogram, &rows, &mut groups)?.is_none());
+        assert!(rt; groups.are_whole() == whole);
+    }
+    Ok(())
+}
+
+/// Whether the row breaks the rule behind a first row of its family.
+fn breaks(alloc: Global, kind: Kind, row: Row<'_>, rule: Rule) -> Result<bool, Memory> {
+    let first = match kind {
+        Kind::Summary => "h",
+        Kind::Counter => "h_total",
+        _ => "h_bucket",
+    };
+    let rows = [(first, "", "1", "3"), row];
+    let mut groups = Groups::new(alloc);
+    Ok(gather(alloc, kind, &rows, &mut groups)? == Some(rule))
+}
+
+#[test]
+fn names_the_broken_rule_of_a_histogram(rt: HostRuntime) -> Result<(), Memory> {
     let cases = [
-        (Kind::Histogram, ("h_bucket", "", "", "1"), Rule::Threshold),
-        (
-            Kind::Histogram,
-            ("h_bucket", "", "-Inf", "1"),
-            Rule::Threshold,
-        ),
-        (Kind::Histogram, ("h_bucket", "", "x", "1.5"), Rule::Value),
-        (Kind::Histogram, ("h_count", "", "1", "1"), Rule::Threshold),
-        (Kind::Histogram, ("h_count", "", "", "-1"), Rule::Value),
-        (Kind::Histogram, ("h_bucket", "", "1.0", "3"), Rule::Order),
-        (Kind::Histogram, ("h_bucket", "", "2", "2"), Rule::Order),
-        (
-            Kind::GaugeHistogram,
-            ("h_gcount", "", "", "0.5"),
-            Rule::Value,
-        ),
-        (
-            Kind::GaugeHistogram,
-            ("h_gsum", "", "1", "1"),
-            Rule::Threshold,
-        ),
-        (Kind::Summary, ("h", "", "+Inf", "1"), Rule::Threshold),
-        (Kind::Summary, ("h_sum", "", "1", "1"), Rule::Threshold),
-        (Kind::Summary, ("h_count", "", "", "NaN"), Rule::Value),
-        (Kind::Summary, ("h", "", "1.00", "1"), Rule::Order),
+        (("h_bucket", "", "", "1"), Rule::Threshold),
+        (("h_bucket", "", "-Inf", "1"), Rule::Threshold),
+        (("h_bucket", "", "x", "1.5"), Rule::Value),
+        (("h_count", "", "1", "1"), Rule::Threshold),
+        (("h_count", "", "", "-1"), Rule::Value),
+        (("h_created", "", "", "NaN"), Rule::Value),
+        (("h_bucket", "", "1.0", "3"), Rule::Order),
+        (("h_bucket", "", "2", "2"), Rule::Order),
+    ];
+    assert!(rt; is_grouped(Format::Text, Kind::Histogram));
+    for (row, rule) in cases {
+        assert!(rt;
+            breaks(rt.alloc(), Kind::Histogram, row, rule)?,
+            "{}",
+            row.0
+        );
+    }
+    Ok(())
+}
+
+#[test]
+fn names_the_broken_rule_of_other_kinds(rt: HostRuntime) -> Result<(), Memory> {
+    use Kind::{Counter, GaugeHistogram, Summary};
+    let cases = [
+        (GaugeHistogram, ("h_gcount", "", "", "0.5"), Rule::Value),
+        (GaugeHistogram, ("h_gsum", "", "1", "1"), Rule::Threshold),
+        (Summary, ("h", "", "+Inf", "1"), Rule::Threshold),
+        (Summary, ("h_sum", "", "1", "1"), Rule::Threshold),
+        (Summary, ("h_count", "", "", "NaN"), Rule::Value),
+        (Summary, ("h_created", "", "1", "5"), Rule::Threshold),
+        (Summary, ("h", "", "1.00", "1"), Rule::Order),
+        (Counter, ("h_total", "", "", "-1"), Rule::Value),
+        (Counter, ("h_total", "", "", "NaN"), Rule::Value),
+        (Counter, ("h_created", "", "", "+Inf"), Rule::Value),
     ];
     for (kind, row, rule) in cases {
-        let first = if kind == Kind::Summary {
-            "h"
-        } else {
-            "h_bucket"
-        };
-        let rows = [(first, "", "1", "3"), row];
-        let mut groups = Groups::new(alloc);
-        let broken = gather(alloc, kind, &rows, &mut groups)?;
-        assert!(rt; is_grouped(kind) && broken == Some(rule), "{}", row.0);
+        assert!(rt; is_grouped(Format::OpenMetrics, kind));
+        assert!(rt; breaks(rt.alloc(), kind, row, rule)?, "{}", row.0);
     }
     Ok(())
 }

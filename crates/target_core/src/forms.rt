@@ -40,13 +40,12 @@ impl FromReading for NumberPoint {
         _alloc: Global,
         moment: u64,
         reading: &Reading,
-    ) -> Result<Option<NumberPoint>, Memory> {
+    ) -> Result<Option<Self>, Memory> {
         let Some(number) = number_in(&reading.value) else {
             return Ok(None);
         };
-        let labels = reading.key.labels.copy()?;
         Ok(Some(NumberPoint {
-            labels,
+            labels: reading.key.labels.copy()?,
             start: start_at(moment, reading),
             time: moment,
             value: Some(number),
@@ -85,17 +84,12 @@ impl FromReading for HistogramPoint {
     ghost form_of = { spec.histogram_point };
 
     #[tactic(auto, unfolding(crate::specs::Points::histogram_point, crate::specs::Points::point_of))]
-    fn from_reading(
-        alloc: Global,
-        moment: u64,
-        reading: &Reading,
-    ) -> Result<Option<HistogramPoint>, Memory> {
+    fn from_reading(alloc: Global, moment: u64, reading: &Reading) -> Result<Option<Self>, Memory> {
         let Some(histogram) = histogram_in(alloc, &reading.value)? else {
             return Ok(None);
         };
-        let labels = reading.key.labels.copy()?;
         Ok(Some(HistogramPoint {
-            labels,
+            labels: reading.key.labels.copy()?,
             start: start_or_moment(moment, reading),
             time: moment,
             value: Some(histogram),
@@ -127,13 +121,12 @@ impl FromReading for SummaryPoint {
         _alloc: Global,
         moment: u64,
         reading: &Reading,
-    ) -> Result<Option<SummaryPoint>, Memory> {
+    ) -> Result<Option<Self>, Memory> {
         let Some(summary) = summary_in(&reading.value)? else {
             return Ok(None);
         };
-        let labels = reading.key.labels.copy()?;
         Ok(Some(SummaryPoint {
-            labels,
+            labels: reading.key.labels.copy()?,
             start: start_or_moment(moment, reading),
             time: moment,
             value: Some(summary),

@@ -140,14 +140,13 @@ fn value_is(metric: &Metric, number: u64) -> bool {
     }
 }
 
-fn scraped(alloc: Global) -> Result<Request, Memory> {
-    let page = page(alloc)?;
-    request(alloc, Outcome::Page(page))
+fn scraped(alloc: Global, page: Result<Page, Memory>) -> Result<Request, Memory> {
+    request(alloc, Outcome::Page(page?))
 }
 
 #[test]
 fn counter_with_its_starts(rt: HostRuntime) {
-    let request = scraped(rt.alloc()).expect(&rt, "memory");
+    let request = scraped(rt.alloc(), page(rt.alloc())).expect(&rt, "memory");
     let counter = metric(&request, 0, 0).expect(&rt, "counter");
     assert!(rt; counter.name.as_str() == "c_total");
     assert!(rt; counter.description.as_str() == "Help.");
@@ -158,21 +157,16 @@ fn counter_with_its_starts(rt: HostRuntime) {
 
 #[test]
 fn gauge_without_start(rt: HostRuntime) {
-    let request = scraped(rt.alloc()).expect(&rt, "memory");
+    let request = scraped(rt.alloc(), page(rt.alloc())).expect(&rt, "memory");
     let gauge = metric(&request, 0, 1).expect(&rt, "gauge");
     assert_eq!(rt; start(gauge, 0), Some(None));
     assert!(rt; value_is(gauge, 7));
     assert!(rt; metric(&request, 0, 2).is_none());
 }
 
-fn observed(alloc: Global) -> Result<Request, Memory> {
-    let page = observations(alloc)?;
-    request(alloc, Outcome::Page(page))
-}
-
 #[test]
 fn histogram_with_differences(rt: HostRuntime) {
-    let request = observed(rt.alloc()).expect(&rt, "memory");
+    let request = scraped(rt.alloc(), observations(rt.alloc())).expect(&rt, "memory");
     let histogram = metric(&request, 0, 0).expect(&rt, "histogram");
     let point = histogram_point(histogram).expect(&rt, "point");
     assert_eq!(rt; point.start, 5_000_000_000);
@@ -184,7 +178,7 @@ fn histogram_with_differences(rt: HostRuntime) {
 
 #[test]
 fn summary_without_count(rt: HostRuntime) {
-    let request = observed(rt.alloc()).expect(&rt, "memory");
+    let request = scraped(rt.alloc(), observations(rt.alloc())).expect(&rt, "memory");
     let summary = metric(&request, 0, 1).expect(&rt, "summary");
     let point = summary_point(summary).expect(&rt, "point");
     assert_eq!(rt; point.start, MOMENT);
@@ -196,7 +190,7 @@ fn summary_without_count(rt: HostRuntime) {
 
 #[test]
 fn samples_of_the_scrape(rt: HostRuntime) {
-    let request = scraped(rt.alloc()).expect(&rt, "memory");
+    let request = scraped(rt.alloc(), page(rt.alloc())).expect(&rt, "memory");
     let samples = metric(&request, 1, 1).expect(&rt, "samples");
     assert!(rt; value_is(samples, 6));
 }

@@ -1,3 +1,4 @@
 pub mod DigitCount
 pub mod Folds
 pub mod Laws
+pub mod Walks

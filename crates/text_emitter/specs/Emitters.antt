@@ -1,20 +1,26 @@
 -- What the emitters are with one byte more.
 -- The bridge's own.
-use Rattle.std.specs.Prelude.{ℕ, ◌+◌, ◌-◌, ◌^◌, min, List, [], ◌∷◌, ◌++◌, take}
+use Rattle.std.specs.Prelude.{◌≡◌, ℕ, ◌+◌, ◌-◌, ◌^◌, ◌≤◌, min, Bool, false, List, [], ◌∷◌, ◌++◌, length, take}
 
 -- a count with one byte more, which stops at the greatest number of 64 bits
 abbrev pub count_push : ℕ → ℕ → ℕ
 count_push count byte = min (count + 1) (2 ^ 64 - 1)
 
--- bytes, none of which stands behind the end of their room, and that end
-pub record BoundedText : Type 0 where
+-- bytes to which a text is appended, and how many stood there before it
+pub record Appended : Type 0 where
   pub bytes : List ℕ
-  pub end : ℕ
+  pub start : ℕ
 
--- the bytes that stand in front of the end
-abbrev pub bounded_text : List ℕ → ℕ → BoundedText
-bounded_text bytes end = record { bytes = take end bytes; end = end }
+-- these bytes, of which so many stood there before
+abbrev pub appended : List ℕ → ℕ → Appended
+appended bytes start = record { bytes = bytes; start = start }
 
--- bytes with one more, where there is room for it
-abbrev pub room_push : BoundedText → ℕ → BoundedText
-room_push room byte = bounded_text (room.bytes ++ byte ∷ []) room.end
+-- the bytes with one more
+abbrev pub append_push : Appended → ℕ → Appended
+append_push a byte = appended (a.bytes ++ byte ∷ []) a.start
+
+-- a vector holds all bytes unless memory failed, and always those that stood there before
+pub record Holds (items : List ℕ) (failed : Bool) (all : Appended) : Type 0 where
+  pub whole : failed ≡ false → items ≡ all.bytes
+  pub within : all.start ≤ length items
+  pub front : take all.start items ≡ take all.start all.bytes

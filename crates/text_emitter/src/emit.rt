@@ -2,9 +2,9 @@
 
 ghost use Rattle.std.specs.Prelude.{◌≡◌, ◌++◌, codes, fold, length as length_of, min, OnOk, OnErr};
 
+use crate::append::Append;
 use crate::count::Count;
 use crate::emitter::Emitter;
-use crate::room::Room;
 use std::alloc::AllocError;
 
 /// What has a text.
@@ -30,16 +30,16 @@ pub fn length<T: Emit>(value: &T) -> u64
 
 /// Puts a text at the end of `out`.
 ///
-/// Memory is reserved once, before the first byte. Where that fails, the answer is [`AllocError`],
-/// and `out` holds what it held.
+/// `out` grows as the text does. Where there is no memory for that, the answer is [`AllocError`], and
+/// `out` holds what it held.
+#[tactic(auto, using(crate::proofs::Folds::append_folded, crate::proofs::Folds::front_kept))]
 pub fn write<T: Emit>(value: &T, out: &mut Vec<u8>) -> Result<(), AllocError>
     ensures ok { OnOk result (out.new.items ≡ out.old.items ++ T.text value.now) }
     ensures err { OnErr result (out.new.items ≡ out.old.items) }
 {
-    let mut room = Room::behind(out, length(value))?;
-    value.emit(&mut room);
-    *out = room.into_vec();
-    Ok(())
+    let mut append = Append::behind(out);
+    value.emit(&mut append);
+    append.give_back(out)
 }
 
 /// A text with a line feed behind it.

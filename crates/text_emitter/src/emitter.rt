@@ -8,8 +8,8 @@ use exact_decimal::Number;
 
 /// What takes the bytes of a text, one after another.
 ///
-/// It takes any text: one that counts stops at its greatest number, and one that keeps the bytes
-/// stops where its room ends. So no writer has to know how much room is left.
+/// It takes any text: one that counts stops at its greatest number, and one that keeps the bytes tells
+/// in the end that memory failed. So no writer has to know how much room is left, and none can fail.
 pub trait Emitter {
     ghost use Rattle.std.specs.Prelude.{ℕ};
 

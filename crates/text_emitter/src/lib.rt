@@ -5,11 +5,12 @@
 //! them to a vector.
 #![tactic(auto)]
 
+mod all_bytes;
+mod append;
 mod count;
 mod emit;
 mod emitter;
 mod last_integer;
-mod room;
 #[cfg(test)]
 mod tests;
 

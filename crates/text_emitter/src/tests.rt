@@ -1,5 +1,4 @@
 use super::{Emit, Emitter, length, write, write_line};
-use crate::room::Room;
 use exact_decimal::Number;
 use std::alloc::{AllocError, Global};
 
@@ -91,14 +90,19 @@ fn writes_all_or_nothing(rt: HostRuntime) {
     assert_eq!(rt; out.as_slice(), expected);
 }
 
-// With the second allocation failing, the vector cannot grow past its room.
+// With any allocation failing, what was there stays. The text is longer than the vector's first growths.
 #[test]
-fn stops_at_the_end_of_the_room(rt: HostRuntime) -> Result<(), AllocError> {
+fn keeps_what_was_there(rt: HostRuntime) -> Result<(), AllocError> {
+    let sample = Sample {
+        value: number("-1.25"),
+        time: u64::MAX,
+    };
+    let whole = "> up -1.25 18446744073709551615 18446744073709551615 # -1.25";
     let mut out = Vec::from_slice(rt.alloc(), b"> ")?;
-    let mut room = Room::behind(&mut out, 3)?;
-    room.put(b"ab");
-    room.put(b"cdefghijklmnopqrstuvwxyz");
-    room.put(b"!");
-    assert_eq!(rt; room.into_vec().as_slice(), b"> abc".as_slice());
+    let expected: &str = match write(&sample, &mut out) {
+        Ok(()) => whole,
+        Err(_) => "> ",
+    };
+    assert_eq!(rt; std::str::from_utf8(&out), Ok(expected));
     Ok(())
 }

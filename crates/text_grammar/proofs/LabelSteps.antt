@@ -12,9 +12,9 @@ use Rattle.page_model.specs.TextReading.{label_at, labels_at, middle_at, middle_
 use Rattle.line_scan.specs.declared.scan.Cut.{Cut}
 use Rattle.line_scan.specs.declared.labels.AfterLabel.{AfterLabel}
 use Rattle.line_scan.specs.declared.labels.AfterLabel.TheVariants.{End, More, Broken}
-use Rattle.line_scan.specs.LabelReading.{behind_labels, IsAfter}
+use Rattle.line_scan.specs.LabelReading.{behind_labels, IsAfter, IsNext}
 use Rattle.line_scan.specs.Cuts.{IsNamed}
-use Rattle.text_grammar.specs.LabelReading.{opened_at, IsNext}
+use Rattle.text_grammar.specs.LabelReading.{opened_at}
 
 -- ---- a label
 
@@ -64,9 +64,11 @@ grown_labels before l (Some y) = ap (λ (ls : List Label). Some (ls, y.1)) (sym 
 
 -- behind a label
 pub next-label : (w cs rest : List ℕ) (before after : List Label) (l : Label) (next : AfterLabel) → cs ≡ without_leading_blanks w → None ≡ behind (125 ∷ []) cs → label_at cs ≡ Some (l, rest)
-    → after ≡ before ++ l ∷ [] → IsUtf8 rest → IsAfter rest next → IsNext w before after next
-next-label w cs rest before after l (End r) e none found grown u h = λ more.
-    ap (behind_labels before) (labels_after cs (l, rest) (sym none) found more w e) ∙ rw (h, grown) refl
+    → after ≡ before ++ l ∷ [] → IsUtf8 rest → IsAfter rest next → IsNext labels_at w before after next
+next-label w cs rest before after l (End r) e none found grown u h = (
+  h.1 u,
+  λ more. ap (behind_labels before) (labels_after cs (l, rest) (sym none) found more w e) ∙ rw (h.0, grown) refl,
+)
 next-label w cs rest before after l (More r) e none found grown u h = (
   h.2 u,
   λ more. ap (behind_labels before) (labels_after cs (l, rest) (sym none) found more w e) ∙ rw (h.0, h.1, grown) (grown_labels before l (labels_at more r.now)),
@@ -74,11 +76,7 @@ next-label w cs rest before after l (More r) e none found grown u h = (
 next-label w cs rest before after l Broken e none found grown u h = λ more.
     labels_after cs (l, rest) (sym none) found more w e ∙ rw (h.0, h.1) refl
 
--- none are left to read
-pub labels-nothing : (cs : List ℕ) → labels_at 0 cs ≡ None
-unfolding labels_at
-labels-nothing cs = refl
-
+-- with none read before
 pub no_labels : (o : Option (List Label × List ℕ)) → o ≡ behind_labels [] o
 no_labels None = refl
 no_labels (Some x) = refl

@@ -1,5 +1,3 @@
 pub mod Digits
 pub mod LabelSteps
 pub mod LineSteps
-pub mod PageSteps
-pub mod PageEnds

@@ -1,10 +1,8 @@
 -- What a line says, step by step.
-use Rattle.std.proofs.Common.{◌≡◌, ℕ, ◌<◌, ◌≤◌, Bool, true, false, cond, nat_lt, List, [], ◌∷◌, ◌++◌, length, Option, Some, None, Result, Ok, Err, refl, sym, ap, subst, ◌∙◌, arith, IsUtf8, codes, IfOk, inl, inr}
-use Rattle.std.specs.Prelude.{take_while, option_map, find}
-use Rattle.std.specs.Str.{bytes_eq, is_utf8}
+use Rattle.std.proofs.Common.{◌≡◌, ℕ, ◌<◌, Bool, true, false, cond, List, [], ◌∷◌, ◌++◌, length, Option, Some, None, Ok, Err, refl, sym, ap, subst, ◌∙◌, arith, IsUtf8, codes, inl, inr}
+use Rattle.std.specs.Prelude.{take_while, option_map}
+use Rattle.std.specs.Str.{bytes_eq}
 use Rattle.std.specs.Cmp.Lexicographic.{bytes_decides}
-use Rattle.std.proofs.lemmas.Bool.Decides.{nat_tests}
-use Rattle.std.proofs.lemmas.Str.{IsUtf8-from_is_utf8, is_utf8-from_IsUtf8}
 use Rattle.label_sets.specs.declared.label.Label.{Label}
 use Rattle.label_sets.specs.Lists.{◌>>=◌, when_true, rest_while, behind, some_passes}
 use Rattle.label_sets.specs.Names.{is_metric_name, is_metric_char}
@@ -16,19 +14,18 @@ use Rattle.exact_decimal.proofs.Laws.{not_a_number}
 use Rattle.page_model.specs.declared.format.Format.TheVariants.{Text}
 use Rattle.page_model.specs.declared.format.Treatment.{Treatment}
 use Rattle.page_model.specs.declared.rule.Rule.TheVariants as rules
-use Rattle.page_model.specs.Written.{Written, blank, comment, text_setting, line_limit, is_out_of_i64, short_token, has_out_of_range, has_bad_labels}
+use Rattle.page_model.specs.Written.{Written, blank, comment, is_out_of_i64, short_token}
 use Rattle.page_model.specs.TextItems.{is_integer_token, without_leading_blanks, is_not_blank, trimmed}
 use Rattle.page_model.specs.TextReading.{stamp_of, named_at, at_blank, marked_of, middle_at, sample_of, trimmed_of, text_line_of}
-use Rattle.page_model.specs.Faults.{own_fault, line_breaks, line_rules}
-use Rattle.page_model.specs.PageReading.{line_read}
 use Rattle.page_model.proofs.Laws.{while_parts, behind_parts, behind-append}
 use Rattle.std.proofs.lemmas.Bool.{cases_eq}
 use Rattle.line_scan.proofs.Laws.{other_byte, utf8_tail}
 use Rattle.line_scan.specs.declared.scan.Cut.{Cut}
-use Rattle.text_grammar.specs.declared.line.LineRead.{LineRead}
-use Rattle.text_grammar.specs.declared.line.LineRead.TheVariants as reads
+use Rattle.line_scan.specs.declared.line.LineRead.{LineRead}
+use Rattle.line_scan.specs.declared.line.LineRead.TheVariants as reads
 use Rattle.line_scan.specs.Cuts.{IsNamed}
-use Rattle.text_grammar.specs.LineReading.{says_fault, Reads, IsRead, Makes, help_of, type_of, written_sample}
+use Rattle.line_scan.specs.LineReading.{says_fault, Reads}
+use Rattle.text_grammar.specs.LineReading.{Makes, help_of, type_of, written_sample}
 
 -- ---- timestamps
 
@@ -91,17 +88,17 @@ token_number v h = go (is_number_token v) refl
     go false e = absurd (h ((not_a_number v).1 e))
 
 module _ (t : Treatment) (name : List ℕ) (labels : List Label) (v : List ℕ) (stamp : Option (List ℕ)) where
-  pub sample-no_number : number_read v ≡ Err faults.NotANumber → says_fault t (when_true (is_number_token v) (written_sample name labels v stamp)) ≡ Some rules.Syntax
+  pub sample-no_number : number_read v ≡ Err faults.NotANumber → says_fault Text t (when_true (is_number_token v) (written_sample name labels v stamp)) ≡ Some rules.Syntax
   sample-no_number e = rw ((not_a_number v).0 e) refl
 
-  pub sample-value_range : number_read v ≡ Err faults.OutOfRange → says_fault t (when_true (is_number_token v) (written_sample name labels v stamp)) ≡ Some rules.Range
+  pub sample-value_range : number_read v ≡ Err faults.OutOfRange → says_fault Text t (when_true (is_number_token v) (written_sample name labels v stamp)) ≡ Some rules.Range
   sample-value_range e = rw (token_number v (λ h. absurd cc), e) refl
 
-  pub sample-stamp_range : (n : Number) → number_read v ≡ Ok n → some_passes is_out_of_i64 stamp ≡ true → says_fault t (when_true (is_number_token v) (written_sample name labels v stamp)) ≡ Some rules.Range
+  pub sample-stamp_range : (n : Number) → number_read v ≡ Ok n → some_passes is_out_of_i64 stamp ≡ true → says_fault Text t (when_true (is_number_token v) (written_sample name labels v stamp)) ≡ Some rules.Range
   sample-stamp_range n e h = rw (token_number v (λ g. absurd cc), e, h) refl
 
   pub sample-made : (n : Number) (read : LineRead) → number_read v ≡ Ok n → some_passes is_out_of_i64 stamp ≡ false
-      → Makes t name labels n (option_map (λ token. number (short_token token)) stamp) read → Reads t (when_true (is_number_token v) (written_sample name labels v stamp)) read
+      → Makes t name labels n (option_map (λ token. number (short_token token)) stamp) read → Reads Text t (when_true (is_number_token v) (written_sample name labels v stamp)) read
   sample-made n (reads.Item item) e h m = (rw (token_number v (λ g. absurd cc), e, h, m.0) refl, rw (token_number v (λ g. absurd cc), e, m.1) refl)
   sample-made n (reads.Refused rule) e h m = rw (token_number v (λ g. absurd cc), e, h, m.0, m.1) refl
 
@@ -158,42 +155,6 @@ pub reads_on : {A : Type 0} (b : Bool) (x y : A) → Some y ≡ cond b None (Som
 reads_on true x y h = absurd cc
 reads_on false x y h = (refl, cc)
 
-pub not_utf8 : (bs : List ℕ) → (IsUtf8 bs → ⊥) → is_utf8 bs ≡ false
-not_utf8 bs h = go (is_utf8 bs) refl
-  where
-    go : (b : Bool) → is_utf8 bs ≡ b → is_utf8 bs ≡ false
-    go true e = absurd (h (IsUtf8-from_is_utf8 bs e))
-    go false e = e
-
-module _ (t : Treatment) (limit : ℕ) (line : List ℕ) (short : length line ≤ line_limit t) where
-  fits : nat_lt (line_limit t) (length line) ≡ false
-  fits = grind (arith, nat_tests)
-
-  pub line-not_utf8 : is_utf8 line ≡ false → own_fault (text_setting t limit) (line_read Text line) ≡ Some rules.Utf8
-  unfolding own_fault line_breaks
-  line-not_utf8 h = rw (fits, h) refl
-
-  line-said : is_utf8 line ≡ true → (says : Option Written) → own_fault (text_setting t limit) (record { bytes = line; says = says }) ≡ says_fault t says
-  unfolding own_fault line_breaks
-  line-said u None = rw (fits, u) refl
-  line-said u (Some written) = go (has_out_of_range Text written) (has_bad_labels t written) refl refl
-    where
-      go : (a b : Bool) → has_out_of_range Text written ≡ a → has_bad_labels t written ≡ b → find (line_breaks (text_setting t limit) (record { bytes = line; says = Some written })) line_rules ≡ says_fault t (Some written)
-      go true b e f = rw (fits, u, e) refl
-      go false true e f = rw (fits, u, e, f) refl
-      go false false e f = rw (fits, u, e, f) refl
-
-  pub line-says : is_utf8 line ≡ true → own_fault (text_setting t limit) (line_read Text line) ≡ says_fault t (text_line_of line)
-  line-says u = line-said u (text_line_of line)
-
-pub line-read : (t : Treatment) (line : List ℕ) (read : LineRead) → length line ≤ line_limit t → IsUtf8 line → Reads t (text_line_of line) read → IsRead t line read
-line-read t line (reads.Item item) short u h = (λ limit. line-says t limit line short (is_utf8-from_IsUtf8 line u) ∙ h.0, h.1)
-line-read t line (reads.Refused rule) short u h = λ limit. line-says t limit line short (is_utf8-from_IsUtf8 line u) ∙ h
-
-pub if_ok : {A E : Type 0} (P Q : A → Type 0) (r : Result A E) → ((x : A) → P x → Q x) → IfOk r P → IfOk r Q
-if_ok P Q (Ok x) f h = f x h
-if_ok P Q (Err e) f h = h
-
-pub line-trimmed : (t : Treatment) (line w : List ℕ) (read : LineRead) → w ≡ trimmed line → Reads t (trimmed_of w) read → Reads t (text_line_of line) read
+pub line-trimmed : (t : Treatment) (line w : List ℕ) (read : LineRead) → w ≡ trimmed line → Reads Text t (trimmed_of w) read → Reads Text t (text_line_of line) read
 unfolding text_line_of
-line-trimmed t line w read e h = subst (λ (x : List ℕ). Reads t (trimmed_of x) read) e h
+line-trimmed t line w read e h = subst (λ (x : List ℕ). Reads Text t (trimmed_of x) read) e h

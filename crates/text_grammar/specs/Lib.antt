@@ -1,3 +1,2 @@
 pub mod LabelReading
 pub mod LineReading
-pub mod PageFeeding

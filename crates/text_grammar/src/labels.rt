@@ -5,12 +5,13 @@ ghost use Rattle.page_model.specs.TextReading.{begins_blank, label_at, labels_at
 ghost use Rattle.page_model.specs.TextItems.{without_leading_blanks};
 ghost use Rattle.label_sets.specs.Lists.{when_true};
 ghost use Rattle.line_scan.specs.LabelReading.{IsLabelFound};
-ghost use Rattle.text_grammar.specs.LabelReading.{IsNext, opened_at, then_blanks};
+ghost use Rattle.text_grammar.specs.LabelReading.{opened_at, then_blanks};
 
 use crate::blanks::{begins_blank, without_leading_blanks};
 use label_sets::{Label, Memory};
 use line_scan::{
-    AfterLabel, LabelChar, LabelParts, after_label, behind, cut_name, label_of, quoted_at,
+    AfterLabel, LabelChar, LabelList, LabelParts, after_label, behind, cut_name, label_of,
+    labels_at, quoted_at,
 };
 use std::alloc::Global;
 
@@ -57,47 +58,33 @@ fn label_at(bytes: &[u8]) -> Option<LabelParts<'_>>
     })
 }
 
-/// Adds the label at the front, and answers what follows it; at a closing brace there is none.
-fn next_label<'a>(
-    alloc: Global,
-    bytes: &'a [u8],
-    labels: &mut Vec<Label>,
-) -> Result<AfterLabel<'a>, Memory>
-    requires { IsUtf8 bytes.now }
-    ensures { IfOk result (IsNext bytes.now labels.old.items labels.new.items) }
-{
-    let bytes = without_leading_blanks(bytes);
-    if let Some(after) = behind(b'}', bytes) {
-        return Ok(AfterLabel::End(after));
-    }
-    let Some(parts) = label_at(bytes) else {
-        return Ok(AfterLabel::Broken);
-    };
-    let label = label_of(alloc, parts)?;
-    labels.push(label)?;
-    Ok(after_label(parts.rest))
-}
+/// The labels of a list with blanks between its parts.
+struct BlankedList;
 
-/// Adds the labels up to the closing brace, and answers what stands behind it.
-fn labels_at<'a>(
-    alloc: Global,
-    bytes: &'a [u8],
-    labels: &mut Vec<Label>,
-) -> Result<Option<&'a [u8]>, Memory>
-    requires text { IsUtf8 bytes.now }
-    requires none { labels.old.items ≡ [] }
-    ensures { IfOk result (λ rest. option_map (λ cs. (labels.new.items, cs)) (option_copied rest) ≡ labels_at (length bytes.now) bytes.now) }
-{
-    let mut rest = bytes;
-    // Each label takes bytes, so there are no more labels than bytes.
-    for _ in 0..bytes.len() {
-        match next_label(alloc, rest, labels)? {
-            AfterLabel::End(after) => return Ok(Some(after)),
-            AfterLabel::More(more) => rest = more,
-            AfterLabel::Broken => return Ok(None),
+impl LabelList for BlankedList {
+    ghost use Rattle.page_model.specs.TextReading.{labels_at};
+    ghost use Rattle.line_scan.proofs.Laws.{text-no_labels};
+
+    ghost labels_at = { labels_at };
+
+    fn next_label<'a>(
+        alloc: Global,
+        bytes: &'a [u8],
+        labels: &mut Vec<Label>,
+    ) -> Result<AfterLabel<'a>, Memory> {
+        let bytes = without_leading_blanks(bytes);
+        if let Some(after) = behind(b'}', bytes) {
+            return Ok(AfterLabel::End(after));
         }
+        let Some(parts) = label_at(bytes) else {
+            return Ok(AfterLabel::Broken);
+        };
+        let label = label_of(alloc, parts)?;
+        labels.push(label)?;
+        Ok(after_label(parts.rest))
     }
-    Ok(None)
+
+    ghost nothing = { text-no_labels };
 }
 
 /// What stands behind blanks, of which there is one at least.
@@ -121,7 +108,7 @@ fn braced_labels<'a>(
     ensures { IfOk result (λ rest. option_map (λ cs. (labels.new.items, cs)) (option_copied rest)
         ≡ then_blanks (labels_at (length inner.now) inner.now)) }
 {
-    let Some(rest) = labels_at(alloc, inner, labels)? else {
+    let Some(rest) = labels_at::<BlankedList>(alloc, inner.len(), inner, labels)? else {
         return Ok(None);
     };
     Ok(Some(without_leading_blanks(rest)))

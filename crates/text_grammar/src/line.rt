@@ -6,9 +6,10 @@ ghost use Rattle.label_sets.specs.Lists.{when_true};
 ghost use Rattle.exact_decimal.specs.Tokens.{is_number_token};
 ghost use Rattle.page_model.specs.TextItems.{is_integer_token};
 ghost use Rattle.page_model.specs.TextReading.{kind_named, marked_of, named_at, sample_of, trimmed_of};
-ghost use Rattle.page_model.specs.Written.{line_limit};
+ghost use Rattle.page_model.specs.declared.format.Format.TheVariants.{Text};
 ghost use Rattle.page_model.specs.declared.format.Treatment.{Treatment as AnyTreatment};
-ghost use Rattle.text_grammar.specs.LineReading.{Reads, IsRead, IsNamedAt, Makes, help_of, type_of, written_sample};
+ghost use Rattle.line_scan.specs.LineReading.{Reads};
+ghost use Rattle.text_grammar.specs.LineReading.{IsNamedAt, Makes, help_of, type_of, written_sample};
 
 use crate::blanks::{NotBlank, at_blank, trimmed, without_leading_blanks};
 use crate::labels::middle_at;
@@ -16,19 +17,12 @@ use crate::stamp::{optional_number, stamp_of};
 use exact_decimal::{Number, NumberFault};
 use label_sets::{Kind, Label, Memory, Name};
 use line_scan::{
-    Cut, Escapes, MetricChar, behind, cut_chars, cut_name, has_backslash, is_word, own_labels,
-    set_of, unescaped_text,
+    Cut, Escapes, LineRead, MetricChar, behind, cut_chars, cut_name, has_backslash, is_word,
+    own_labels, set_of, unescaped_text,
 };
-use page_model::{Item, Rule, Sample, Treatment};
+use page_feeding::Grammar;
+use page_model::{Format, Item, Rule, Sample, Treatment};
 use std::alloc::Global;
-
-/// What a line gives.
-#[derive(Drop)]
-pub(crate) enum LineRead {
-    Item(Item),
-    /// The least rule that the line alone breaks.
-    Refused(Rule),
-}
 
 /// The metric name behind the word of a descriptor, and what stands behind the blanks that follow it.
 fn named_at(bytes: &[u8]) -> Option<Cut<'_>>
@@ -72,7 +66,7 @@ fn kind_named(word: &[u8]) -> Option<Kind>
 /// A HELP line, from behind its word.
 fn help_line(alloc: Global, bytes: &[u8]) -> Result<LineRead, Memory>
     requires { IsUtf8 bytes.now }
-    ensures { (t : AnyTreatment) → IfOk result (Reads t (help_of bytes.now)) }
+    ensures { (t : AnyTreatment) → IfOk result (Reads Text t (help_of bytes.now)) }
 {
     let Some(cut) = named_at(bytes) else {
         return Ok(LineRead::Refused(Rule::Syntax));
@@ -84,7 +78,7 @@ fn help_line(alloc: Global, bytes: &[u8]) -> Result<LineRead, Memory>
 
 /// A TYPE line, from behind its word.
 fn type_line(alloc: Global, bytes: &[u8]) -> Result<LineRead, Memory>
-    ensures { (t : AnyTreatment) → IfOk result (Reads t (type_of bytes.now)) }
+    ensures { (t : AnyTreatment) → IfOk result (Reads Text t (type_of bytes.now)) }
 {
     let Some(cut) = named_at(bytes) else {
         return Ok(LineRead::Refused(Rule::Syntax));
@@ -99,7 +93,7 @@ fn type_line(alloc: Global, bytes: &[u8]) -> Result<LineRead, Memory>
 /// A line that begins with `#`, from behind that.
 fn marked_line(alloc: Global, bytes: &[u8]) -> Result<LineRead, Memory>
     requires { IsUtf8 bytes.now }
-    ensures { (t : AnyTreatment) → IfOk result (Reads t (marked_of bytes.now)) }
+    ensures { (t : AnyTreatment) → IfOk result (Reads Text t (marked_of bytes.now)) }
 {
     let word = cut_chars::<NotBlank>(without_leading_blanks(bytes));
     if is_word(word.front, "HELP") {
@@ -151,7 +145,7 @@ fn read_sample(
 ) -> Result<LineRead, Memory>
     requires name { IsUtf8 name.now }
     requires stamp { IfSome stamp (λ token. is_integer_token token.now ≡ true) }
-    ensures { IfOk result (Reads treatment (when_true (is_number_token value.now) (written_sample name.now labels.items value.now (option_copied stamp.entry)))) }
+    ensures { IfOk result (Reads Text treatment (when_true (is_number_token value.now) (written_sample name.now labels.items value.now (option_copied stamp.entry)))) }
 {
     let value = match exact_decimal::read(value) {
         Ok(value) => value,
@@ -172,7 +166,7 @@ fn sample_line(
     labels: &mut Vec<Label>,
 ) -> Result<LineRead, Memory>
     requires { IsUtf8 bytes.now }
-    ensures { IfOk result (Reads treatment (sample_of bytes.now)) }
+    ensures { IfOk result (Reads Text treatment (sample_of bytes.now)) }
 {
     let Some(name) = cut_name::<MetricChar>(bytes) else {
         return Ok(LineRead::Refused(Rule::Syntax));
@@ -198,7 +192,7 @@ fn trimmed_line(
     labels: &mut Vec<Label>,
 ) -> Result<LineRead, Memory>
     requires { IsUtf8 line.now }
-    ensures { IfOk result (Reads treatment (trimmed_of line.now)) }
+    ensures { IfOk result (Reads Text treatment (trimmed_of line.now)) }
 {
     if line.is_empty() {
         return Ok(LineRead::Item(Item::Blank));
@@ -209,19 +203,25 @@ fn trimmed_line(
     }
 }
 
-/// The item of a line without its line feed, or the least rule that the line alone breaks. `labels` lends
-/// the room in which the labels are gathered; what it holds is lost.
-pub(crate) fn text_line(
-    alloc: Global,
-    treatment: Treatment,
-    line: &[u8],
-    labels: &mut Vec<Label>,
-) -> Result<LineRead, Memory>
-    requires { length line.now ≤ line_limit treatment }
-    ensures { IfOk result (IsRead treatment line.now) }
-{
-    match std::str::from_utf8(line) {
-        Ok(_) => trimmed_line(alloc, treatment, trimmed(line), labels),
-        Err(_) => Ok(LineRead::Refused(Rule::Utf8)),
+/// The lines of the text format.
+pub struct TextLines;
+
+impl Grammar for TextLines {
+    ghost format = { Text };
+
+    fn format() -> Format {
+        Format::Text
+    }
+
+    fn read_line(
+        alloc: Global,
+        treatment: Treatment,
+        line: &[u8],
+        labels: &mut Vec<Label>,
+    ) -> Result<LineRead, Memory> {
+        match std::str::from_utf8(line) {
+            Ok(_) => trimmed_line(alloc, treatment, trimmed(line), labels),
+            Err(_) => Ok(LineRead::Refused(Rule::Utf8)),
+        }
     }
 }

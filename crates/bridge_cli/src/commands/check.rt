@@ -1,7 +1,7 @@
 //! `check`: whether a page has a fault.
 ghost use Rattle.std.specs.Prelude.{◌≡◌, IfOk, IfErr};
 ghost use Rattle.bridge_cli.specs.declared.status.Status.TheVariants.{Done};
-ghost use Rattle.bridge_cli.specs.declared.words.Command.TheVariants.{CheckText};
+ghost use Rattle.bridge_cli.specs.declared.words.Command.TheVariants.{Check};
 ghost use Rattle.bridge_cli.specs.Statuses.{code_of};
 ghost use Rattle.bridge_cli.specs.Answers.{Answers};
 ghost use Rattle.bridge_cli.specs.CheckTexts as spec;
@@ -13,7 +13,7 @@ use crate::digits::push_number;
 use crate::pages::page_counts;
 use crate::stop::Stop;
 use bridge_ports::Source;
-use page_model::PageCounts;
+use page_model::{Format, PageCounts};
 use std::alloc::{AllocError, Global};
 
 /// The line of a page with these numbers and without a fault.
@@ -31,12 +31,16 @@ fn counted_text(alloc: Global, counts: PageCounts) -> Result<Vec<u8>, AllocError
 }
 
 /// The families and samples of the page on the input.
-pub(super) fn check<I: Source>(alloc: Global, input: &mut I) -> Result<Vec<u8>, Stop>
-    ensures text { IfOk result (λ text. HasAnswer (Answers CheckText) (I.left input.old) (code_of Done) text.items) }
-    ensures stop { IfErr result (StopsAs (Answers CheckText) (I.left input.old)) }
+pub(super) fn check<I: Source>(
+    alloc: Global,
+    format: Format,
+    input: &mut I,
+) -> Result<Vec<u8>, Stop>
+    ensures text { IfOk result (λ text. HasAnswer (Answers (Check format)) (I.left input.old) (code_of Done) text.items) }
+    ensures stop { IfErr result (StopsAs (Answers (Check format)) (I.left input.old)) }
     ensures input { Leaves (I.left input.old) (I.left input.new)
         (I.read_faults input.old) (I.read_faults input.new) result }
 {
-    let counts = page_counts(alloc, input)?;
+    let counts = page_counts(alloc, format, input)?;
     Ok(counted_text(alloc, counts)?)
 }

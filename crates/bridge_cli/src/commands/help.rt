@@ -4,12 +4,13 @@ ghost use Rattle.bridge_cli.specs.HelpTexts.{help_text, version_text};
 
 /// What `--help` prints: each form that is built, with an example.
 pub const HELP: &str = "\
-bridge check text
-    reads a page on the input and prints its families and samples, or its first fault
+bridge check FORMAT
+    reads a page on the input and prints its families and samples, or its first fault;
+    FORMAT is text or openmetrics
     bridge check text
-bridge convert text JOB INSTANCE NANOS
+bridge convert FORMAT JOB INSTANCE NANOS
     reads a page on the input and prints the OTLP JSON text of one event
-    bridge convert text node localhost:9100 1700000000000000000
+    bridge convert openmetrics app localhost:8000 1700000000000000000
 bridge --help
     prints these lines
 bridge --version

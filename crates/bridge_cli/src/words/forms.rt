@@ -1,11 +1,13 @@
 //! The forms of the command line.
-ghost use Rattle.std.specs.Prelude.{◌≡◌, List, ℕ, [], ◌∷◌, map, codes, string_bytes, IfOk, IfSome, IfNone, OnErr};
-ghost use Rattle.bridge_cli.specs.CommandWords.{IsCommand, FitNoForm, AskFor, takes_memory};
+ghost use Rattle.std.specs.Prelude.{◌≡◌, ◌≢◌, List, ℕ, [], ◌∷◌, map, codes, string_bytes, IfOk, IfSome, IfNone, OnErr};
+ghost use Rattle.page_model.specs.declared.format.Format.{Format as AnyFormat};
+ghost use Rattle.bridge_cli.specs.CommandWords.{IsCommand, FitNoForm, AskFor, format_word, takes_memory};
 
 use super::Command;
 use super::numbers::number;
 use super::place::host_and_port;
 use crate::limits::{MOST_JOB_BYTES, MOST_NANOS};
+use page_model::Format;
 use std::alloc::{AllocError, Global};
 use target_core::Target;
 
@@ -23,30 +25,48 @@ fn lone_word(word: &str) -> Option<Command>
     None
 }
 
+/// The format that a word names.
+fn format_named(word: &str) -> Option<Format>
+    ensures found { IfSome result (λ format. word.now ≡ format_word format) }
+    ensures none { IfNone result ((format : AnyFormat) → word.now ≢ format_word format) }
+{
+    if word == "text" {
+        return Some(Format::Text);
+    }
+    if word == "openmetrics" {
+        return Some(Format::OpenMetrics);
+    }
+    None
+}
+
 /// The command that two words ask for.
 fn two_words(verb: &str, format: &str) -> Option<Command>
     ensures found { IfSome result (IsCommand (verb.now ∷ format.now ∷ [])) }
     ensures none { IfNone result (FitNoForm (verb.now ∷ format.now ∷ [])) }
 {
-    if verb == "check" && format == "text" {
-        return Some(Command::CheckText);
+    if verb != "check" {
+        return None;
     }
-    None
+    match format_named(format) {
+        Some(format) => Some(Command::Check { format }),
+        None => None,
+    }
 }
 
-/// The conversion that a job, an instance and a time ask for.
+/// The conversion that a format, a job, an instance and a time ask for.
 fn conversion(
     alloc: Global,
+    format: Format,
     job: &str,
     instance: &str,
     time: &str,
 ) -> Result<Option<Command>, AllocError>
     ensures found { IfOk result (λ found. IfSome found
-        (IsCommand (codes "convert" ∷ codes "text" ∷ job.now ∷ instance.now ∷ time.now ∷ []))) }
+        (IsCommand (codes "convert" ∷ format_word format ∷ job.now ∷ instance.now ∷ time.now ∷ []))) }
     ensures none { IfOk result (λ found. IfNone found
-        (FitNoForm (codes "convert" ∷ codes "text" ∷ job.now ∷ instance.now ∷ time.now ∷ []))) }
+        (FitNoForm (codes "convert" ∷ format_word format ∷ job.now ∷ instance.now ∷ time.now ∷ []))) }
     ensures memory { OnErr result (AskFor takes_memory
-        (codes "convert" ∷ codes "text" ∷ job.now ∷ instance.now ∷ time.now ∷ [])) }
+        (codes "convert" ∷ format_word format ∷ job.now ∷ instance.now ∷ time.now ∷ [])) }
 {
     if job.is_empty() {
         return Ok(None);
@@ -63,7 +83,11 @@ fn conversion(
         None => return Ok(None),
     };
     let target = Target::copied(alloc, job, instance, place.host, place.port)?;
-    Ok(Some(Command::ConvertText { target, nanos }))
+    Ok(Some(Command::Convert {
+        format,
+        target,
+        nanos,
+    }))
 }
 
 /// The command that the words ask for; `None` where they fit no form.
@@ -79,10 +103,17 @@ pub(crate) fn command(alloc: Global, words: &[String]) -> Result<Option<Command>
             if verb.as_str() != "convert" {
                 return Ok(None);
             }
-            if format.as_str() != "text" {
-                return Ok(None);
-            }
-            conversion(alloc, job.as_str(), instance.as_str(), time.as_str())
+            let format = match format_named(format.as_str()) {
+                Some(format) => format,
+                None => return Ok(None),
+            };
+            conversion(
+                alloc,
+                format,
+                job.as_str(),
+                instance.as_str(),
+                time.as_str(),
+            )
         }
         _ => Ok(None),
     }

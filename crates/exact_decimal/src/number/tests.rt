@@ -11,7 +11,7 @@ enum Seen {
     Fault(NumberFault),
 }
 
-const ROWS: [(&str, Seen); 61] = [
+const READ: [(&str, Seen); 34] = [
     ("+Inf", Seen::Up),
     ("-inf", Seen::Down),
     ("nan", Seen::NotANumber),
@@ -20,17 +20,11 @@ const ROWS: [(&str, Seen); 61] = [
     ("5.", Seen::Decimal(false, 5, 0)),
     ("1e+06", Seen::Decimal(false, 1, 6)),
     ("0e999999", Seen::Decimal(false, 0, 0)),
-    ("0x1p3", Seen::Fault(NumberFault::NotANumber)),
     (
         "1.7976931348623157e+308",
         Seen::Decimal(false, 17976931348623157, 292),
     ),
     ("5e-324", Seen::Decimal(false, 5, -324)),
-    ("1e309", Seen::Fault(NumberFault::OutOfRange)),
-    (
-        "999999999999999999999999999999999999999",
-        Seen::Fault(NumberFault::OutOfRange),
-    ),
     (
         "10000000000000000000000000000000000000000",
         Seen::Decimal(false, 1, 40),
@@ -38,31 +32,12 @@ const ROWS: [(&str, Seen); 61] = [
     ("1e20", Seen::Decimal(false, 1, 20)),
     ("0.00001", Seen::Decimal(false, 1, -5)),
     ("0.000001", Seen::Decimal(false, 1, -6)),
-    (".", Seen::Fault(NumberFault::NotANumber)),
-    ("", Seen::Fault(NumberFault::NotANumber)),
-    ("-", Seen::Fault(NumberFault::NotANumber)),
-    ("e5", Seen::Fault(NumberFault::NotANumber)),
-    ("1e", Seen::Fault(NumberFault::NotANumber)),
-    ("1e+", Seen::Fault(NumberFault::NotANumber)),
-    ("1.2.3", Seen::Fault(NumberFault::NotANumber)),
-    ("+-1", Seen::Fault(NumberFault::NotANumber)),
-    ("1 ", Seen::Fault(NumberFault::NotANumber)),
-    (" 1", Seen::Fault(NumberFault::NotANumber)),
-    ("inf1", Seen::Fault(NumberFault::NotANumber)),
-    ("+nan", Seen::Fault(NumberFault::NotANumber)),
-    ("-NaN", Seen::Fault(NumberFault::NotANumber)),
     ("NaN", Seen::NotANumber),
-    ("infinit", Seen::Fault(NumberFault::NotANumber)),
     ("iNfInItY", Seen::Up),
     ("-INFINITY", Seen::Down),
     ("+5", Seen::Decimal(false, 5, 0)),
-    ("1_0", Seen::Fault(NumberFault::NotANumber)),
-    ("1e5.0", Seen::Fault(NumberFault::NotANumber)),
     ("1e308", Seen::Decimal(false, 1, 308)),
     ("1e-400", Seen::Decimal(false, 1, -400)),
-    ("1e-401", Seen::Fault(NumberFault::OutOfRange)),
-    ("10e308", Seen::Fault(NumberFault::OutOfRange)),
-    ("0.1e-400", Seen::Fault(NumberFault::OutOfRange)),
     (
         "99999999999999999999999999999999999999",
         Seen::Decimal(false, 99999999999999999999999999999999999999, 0),
@@ -72,20 +47,8 @@ const ROWS: [(&str, Seen); 61] = [
         Seen::Decimal(false, 1, 0),
     ),
     (
-        "000000000000000000000000000000000000000000000000000000000000000000000000000000000000000000000000000000000000000000000000000000001",
-        Seen::Fault(NumberFault::OutOfRange),
-    ),
-    (
         "00000000000000000000000000000000000000000000000000000000000000000000000000000000000000000000000000000000000000000000000000000000",
         Seen::Decimal(false, 0, 0),
-    ),
-    (
-        "000000000000000000000000000000000000000000000000000000000000000000000000000000000000000000000000000000000000000000000000000000000",
-        Seen::Fault(NumberFault::OutOfRange),
-    ),
-    (
-        "111111111111111111111111111111111111110001",
-        Seen::Fault(NumberFault::OutOfRange),
     ),
     (
         "0.000011111111111111111111111111111111111111",
@@ -95,10 +58,6 @@ const ROWS: [(&str, Seen); 61] = [
     (
         "1e0000000000000000000000000000000000000003",
         Seen::Decimal(false, 1, 3),
-    ),
-    (
-        "-1e99999999999999999999",
-        Seen::Fault(NumberFault::OutOfRange),
     ),
     ("0.0e-99999999999999999999", Seen::Decimal(false, 0, 0)),
     ("36.6", Seen::Decimal(false, 366, -1)),
@@ -123,7 +82,23 @@ const ROWS: [(&str, Seen); 61] = [
         Seen::Decimal(false, 12345678901234567890123456789012345678, -437),
     ),
     ("-.5", Seen::Decimal(true, 5, -1)),
-    ("٣", Seen::Fault(NumberFault::NotANumber)),
+];
+
+const NO_NUMBERS: [&str; 18] = [
+    "0x1p3", ".", "", "-", "e5", "1e", "1e+", "1.2.3", "+-1", "1 ", " 1", "inf1", "+nan", "-NaN",
+    "infinit", "1_0", "1e5.0", "٣",
+];
+
+const OUT_OF_RANGE: [&str; 9] = [
+    "1e309",
+    "999999999999999999999999999999999999999",
+    "1e-401",
+    "10e308",
+    "0.1e-400",
+    "000000000000000000000000000000000000000000000000000000000000000000000000000000000000000000000000000000000000000000000000000000001",
+    "000000000000000000000000000000000000000000000000000000000000000000000000000000000000000000000000000000000000000000000000000000000",
+    "111111111111111111111111111111111111110001",
+    "-1e99999999999999999999",
 ];
 
 fn parts_of(number: &Number) -> Seen {
@@ -144,8 +119,22 @@ fn read_parts(token: &str) -> Seen {
 
 #[test]
 fn reads_tokens(rt: HostRuntime) {
-    for (token, want) in ROWS {
+    for (token, want) in READ {
         assert_eq!(rt; read_parts(token), want, "at {token}");
+    }
+    for token in NO_NUMBERS {
+        assert_eq!(rt;
+            read_parts(token),
+            Seen::Fault(NumberFault::NotANumber),
+            "at {token}"
+        );
+    }
+    for token in OUT_OF_RANGE {
+        assert_eq!(rt;
+            read_parts(token),
+            Seen::Fault(NumberFault::OutOfRange),
+            "at {token}"
+        );
     }
 }
 

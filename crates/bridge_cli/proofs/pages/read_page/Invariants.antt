@@ -5,7 +5,7 @@ use Rattle.bridge_cli.proofs.pages.read_page.Given as goal
 
 abbrev pub invariant-loop-page : goal.invariant-loop-page
 invariant-loop-page g l =
-    WasFed (g.I.Source.left l.initial.input) (g.I.Source.left l.input) l.taken l.page
+    WasFed g.G.Grammar.format (g.I.Source.left l.initial.input) (g.I.Source.left l.input) l.taken l.page
     × (g.I.Source.read_faults l.input ≡ g.I.Source.read_faults l.initial.input)
 
 abbrev pub decreases-loop-page : goal.decreases-loop-page

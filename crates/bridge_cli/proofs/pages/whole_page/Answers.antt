@@ -1,11 +1,7 @@
-use Rattle.bridge_cli.specs.PageAnswers.{page_setting, IsPageAnswer}
-use Rattle.bridge_cli.specs.StopAnswers.{StopsAs}
-use Rattle.bridge_cli.proofs.PageLaws.{stop_has, fault_answer}
 use Rattle.bridge_cli.proofs.pages.whole_page.Goals as goal
 
-pub returns-in_err-page-clause-stop : goal.returns-in_err-page-clause-stop
-returns-in_err-page-clause-stop g c = λ text_of. stop_has (StopsAs (IsPageAnswer page_setting text_of) _) _ _ c.from_residual-in_err-page.ensures.1 (c.in_err-page.ensures.stop text_of)
+pub returns-in-Text-clause-stop : goal.returns-in-Text-clause-stop
+returns-in-Text-clause-stop g c = rw c.in-Text.is c.page_of.ensures.stop
 
-pub returns-in_err-finish-clause-stop : goal.returns-in_err-finish-clause-stop
-returns-in_err-finish-clause-stop g c = λ text_of.
-    stop_has (StopsAs (IsPageAnswer page_setting text_of) _) _ _ c.from_residual-in_err-finish.ensures.1 (fault_answer _ c.in_ok-page.page _ text_of c.in_ok-page.ensures.fed c.in_err-finish.ensures)
+pub returns-in-OpenMetrics-clause-stop : goal.returns-in-OpenMetrics-clause-stop
+returns-in-OpenMetrics-clause-stop g c = rw c.in-OpenMetrics.is c.page_of-in-OpenMetrics.ensures.stop

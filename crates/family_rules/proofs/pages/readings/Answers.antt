@@ -1,6 +1,6 @@
 use Rattle.std.proofs.Common.{◌≡◌, ◌∙◌, [], ap, arith}
 use Rattle.std.specs.Vec.Iter.{into_iter_items}
-use Rattle.family_rules.specs.Steps.{readings_at}
+use Rattle.family_rules.specs.Made.{readings_at}
 use Rattle.family_rules.proofs.Loops.{no_length, no_values, readings_end, none_left}
 use Rattle.family_rules.proofs.pages.readings.Goals as goal
 use Rattle.family_rules.proofs.pages.readings.Goals.{in-None, in-Some+in_ok-next+in_default}

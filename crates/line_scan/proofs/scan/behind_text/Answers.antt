@@ -1,4 +1,4 @@
-use Rattle.std.proofs.Common.{◌≡◌, ◌∙◌, ap, sym, true, nat_eq, arith, length, ◌≤◌}
+use Rattle.std.proofs.Common.{◌≡◌, ◌∙◌, ap, sym, true, nat_eq, arith}
 use Rattle.std.specs.List.{starts_with}
 use Rattle.line_scan.proofs.Cutting.{text-behind}
 use Rattle.line_scan.proofs.scan.behind_text.Goals as goal

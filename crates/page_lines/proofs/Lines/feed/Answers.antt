@@ -1,7 +1,8 @@
 -- A step behind the line that was told of before.
 use Rattle.std.proofs.Common.{◌+◌}
 use Rattle.page_lines.specs.Feeding.{IsStep}
-use Rattle.page_lines.proofs.Standing.{step-reached, step-only, step-number, step-line_stays, step-past_stays}
+use Rattle.page_lines.proofs.Standing.{step-reached}
+use Rattle.page_lines.proofs.PageEnds.{step-only, step-number, step-line_stays, step-past_stays}
 use Rattle.page_lines.proofs.Lines.feed.Goals as goal
 
 pub returns-in-Some : goal.returns-in-Some

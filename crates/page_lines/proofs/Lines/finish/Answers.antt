@@ -2,7 +2,7 @@
 use Rattle.std.proofs.Common.{◌≡◌, ◌<◌, length, refl, sym, ap, ◌∙◌, arith, vec_len}
 use Rattle.std.proofs.lemmas.Bool.Decides.{nat_tests}
 use Rattle.std.proofs.lemmas.List.{nil_from_length}
-use Rattle.page_lines.proofs.Standing.{end-clean, end-open, end-passing, stands-next}
+use Rattle.page_lines.proofs.PageEnds.{end-clean, end-open, end-passing, stands-next}
 use Rattle.page_lines.proofs.Lines.finish.Goals as goal
 
 pub returns-in-Behind-clause-end : goal.returns-in-Behind-clause-end

@@ -2,4 +2,4 @@ use Rattle.bridge_cli.proofs.PageLaws.{fault_of}
 use Rattle.bridge_cli.proofs.pages.FedPage.count.Goals as goal
 
 pub returns-in-Faulty : goal.returns-in-Faulty
-returns-in-Faulty c = λ bytes fed. fault_of bytes c.in-Faulty.line c.in-Faulty.rule (rw c.in-Faulty.is at fed)
+returns-in-Faulty g c = λ bytes fed. fault_of _ bytes c.in-Faulty.line c.in-Faulty.rule (rw c.in-Faulty.is at fed)

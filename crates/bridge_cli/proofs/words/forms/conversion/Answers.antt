@@ -1,7 +1,7 @@
 use Rattle.std.proofs.Common.{[], ◌∷◌, refl}
 use Rattle.std.specs.Prelude.{codes}
-use Rattle.bridge_cli.specs.CommandWords.{AskFor, takes_memory}
-use Rattle.bridge_cli.specs.declared.words.Command.TheVariants.{ConvertText}
+use Rattle.bridge_cli.specs.CommandWords.{AskFor, format_word, takes_memory}
+use Rattle.bridge_cli.specs.declared.words.Command.TheVariants.{Convert}
 use Rattle.bridge_cli.proofs.WordLaws.{at_error, conversion_is, not_zero}
 use Rattle.bridge_cli.proofs.words.forms.conversion.Goals as goal
 
@@ -9,9 +9,9 @@ pub returns-in_err-target-clause-memory : goal.returns-in_err-target-clause-memo
 returns-in_err-target-clause-memory c =
     let place = c.in-Some.ensures.found in
     let time = c.in-Some-number.ensures.found in
-    let asks : AskFor takes_memory (codes "convert" ∷ codes "text" ∷ c.args.job.now ∷ c.args.instance.now ∷ c.args.time.now ∷ []) = (
-      ConvertText (record { job = c.args.job.now; instance = c.args.instance.now; host = c.in-Some.place.host.now; port = c.in-Some.place.port }) c.in-Some-number.nanos,
-      conversion_is c.args.job.now c.args.instance.now c.args.time.now _ _ _ (not_zero _ _ c.is_empty.ensures c.if-is_empty.false) c.if-job-gt-MOST_JOB_BYTES.false place time.0 time.1,
+    let asks : AskFor takes_memory (codes "convert" ∷ format_word c.args.format ∷ c.args.job.now ∷ c.args.instance.now ∷ c.args.time.now ∷ []) = (
+      Convert c.args.format (record { job = c.args.job.now; instance = c.args.instance.now; host = c.in-Some.place.host.now; port = c.in-Some.place.port }) c.in-Some-number.nanos,
+      conversion_is c.args.format c.args.job.now c.args.instance.now c.args.time.now _ _ _ (not_zero _ _ c.is_empty.ensures c.if-is_empty.false) c.if-job-gt-MOST_JOB_BYTES.false place time.0 time.1,
       refl,
     ) in
     at_error _ _ asks

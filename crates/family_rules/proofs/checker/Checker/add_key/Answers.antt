@@ -34,7 +34,9 @@ returns-clause-added c = λ none.
       setting = (c.self.view_is i).setting;
       left = (c.self.view_is i).left;
       current = (c.self.view_is i).current;
+      runs = (c.self.view_is i).runs;
       seen = c.insert.new.self;
       samples = (c.self.view_is i).samples + 1;
+      ended = (c.self.view_is i).ended;
       stopped = (c.self.view_is i).stopped;
     }) seen c.in_ok-push_value.ensures

@@ -1,8 +1,11 @@
-use Rattle.family_rules.proofs.Taking.{quiet_taken, end_taken}
+use Rattle.std.proofs.Common.{◌∙◌, sym}
+use Rattle.family_rules.specs.Steps.{Takes, TakesAny}
+use Rattle.family_rules.proofs.Taking.{if_ok, any_ended, any_open}
 use Rattle.family_rules.proofs.checker.Checker.take.Goals as goal
 
-pub returns-in-Blank : goal.returns-in-Blank
-returns-in-Blank c = quiet_taken c.args.self.now c.args.item c.in-Blank.is
+pub returns-then-has_ended : goal.returns-then-has_ended
+returns-then-has_ended c = any_ended c.args.self.now c.args.item c.args.self.now (sym c.has_ended.ensures ∙ c.if-has_ended.true)
 
-pub returns-in-Eof : goal.returns-in-Eof
-returns-in-Eof c = end_taken c.args.self.now c.args.item c.in-Eof.is c.left_rule.result c.left_rule.ensures
+pub returns : goal.returns
+returns c = if_ok (Takes c.args.item c.args.self.now c.take_more.new.self) (TakesAny c.args.item c.args.self.now c.take_more.new.self) c.take_more.result
+    (λ broken takes. any_open c.args.self.now c.args.item c.take_more.new.self broken (sym c.has_ended.ensures ∙ c.if-has_ended.false) takes) c.take_more.ensures

@@ -1,20 +1,20 @@
 use Rattle.std.proofs.Common.{◌∙◌, ap, not, arith}
-use Rattle.label_sets.specs.Labels.{without_label}
-use Rattle.sample_groups.specs.Groups.{breaks_order}
+use Rattle.sample_groups.specs.Groups.{shared_labels, breaks_order}
 use Rattle.sample_groups.proofs.Placing.{within_groups, group_here, grown_here}
 use Rattle.sample_groups.proofs.others.Others.add.Goals as goal
 
 pub index_mut-requires : goal.index_mut-requires
 index_mut-requires c =
-    let within = within_groups c.args.self.now c.place_from.new.self c.self.inside.sets c.self.inside.groups.items (without_label c.args.name.now c.args.labels.now) c.in_ok-place.place c.in_ok-place.ensures c.self.view_is c.self.invariant.0.many in
+    let within = within_groups c.args.self.now c.place_from.new.self c.self.inside.sets c.self.inside.groups.items (shared_labels c.args.kind c.args.labels.now) c.in_ok-place.place c.in_ok-place.ensures c.self.view_is c.self.invariant.0.many in
     omega (arith, within, c.self.inside.groups.ok)
 
-pub returns-clause-answer : goal.returns-clause-answer
-returns-clause-answer c = c.in_ok-added.ensures.answer ∙ ap (λ g. not (breaks_order g c.args.part))
-    (group_here c.args.self.now c.place_from.new.self c.self.inside.sets c.self.inside.groups.items (without_label c.args.name.now c.args.labels.now) c.in_ok-place.place c.index_mut.result.now
-    c.in_ok-place.ensures c.self.view_is c.self.invariant.0.many c.index_mut.ensures.value)
-
-pub returns-clause-added : goal.returns-clause-added
-returns-clause-added c = λ added.
-    grown_here c.args.self.now c.place_from.new.self c.self.inside.sets c.self.inside.groups.items (without_label c.args.name.now c.args.labels.now) c.in_ok-place.place c.index_mut.result.now c.add.new.self c.args.part
-    c.in_ok-place.ensures c.self.view_is c.self.invariant.0.many c.index_mut.ensures.value (c.in_ok-added.ensures.added added)
+pub returns : goal.returns
+returns c =
+    let shared = shared_labels c.args.kind c.args.labels.now in record {
+      answer = c.in_ok-added.ensures.answer ∙ ap (λ g. not (breaks_order g c.args.part))
+          (group_here c.args.self.now c.place_from.new.self c.self.inside.sets c.self.inside.groups.items shared c.in_ok-place.place c.index_mut.result.now
+          c.in_ok-place.ensures c.self.view_is c.self.invariant.0.many c.index_mut.ensures.value);
+      added = λ added.
+          grown_here c.args.self.now c.place_from.new.self c.self.inside.sets c.self.inside.groups.items shared c.in_ok-place.place c.index_mut.result.now c.add.new.self c.args.part
+          c.in_ok-place.ensures c.self.view_is c.self.invariant.0.many c.index_mut.ensures.value (c.in_ok-added.ensures.added added);
+    }

@@ -1,22 +1,17 @@
-use Rattle.std.proofs.Common.{◌∙◌, ◌∷◌, ap, sym}
-use Rattle.label_sets.specs.Labels.{without_label}
-use Rattle.sample_groups.specs.Groups.{with_part}
+use Rattle.std.proofs.Common.{◌∙◌, ◌∷◌, sym, subst}
+use Rattle.sample_groups.specs.Groups.{AddsPart}
 use Rattle.sample_groups.specs.Tables.{others_in}
-use Rattle.sample_groups.proofs.Placing.{with_first, with_other}
+use Rattle.sample_groups.proofs.Placing.{adds_first, adds_other}
 use Rattle.sample_groups.proofs.table.Table.add.Goals as goal
 
-pub returns-then-is_without-clause-added : goal.returns-then-is_without-clause-added
-returns-then-is_without-clause-added c = λ added.
-    let shared = without_label c.args.name.now c.args.labels.now in
+pub returns-then-are_shared : goal.returns-then-are_shared
+returns-then-are_shared c =
     let t = c.self.inside in
-    ap (λ g. (t.first_labels, g) ∷ others_in t.others) (c.in_ok-added.ensures.added added)
-    ∙ with_first shared t.first_labels t.first (others_in t.others) c.args.part (sym c.is_without.ensures ∙ c.if-is_without.true)
-    ∙ ap (λ groups. with_part groups shared c.args.part) c.self.view_is
+    subst (λ old. AddsPart c.args.kind c.args.labels.now c.args.part old ((t.first_labels, c.add.new.self) ∷ others_in t.others) c.in_ok-added.added) c.self.view_is
+    (adds_first c.args.kind c.args.labels.now c.args.part t.first_labels t.first (others_in t.others) c.in_ok-added.added c.add.new.self (sym c.are_shared.ensures ∙ c.if-are_shared.true) c.in_ok-added.ensures.answer c.in_ok-added.ensures.added)
 
-pub returns-clause-added : goal.returns-clause-added
-returns-clause-added c = λ added.
-    let shared = without_label c.args.name.now c.args.labels.now in
+pub returns : goal.returns
+returns c =
     let t = c.self.inside in
-    ap (λ es. (t.first_labels, t.first) ∷ es) (c.in_ok-added-2.ensures.added added)
-    ∙ with_other shared t.first_labels t.first (others_in t.others) c.args.part (sym c.is_without.ensures ∙ c.if-is_without.false)
-    ∙ ap (λ groups. with_part groups shared c.args.part) c.self.view_is
+    subst (λ old. AddsPart c.args.kind c.args.labels.now c.args.part old ((t.first_labels, t.first) ∷ others_in c.add_other.new.others) c.in_ok-added-2.added) c.self.view_is
+    (adds_other c.args.kind c.args.labels.now c.args.part t.first_labels t.first (others_in t.others) c.in_ok-added-2.added (others_in c.add_other.new.others) (sym c.are_shared.ensures ∙ c.if-are_shared.false) c.in_ok-added-2.ensures)

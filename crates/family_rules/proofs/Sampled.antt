@@ -1,0 +1,365 @@
+-- What the functions of a checker prove of a sample, from what each of their steps did.
+use Rattle.std.proofs.Common.{◌≡◌, ℕ, Bool, true, false, cond, not, ◌&&◌, ◌||◌, List, [], ◌∷◌, ◌++◌, map, reverse, codes, Option, Some, None, Result, Ok, Err, refl, sym, ap, subst, ◌∙◌, is_some, count_by}
+use Rattle.std.specs.Prelude.{nat_le, nat_lt}
+use Rattle.std.specs.List.{list_any}
+use Rattle.std.specs.Map.{lookup}
+use Rattle.std.specs.Option.{option_or}
+use Rattle.std.specs.Str.{bytes_eq}
+use Rattle.std.proofs.lemmas.List.{append-nil}
+use Rattle.exact_decimal.specs.declared.number.Number.{Number}
+use Rattle.label_sets.specs.declared.kind.Kind.{Kind}
+use Rattle.label_sets.specs.declared.kind.Kind.TheVariants.{Counter, Histogram, GaugeHistogram, Unknown}
+use Rattle.label_sets.specs.declared.label_set.LabelSet.{LabelSet}
+use Rattle.label_sets.specs.Lists.{some_passes}
+use Rattle.page_model.specs.declared.item.Exemplar.{Exemplar}
+use Rattle.page_model.specs.declared.item.Item.{Item}
+use Rattle.page_model.specs.declared.item.Item.TheVariants as items
+use Rattle.page_model.specs.declared.item.Sample.{Sample}
+use Rattle.page_model.specs.declared.rule.Rule.{Rule}
+use Rattle.page_model.specs.declared.rule.Rule.TheVariants as rules
+use Rattle.page_model.specs.Written.{Setting}
+use Rattle.page_model.specs.Items.{is_sample}
+use Rattle.page_model.specs.Suffixes.{is_sample_name}
+use Rattle.page_model.specs.Owners.{Owned, kind_of, sample_owner, owned_lines, samples_of, kept_labels}
+use Rattle.page_model.specs.Rules.{is_open_metrics, is_after_eof, is_split, is_interleaved, has_suffix, may_have_exemplar, exemplar_characters, is_bad_exemplar, has_wrong_suffix, has_bad_value, has_bad_threshold, is_out_of_order, is_duplicate, is_past_limit, sample_group}
+use Rattle.page_model.specs.Faults.{item_fault}
+use Rattle.sample_groups.specs.declared.part.Part.{Part}
+use Rattle.sample_groups.specs.Groups.{groups_from, known_group, or_empty, breaks_order, shared_labels}
+use Rattle.sample_groups.specs.Parts.{is_grouped, entry_of, part_of}
+use Rattle.sample_groups.proofs.Laws.{shared_group, order_kept}
+use Rattle.packed_keys.specs.Packing.{sample_key_eq}
+use Rattle.packed_keys.specs.declared.sample_key.SampleKey.{SampleKey}
+use Rattle.family_rules.specs.GroupRuns.{goes_back}
+use Rattle.family_rules.specs.Checking.{Checking, groups_so_far, so_far, key_of, Stands}
+use Rattle.family_rules.specs.Steps.{is_current_family, current_kind, with_current, begun, left_stop, Takes, IsReady}
+use Rattle.family_rules.specs.Samples.{is_current_sample, TellsPart, told_part, told_left, has_bad_exemplar, is_bad_plain_value, key_in, is_back, entered_by, part_stop, order_stop, with_told, with_sample, with_added, sample_stop, add_stop, name_stop}
+use Rattle.family_rules.proofs.Lists.{bytes_same}
+use Rattle.family_rules.proofs.Faults.{fit_lines, sound_samples, left_fault, measure_fault, rest_fault, sample_fault}
+use Rattle.family_rules.proofs.Plain.{suffix_is, plain_value, plain_threshold, plain_order}
+use Rattle.family_rules.proofs.RunLaws.{interleaved_kept}
+use Rattle.family_rules.proofs.Seen.{duplicate_keys}
+use Rattle.family_rules.proofs.Kept.{reversed_samples}
+use Rattle.family_rules.proofs.Standing.{ready_reached, ready_kind, stands_sample, split_left, split_own, left_kept, stays, own_owner, current_owner, ready_current_owner}
+use Rattle.family_rules.proofs.Taking.{refused, reached_same, reached_other}
+
+-- ---- the rules that come last
+
+or_none : (a : Option Rule) → option_or a None ≡ a
+or_none None = refl
+or_none (Some r) = refl
+
+-- Duplicate, then what else is broken, then TooMany, by the lists
+stop_kept : (st : Setting) (c : Checking) (earlier : List Item) (s : Sample) (broken : Option Rule) → Stands st c earlier
+    → sample_stop c (key_of c.setting s) broken ≡ cond (is_duplicate st (owned_lines st.format earlier) s) (Some rules.Duplicate) (option_or broken (cond (is_past_limit st earlier) (Some rules.TooMany) None))
+unfolding sample_stop is_past_limit
+stop_kept st c earlier s broken stands =
+    let double : list_any (sample_key_eq (key_of c.setting s)) c.seen ≡ is_duplicate st (owned_lines st.format earlier) s =
+    (λ i. list_any (sample_key_eq (key_of (stands.setting i) s)) (stands.seen i)) ∙ duplicate_keys st (owned_lines st.format earlier) s in
+    let past : nat_le c.setting.limit c.samples ≡ nat_le st.limit (count_by is_sample earlier) = λ i. nat_le (stands.setting i).limit (stands.samples i) in
+    λ i. cond (double i) (Some rules.Duplicate) (option_or broken (cond (past i) (Some rules.TooMany) None))
+
+-- a rule that is broken refuses the sample
+stop_some : (c : Checking) (key : SampleKey) (rule : Rule) → sample_stop c key (Some rule) ≡ None → ⊥
+unfolding sample_stop
+stop_some c key rule h = by (list_any (sample_key_eq key) c.seen) h
+  where
+    by : (b : Bool) → cond b (Some rules.Duplicate) (Some rule) ≡ None → ⊥
+    by true e = cc
+    by false e = cc
+
+-- the rest of the rules, by what the kind forbids and by what is left
+rest_kept : (st : Setting) (c : Checking) (earlier : List Item) (s : Sample) (F : List ℕ) (measure left : Option Rule) → Stands st c earlier
+    → measure ≡ measure_fault st (kind_of (owned_lines st.format earlier) F) F (samples_of (owned_lines st.format earlier) F) s → left ≡ left_fault st (owned_lines st.format earlier) (Some F)
+    → sample_stop c (key_of c.setting s) (option_or measure left) ≡ rest_fault st earlier F s
+rest_kept st c earlier s F measure left stands m l = stop_kept st c earlier s (option_or measure left) stands
+    ∙ (λ i. cond (is_duplicate st (owned_lines st.format earlier) s) (Some rules.Duplicate) (option_or (option_or (m i) (l i)) (cond (is_past_limit st earlier) (Some rules.TooMany) None)))
+
+not_wrong : (st : Setting) (k : Kind) (F : List ℕ) (s : Sample) → is_sample_name st.format k F s.name ≡ true → has_wrong_suffix st k F s ≡ false
+unfolding has_wrong_suffix
+not_wrong st k F s h = ap not h
+
+-- ---- what the steps of one sample did
+
+module _ (c mid after : Checking) (k : Kind) (labels : LabelSet) (told : Result (Option Part) Rule) (key : SampleKey) (broken : Option Rule) (entered : mid ≡ entered_by c k labels) where
+  pub added_stop : after ≡ with_current mid after.current → broken ≡ part_stop k labels told mid.current → (answer : Option Rule) → answer ≡ sample_stop after key broken → is_back c k labels ≡ false
+      → answer ≡ cond (is_back c k labels) (Some rules.Interleaved) (sample_stop c key (part_stop k labels told c.current))
+  unfolding sample_stop
+  added_stop rest told_is answer stop free =
+      stop ∙ ap (λ x. sample_stop x key broken) (rest ∙ ap (λ m. with_current m after.current) entered)
+      ∙ ap (sample_stop c key) (told_is ∙ ap (λ (m : Checking). part_stop k labels told m.current) entered)
+      ∙ sym (ap (λ b. cond b (Some rules.Interleaved) (sample_stop c key (part_stop k labels told c.current))) free)
+
+  pub added_more : (broken ≡ None → after ≡ with_told mid k labels told) → (d : Checking) (value : Number) (answer : Option Rule) → answer ≡ sample_stop after key broken
+      → (answer ≡ None → d ≡ with_sample after key value) → answer ≡ None → d ≡ with_sample (with_told (entered_by c k labels) k labels told) key value
+  added_more taken d value answer stop step none = step none ∙ (λ i. with_sample ((taken (right broken (sym stop ∙ none)) ∙ ap (λ m. with_told m k labels told) entered) i) key value)
+    where
+      right : (b : Option Rule) → sample_stop after key b ≡ None → b ≡ None
+      right None e = refl
+      right (Some rule) e = absurd (stop_some after key rule e)
+
+-- ---- a checker that is ready for a sample of this family
+
+module _ (st : Setting) (c : Checking) (earlier : List Item) (F : List ℕ) (r : IsReady st c earlier F) (s : Sample) (k : Kind) (kind : k ≡ kind_of (owned_lines st.format earlier) F) where
+  abbrev above : List Owned
+  above = owned_lines st.format earlier
+
+  abbrev labels : LabelSet
+  labels = kept_labels c.setting.treatment s.labels
+
+  -- Interleaved, by the groups that have begun
+  back_here : is_back c k labels ≡ is_interleaved st (kind_of above F) F (samples_of above F) s
+  back_here = (λ i. is_open_metrics (r.setting i).format && some_passes (λ x. goes_back (r.runs i) (key_in x (kind i) (kept_labels (r.setting i).treatment s.labels))) (r.current i)) ∙ interleaved_kept st above F s
+
+  -- Order, by the groups that are kept
+  order_here : is_grouped st.format k ≡ true → has_wrong_suffix st (kind_of above F) F s ≡ false → has_bad_value st.format (kind_of above F) F s ≡ false → has_bad_threshold (kind_of above F) F s ≡ false
+      → order_stop k labels (part_of F s) c.current ≡ cond (is_out_of_order st (kind_of above F) F (samples_of above F) s) (Some rules.Order) None
+  unfolding so_far groups_so_far
+  order_here grouped named valued placed =
+      let K : Kind = kind_of above F in
+      let here : is_grouped st.format K ≡ true = ap (is_grouped st.format) (sym kind) ∙ grouped in
+      let groups : (so_far st above F).groups ≡ groups_from (map (entry_of st K F) (reverse (samples_of above F))) =
+      ap (λ b. cond b (groups_from (map (entry_of st K F) (samples_of (reverse above) F))) []) here ∙ ap (λ l. groups_from (map (entry_of st K F) l)) (reversed_samples above F) in
+      let label_is : shared_labels k labels ≡ sample_group st K F s = (λ i. shared_labels (kind i) (kept_labels (r.setting i).treatment s.labels)) ∙ sym (shared_group st K F s here) in
+      let order = order_kept st K F (samples_of above F) s here (sound_samples st above F (fit_lines st earlier r.faultless)) named valued placed in
+      ap (order_stop k labels (part_of F s)) r.current
+      ∙ (λ i. cond (not (breaks_order (or_empty (known_group (groups i) (label_is i))) (part_of F s))) None (Some rules.Order))
+      ∙ flip (breaks_order (or_empty (known_group (groups_from (map (entry_of st K F) (reverse (samples_of above F)))) (sample_group st K F s))) (part_of F s))
+      ∙ ap (λ b. cond b (Some rules.Order) None) (sym order)
+    where
+      flip : (b : Bool) → cond (not b) None (Some rules.Order) ≡ cond b (Some rules.Order) None
+      flip true = refl
+      flip false = refl
+
+  -- Value, Threshold or Order, by what was told
+  measure_here : has_wrong_suffix st (kind_of above F) F s ≡ false → part_stop k labels (told_part st (kind_of above F) F s) c.current ≡ measure_fault st (kind_of above F) F (samples_of above F) s
+  measure_here named = by (has_bad_value st.format (kind_of above F) F s) (has_bad_threshold (kind_of above F) F s) (is_grouped st.format (kind_of above F)) refl refl refl
+    where
+      by : (v t g : Bool) → has_bad_value st.format (kind_of above F) F s ≡ v → has_bad_threshold (kind_of above F) F s ≡ t → is_grouped st.format (kind_of above F) ≡ g
+          → part_stop k labels (cond v (Err rules.Value) (cond t (Err rules.Threshold) (Ok (cond g (Some (part_of F s)) None)))) c.current
+          ≡ cond v (Some rules.Value) (cond t (Some rules.Threshold) (cond (is_out_of_order st (kind_of above F) F (samples_of above F) s) (Some rules.Order) None))
+      by true t g e f h = refl
+      by false true g e f h = refl
+      by false false false e f h = sym (ap (λ b. cond b (Some rules.Order) None) (plain_order st (kind_of above F) F (samples_of above F) s h))
+      by false false true e f h = order_here (ap (is_grouped st.format) kind ∙ h) named e f
+
+-- ---- a sample of the current family
+
+module _ (s : Sample) (c : Checking) (d : Checking) (own : is_current_sample c.setting.format c.current s.name ≡ true)
+    (k : Kind) (kind_is : k ≡ current_kind c.current) where
+  module _ (st : Setting) (earlier : List Item) (stands : Stands st c earlier) where
+    abbrev lines : List Owned
+    lines = owned_lines st.format earlier
+
+    abbrev owner : List ℕ
+    owner = sample_owner st.format lines s.name
+
+    abbrev kind_here : Kind
+    kind_here = kind_of lines owner
+
+    own_ready : IsReady st c earlier owner
+    own_ready = ready_current_owner st c earlier stands s.name own
+
+    own_kind : k ≡ kind_here
+    own_kind = kind_is ∙ ready_kind st c earlier owner own_ready
+
+    own_named : has_wrong_suffix st kind_here owner s ≡ false
+    own_named = not_wrong st kind_here owner s (current_owner st c earlier stands s.name own).fits
+
+    own_exemplar_kept : has_bad_exemplar c.current s ≡ is_bad_exemplar kind_here owner s
+    unfolding so_far kind_of
+    own_exemplar_kept = ap (λ x. has_bad_exemplar x s) own_ready.current
+
+    -- no rule on places and names is broken
+    own_fault : is_after_eof st earlier ≡ false → item_fault st earlier (items.Sample s)
+        ≡ cond (has_bad_exemplar c.current s) (Some rules.Exemplar) (cond (is_interleaved st kind_here owner (samples_of lines owner) s) (Some rules.Interleaved) (rest_fault st earlier owner s))
+    own_fault before = sample_fault st earlier before s owner refl
+        ∙ (λ i. cond (sym own_exemplar_kept i) (Some rules.Exemplar) (cond ((current_owner st c earlier stands s.name own).together (items.Sample s) i) (Some rules.Split)
+        (cond (is_interleaved st kind_here owner (samples_of lines owner) s) (Some rules.Interleaved) (cond (own_named i) (Some rules.Suffix) (rest_fault st earlier owner s)))))
+
+  pub own_exemplar : has_bad_exemplar c.current s ≡ true → Takes (items.Sample s) c d (Some rules.Exemplar)
+  own_exemplar bad = refused (items.Sample s) c d rules.Exemplar (λ st earlier stands before. sym (own_fault st earlier stands before
+      ∙ ap (λ b. cond b (Some rules.Exemplar) (cond (is_interleaved st (kind_here st earlier stands) (owner st earlier stands) (samples_of (lines st earlier stands) (owner st earlier stands)) s) (Some rules.Interleaved) (rest_fault st earlier (owner st earlier stands) s))) bad))
+
+  module _ (good : has_bad_exemplar c.current s ≡ false) (told : Result (Option Part) Rule) (tells : TellsPart c k s told) where
+    -- what a call told of the sample
+    told_here : (st : Setting) (earlier : List Item) (stands : Stands st c earlier) → told ≡ told_part st (kind_here st earlier stands) (owner st earlier stands) s
+    told_here st earlier stands =
+        let F : List ℕ = owner st earlier stands in
+        let kind = own_kind st earlier stands in
+        let named : has_wrong_suffix st k F s ≡ false = ap (λ k. has_wrong_suffix st k F s) kind ∙ own_named st earlier stands in
+        tells F (so_far st (owned_lines st.format earlier) F) (own_ready st earlier stands).current st (ap (λ (x : Setting). x.format) (sym stands.setting)) named ∙ ap (λ k. told_part st k F s) kind
+
+    stop_here : (st : Setting) (earlier : List Item) (stands : Stands st c earlier) → is_after_eof st earlier ≡ false → add_stop c k s told ≡ item_fault st earlier (items.Sample s)
+    stop_here st earlier stands before =
+        let F : List ℕ = owner st earlier stands in
+        let K : Kind = kind_here st earlier stands in
+        let above : List Owned = owned_lines st.format earlier in
+        let ready = own_ready st earlier stands in
+        let kind = own_kind st earlier stands in
+        let measure : part_stop k (kept_labels c.setting.treatment s.labels) told c.current ≡ measure_fault st K F (samples_of above F) s =
+        ap (λ t. part_stop k (kept_labels c.setting.treatment s.labels) t c.current) (told_here st earlier stands) ∙ measure_here st c earlier F ready s k kind (own_named st earlier stands) in
+        let left : None ≡ left_fault st above (Some F) = sym (ap (λ b. cond b (Some rules.Incomplete) None) (stays st c earlier stands F (ap (λ k. is_current_family k F) stands.current ∙ (current_owner st c earlier stands s.name own).current))) in
+        let rest : sample_stop c (key_of c.setting s) (part_stop k (kept_labels c.setting.treatment s.labels) told c.current) ≡ rest_fault st earlier F s =
+        ap (sample_stop c (key_of c.setting s)) (measure ∙ sym (or_none (measure_fault st K F (samples_of above F) s)))
+        ∙ rest_kept st c earlier s F (measure_fault st K F (samples_of above F) s) None stands refl left in
+        (λ i. cond (back_here st c earlier F ready s k kind i) (Some rules.Interleaved) (rest i))
+        ∙ sym (own_fault st earlier stands before ∙ ap (λ b. cond b (Some rules.Exemplar) (cond (is_interleaved st K F (samples_of above F) s) (Some rules.Interleaved) (rest_fault st earlier F s))) good)
+
+    pub own_added : (answer : Option Rule) → answer ≡ add_stop c k s told → (answer ≡ None → d ≡ with_added c k s told) → Takes (items.Sample s) c d answer
+    unfolding owned_lines
+    own_added answer stop step = record {
+      broken_is = λ st earlier stands before. stop ∙ stop_here st earlier stands before;
+      stands = λ st earlier stands before none. more st earlier stands (sym (stop ∙ stop_here st earlier stands before) ∙ none) none;
+    }
+      where
+        more : (st : Setting) (earlier : List Item) (stands : Stands st c earlier) → item_fault st earlier (items.Sample s) ≡ None → answer ≡ None → Stands st d (items.Sample s ∷ earlier)
+        more st earlier stands free none =
+            let F : List ℕ = owner st earlier stands in
+            let K : Kind = kind_here st earlier stands in
+            let kind = own_kind st earlier stands in
+            let sound = (fit_lines st (items.Sample s ∷ earlier) (free, stands.faultless)).0.sound in
+            let told_is : told ≡ Ok (cond (is_grouped st.format k) (Some (part_of F s)) None) = told_here st earlier stands
+            ∙ (λ i. cond (sound.valued i) (Err rules.Value) (cond (sound.placed i) (Err rules.Threshold) (Ok (cond (is_grouped st.format (sym kind i)) (Some (part_of F s)) None)))) in
+            let after : d ≡ with_sample (with_told (entered_by c k (kept_labels st.treatment s.labels)) k (kept_labels st.treatment s.labels) (Ok (cond (is_grouped st.format k) (Some (part_of F s)) None))) (key_of st s) s.value =
+            step none ∙ (λ i. with_sample (with_told (entered_by c k (kept_labels (stands.setting i).treatment s.labels)) k (kept_labels (stands.setting i).treatment s.labels) (told_is i)) (key_of (stands.setting i) s) s.value) in
+            subst (λ e. Stands st e (items.Sample s ∷ earlier)) (sym after)
+            (stands_sample st c earlier F (own_ready st earlier stands) s refl free k kind (is_grouped st.format k) refl)
+
+-- ---- a sample of the family of its own name
+
+-- it may have no exemplar
+own_name_exemplar : (k : Kind) (s : Sample) → is_bad_exemplar k s.name s ≡ is_some s.exemplar
+unfolding is_bad_exemplar
+own_name_exemplar k s = ap (λ m. some_passes (λ e. not m || nat_lt 128 (exemplar_characters e)) s.exemplar) (never k) ∙ by s.exemplar
+  where
+    nothing : (suffix : List ℕ) → has_suffix s.name suffix s ≡ bytes_eq [] suffix
+    nothing suffix = suffix_is s.name [] suffix s (sym (append-nil s.name))
+
+    never : (k : Kind) → may_have_exemplar k s.name s ≡ false
+    never Counter = nothing (codes "_total")
+    never Histogram = nothing (codes "_bucket")
+    never GaugeHistogram = nothing (codes "_bucket")
+    never _ = refl
+
+    by : (e : Option Exemplar) → some_passes (λ x. not false || nat_lt 128 (exemplar_characters x)) e ≡ is_some e
+    by None = refl
+    by (Some x) = refl
+
+module _ (s : Sample) (c : Checking) (d : Checking) (other : is_current_sample c.setting.format c.current s.name ≡ false) where
+  other_owner : (st : Setting) (earlier : List Item) → Stands st c earlier → sample_owner st.format (owned_lines st.format earlier) s.name ≡ s.name
+  other_owner st earlier stands = own_owner st c earlier stands s.name other
+
+  other_fault : (st : Setting) (earlier : List Item) → Stands st c earlier → is_after_eof st earlier ≡ false → (exemplar split back wrong : Bool)
+      → is_some s.exemplar ≡ exemplar
+      → is_split (owned_lines st.format earlier) (record { family = s.name; item = items.Sample s }) ≡ split
+      → is_interleaved st (kind_of (owned_lines st.format earlier) s.name) s.name (samples_of (owned_lines st.format earlier) s.name) s ≡ back
+      → has_wrong_suffix st (kind_of (owned_lines st.format earlier) s.name) s.name s ≡ wrong
+      → item_fault st earlier (items.Sample s)
+      ≡ cond exemplar (Some rules.Exemplar) (cond split (Some rules.Split) (cond back (Some rules.Interleaved) (cond wrong (Some rules.Suffix) (rest_fault st earlier s.name s))))
+  other_fault st earlier stands before exemplar split back wrong x h b k =
+      sample_fault st earlier before s s.name (other_owner st earlier stands)
+      ∙ (λ i. cond ((own_name_exemplar (kind_of (owned_lines st.format earlier) s.name) s ∙ x) i) (Some rules.Exemplar) (cond (h i) (Some rules.Split) (cond (b i) (Some rules.Interleaved) (cond (k i) (Some rules.Suffix) (rest_fault st earlier s.name s)))))
+
+  pub other_exemplar : is_some s.exemplar ≡ true → Takes (items.Sample s) c d (Some rules.Exemplar)
+  other_exemplar x = refused (items.Sample s) c d rules.Exemplar (λ st earlier stands before. let above : List Owned = owned_lines st.format earlier in
+      sym (other_fault st earlier stands before true (is_split above (record { family = s.name; item = items.Sample s })) (is_interleaved st (kind_of above s.name) s.name (samples_of above s.name) s)
+      (has_wrong_suffix st (kind_of above s.name) s.name s) x refl refl refl))
+
+  module _ (x : is_some s.exemplar ≡ false) where
+    -- the family of its name is the current one, whose kind doesn't allow the name
+    pub other_named : is_current_family c.current s.name ≡ true → (rule : Rule) → rule ≡ name_stop c s → Takes (items.Sample s) c d (Some rule)
+    unfolding has_wrong_suffix
+    other_named h rule told = refused (items.Sample s) c d rule (λ st earlier stands before.
+        let above : List Owned = owned_lines st.format earlier in
+        let back : Bool = is_interleaved st (kind_of above s.name) s.name (samples_of above s.name) s in
+        let here : IsReady st c earlier s.name = ready st earlier stands in
+        ap Some (told ∙ ap (λ b. cond b rules.Interleaved rules.Suffix) (back_here st c earlier s.name here s (current_kind c.current) (ready_kind st c earlier s.name here)))
+        ∙ either back
+        ∙ sym (other_fault st earlier stands before false false back true x (split_own st c earlier stands s.name (items.Sample s) h) refl (ap not (name_here st earlier stands))))
+      where
+        either : (b : Bool) → Some (cond b rules.Interleaved rules.Suffix) ≡ cond b (Some rules.Interleaved) (Some rules.Suffix)
+        either true = refl
+        either false = refl
+
+        ready : (st : Setting) (earlier : List Item) → Stands st c earlier → IsReady st c earlier s.name
+        ready st earlier stands = subst (λ x. IsReady st x earlier s.name) (sym (reached_same c s.name h))
+            (ready_reached st c earlier stands s.name (items.Sample s) (split_own st c earlier stands s.name (items.Sample s) h))
+
+        by_current : (st : Setting) (earlier : List Item) → IsReady st c earlier s.name → is_sample_name c.setting.format (current_kind c.current) s.name s.name ≡ is_current_sample c.setting.format c.current s.name
+        by_current st earlier here = rw here.current refl
+
+        name_here : (st : Setting) (earlier : List Item) → Stands st c earlier → is_sample_name st.format (kind_of (owned_lines st.format earlier) s.name) s.name s.name ≡ false
+        name_here st earlier stands =
+            let here : IsReady st c earlier s.name = ready st earlier stands in
+            (λ i. is_sample_name (sym stands.setting i).format (sym (ready_kind st c earlier s.name here) i) s.name s.name) ∙ by_current st earlier here ∙ other
+
+    pub other_split : is_current_family c.current s.name ≡ false → is_some (lookup (bytes_eq s.name) c.left) ≡ true → Takes (items.Sample s) c d (Some rules.Split)
+    other_split h left = refused (items.Sample s) c d rules.Split (λ st earlier stands before. let above : List Owned = owned_lines st.format earlier in
+        sym (other_fault st earlier stands before false true (is_interleaved st (kind_of above s.name) s.name (samples_of above s.name) s) (has_wrong_suffix st (kind_of above s.name) s.name s)
+        x (sym (split_left st c earlier stands s.name (items.Sample s) h) ∙ left) refl refl))
+
+    -- it begins the family of its name
+    module _ (h : is_current_family c.current s.name ≡ false) (left : is_some (lookup (bytes_eq s.name) c.left) ≡ false) where
+      together : (st : Setting) (earlier : List Item) → Stands st c earlier → is_split (owned_lines st.format earlier) (record { family = s.name; item = items.Sample s }) ≡ false
+      together st earlier stands = sym (split_left st c earlier stands s.name (items.Sample s) h) ∙ left
+
+      begins : (st : Setting) (earlier : List Item) → Stands st c earlier → IsReady st (begun c s.name) earlier s.name
+      begins st earlier stands = subst (λ x. IsReady st x earlier s.name) (sym (reached_other c (begun c s.name) s.name h refl)) (ready_reached st c earlier stands s.name (items.Sample s) (together st earlier stands))
+
+      unknown : (st : Setting) (earlier : List Item) → Stands st c earlier → Unknown ≡ kind_of (owned_lines st.format earlier) s.name
+      unknown st earlier stands = ready_kind st (begun c s.name) earlier s.name (begins st earlier stands)
+
+      own_name : (name : List ℕ) → (bytes_eq name (name ++ []) || false) ≡ true
+      own_name name = rw (append-nil name, bytes_same name) refl
+
+      named : (st : Setting) (earlier : List Item) → Stands st c earlier → has_wrong_suffix st (kind_of (owned_lines st.format earlier) s.name) s.name s ≡ false
+      named st earlier stands = not_wrong st (kind_of (owned_lines st.format earlier) s.name) s.name s
+          (ap (λ k. is_sample_name st.format k s.name s.name) (sym (unknown st earlier stands)) ∙ own_name s.name)
+
+      first_group : is_back (begun c s.name) Unknown (kept_labels c.setting.treatment s.labels) ≡ false
+      first_group = by (is_open_metrics c.setting.format)
+        where
+          by : (b : Bool) → (b && false) ≡ false
+          by true = refl
+          by false = refl
+
+      unmeasured : (st : Setting) (earlier : List Item) → Stands st c earlier
+          → None ≡ measure_fault st (kind_of (owned_lines st.format earlier) s.name) s.name (samples_of (owned_lines st.format earlier) s.name) s
+      unfolding is_bad_plain_value
+      unmeasured st earlier stands =
+          let samples : List Sample = samples_of (owned_lines st.format earlier) s.name in
+          let value : has_bad_value st.format Unknown s.name s ≡ false = plain_value st Unknown s.name s refl (sym (append-nil s.name)) in
+          sym (ap (λ k. measure_fault st k s.name samples s) (sym (unknown st earlier stands))
+          ∙ (λ i. cond (value i) (Some rules.Value) (cond (plain_threshold st.format Unknown s.name s refl i) (Some rules.Threshold) (cond (plain_order st Unknown s.name samples s refl i) (Some rules.Order) None))))
+
+      told_back : (o : Option Rule) (labels : LabelSet) → part_stop Unknown labels (told_left o) (begun c s.name).current ≡ o
+      told_back None labels = refl
+      told_back (Some rule) labels = refl
+
+      begin_stop : add_stop (begun c s.name) Unknown s (told_left (left_stop c.current)) ≡ sample_stop c (key_of c.setting s) (left_stop c.current)
+      unfolding sample_stop
+      begin_stop = λ i. cond (first_group i) (Some rules.Interleaved) (sample_stop c (key_of c.setting s) (told_back (left_stop c.current) (kept_labels c.setting.treatment s.labels) i))
+
+      pub other_begins : (answer : Option Rule) → answer ≡ add_stop (begun c s.name) Unknown s (told_left (left_stop c.current))
+          → (answer ≡ None → d ≡ with_added (begun c s.name) Unknown s (told_left (left_stop c.current))) → Takes (items.Sample s) c d answer
+      other_begins answer stop step = record {
+        broken_is = fault;
+        stands = λ st earlier stands before none.
+            let after : d ≡ with_sample (with_told (entered_by (begun c s.name) Unknown (kept_labels st.treatment s.labels)) Unknown (kept_labels st.treatment s.labels) (Ok None)) (key_of st s) s.value =
+            step none ∙ (λ i. with_sample (with_told (entered_by (begun c s.name) Unknown (kept_labels (stands.setting i).treatment s.labels)) Unknown (kept_labels (stands.setting i).treatment s.labels) (told_left (nothing none i))) (key_of (stands.setting i) s) s.value) in
+            subst (λ e. Stands st e (items.Sample s ∷ earlier)) (sym after)
+            (stands_sample st (begun c s.name) earlier s.name (begins st earlier stands) s (other_owner st earlier stands) (sym (fault st earlier stands before) ∙ none) Unknown (unknown st earlier stands) false refl);
+      }
+        where
+          nothing : answer ≡ None → left_stop c.current ≡ None
+          nothing none = by (left_stop c.current) refl
+            where
+              by : (o : Option Rule) → left_stop c.current ≡ o → o ≡ None
+              by None e = refl
+              by (Some rule) e = absurd (stop_some c (key_of c.setting s) rule (ap (sample_stop c (key_of c.setting s)) (sym e) ∙ sym begin_stop ∙ sym stop ∙ none))
+
+          fault : (st : Setting) (earlier : List Item) → Stands st c earlier → is_after_eof st earlier ≡ false → answer ≡ item_fault st earlier (items.Sample s)
+          fault st earlier stands before =
+              let interleaved = sym (back_here st (begun c s.name) earlier s.name (begins st earlier stands) s Unknown (unknown st earlier stands)) ∙ first_group in
+              stop ∙ begin_stop ∙ rest_kept st c earlier s s.name None (left_stop c.current) stands (unmeasured st earlier stands) (left_kept st c earlier stands s.name h)
+              ∙ sym (other_fault st earlier stands before false false false false x (together st earlier stands) interleaved (named st earlier stands))

@@ -1,0 +1,162 @@
+-- What a sample does to what a checker keeps (the bridge's own).
+use Rattle.std.specs.Prelude.{◌≡◌, ℕ, Bool, true, false, not, ◌&&◌, ◌||◌, ◌+◌, List, [], ◌∷◌, ◌++◌, Option, Some, None, Result, Ok, Err, nat_le, sum_by, if◌then◌else◌}
+use Rattle.std.specs.List.{list_any}
+use Rattle.std.specs.Option.{option_or}
+use Rattle.exact_decimal.specs.declared.number.Number.{Number}
+use Rattle.exact_decimal.specs.Numbers.{number_of}
+use Rattle.exact_decimal.specs.Order.{same}
+use Rattle.label_sets.specs.declared.kind.Kind.{Kind}
+use Rattle.label_sets.specs.declared.kind.Kind.TheVariants.{Info, StateSet}
+use Rattle.label_sets.specs.declared.label.Label.{Label}
+use Rattle.label_sets.specs.Labels.{has_name}
+use Rattle.label_sets.specs.declared.label_set.LabelSet.{LabelSet}
+use Rattle.label_sets.specs.Lists.{some_passes}
+use Rattle.page_model.specs.declared.format.Format.{Format}
+use Rattle.page_model.specs.declared.item.Sample.{Sample}
+use Rattle.page_model.specs.declared.rule.Rule.{Rule}
+use Rattle.page_model.specs.declared.rule.Rule.TheVariants as rules
+use Rattle.page_model.specs.Written.{Setting}
+use Rattle.page_model.specs.Suffixes.{is_sample_name}
+use Rattle.page_model.specs.Owners.{kept_labels, group_of}
+use Rattle.page_model.specs.Rules.{characters, is_open_metrics, is_bad_exemplar, has_wrong_suffix, has_bad_value, has_bad_threshold}
+use Rattle.sample_groups.specs.declared.part.Part.{Part}
+use Rattle.sample_groups.specs.Groups.{shared_labels, known_group, or_empty, with_part, breaks_order}
+use Rattle.sample_groups.specs.Parts.{is_grouped, part_of}
+use Rattle.packed_keys.specs.declared.sample_key.SampleKey.{SampleKey}
+use Rattle.packed_keys.specs.Packing.{sample_key_eq}
+use Rattle.family_rules.specs.declared.family.Current.{Current}
+use Rattle.family_rules.specs.declared.family.FamilySoFar.{FamilySoFar}
+use Rattle.family_rules.specs.GroupRuns.{Runs, group_key, goes_back, with_group}
+use Rattle.family_rules.specs.Checking.{Checking, kind_in, key_of}
+use Rattle.family_rules.specs.Steps.{current_with, with_current, current_kind}
+
+-- ---- owners and values
+
+-- the current family owns a sample of this name
+abbrev pub is_current_sample : Format → Option Current → List ℕ → Bool
+is_current_sample f None name = false
+is_current_sample f (Some k) name = is_sample_name f (kind_in k.family) k.name name
+
+-- a family with the value of a sample more
+abbrev pub family_with_value : Number → FamilySoFar → FamilySoFar
+family_with_value value f = record f { values = f.values ++ value ∷ [] }
+
+-- the current family has the value of a sample more
+abbrev pub with_value : Checking → Number → Checking
+with_value c value = with_current c (current_with (family_with_value value) c.current)
+
+-- one sample more, of the current family
+unfoldable pub with_sample : Checking → SampleKey → Number → Checking
+with_sample c key value = record c {
+  current = current_with (family_with_value value) c.current;
+  seen = c.seen ++ key ∷ [];
+  samples = c.samples + 1;
+}
+
+-- a family with a part more in its groups
+abbrev pub with_part_in : Kind → LabelSet → Part → FamilySoFar → FamilySoFar
+with_part_in kind labels part f = record f { groups = with_part f.groups (shared_labels kind labels) part }
+
+-- the current family has a part more in its groups
+abbrev pub with_part_at : Checking → Kind → LabelSet → Part → Checking
+with_part_at c kind labels part = with_current c (current_with (with_part_in kind labels part) c.current)
+
+-- the part keeps the order of its group in the current family
+abbrev pub fits_order : Kind → LabelSet → Part → Option Current → Bool
+fits_order kind labels part None = true
+fits_order kind labels part (Some k) = not (breaks_order (or_empty (known_group k.family.groups (shared_labels kind labels))) part)
+
+-- Order
+abbrev pub order_stop : Kind → LabelSet → Part → Option Current → Option Rule
+order_stop kind labels part current = if fits_order kind labels part current then None else Some rules.Order
+
+-- Duplicate, then what else is broken, then TooMany
+unfoldable pub sample_stop : Checking → SampleKey → Option Rule → Option Rule
+sample_stop c key broken =
+    if list_any (sample_key_eq key) c.seen then Some rules.Duplicate
+    else option_or broken (if nat_le c.setting.limit c.samples then Some rules.TooMany else None)
+
+-- ---- what a sample is to its group
+
+-- a state is 0 or 1
+abbrev pub is_state_value : Number → Bool
+is_state_value n = same n (number_of 0) || same n (number_of 1)
+
+-- Value, of a kind whose samples are readings of their own: an info is 1, and a state is 0 or 1 and is named
+unfoldable pub is_bad_plain_value : Kind → List ℕ → Sample → Bool
+is_bad_plain_value Info family s = not (same s.value (number_of 1))
+is_bad_plain_value StateSet family s = not (is_state_value s.value) || not (has_name s.labels family)
+is_bad_plain_value _ family s = false
+
+-- Value or Threshold, or else the part of a sample, where its kind has groups
+abbrev pub told_part : Setting → Kind → List ℕ → Sample → Result (Option Part) Rule
+told_part st kind family s =
+    if has_bad_value st.format kind family s then Err rules.Value
+    else if has_bad_threshold kind family s then Err rules.Threshold
+    else Ok (if is_grouped st.format kind then Some (part_of family s) else None)
+
+-- what a sample of this kind, where its name is allowed, is to its group in the current family
+abbrev pub TellsPart : Checking → Kind → Sample → Result (Option Part) Rule → Type 0
+TellsPart c kind s told = (family : List ℕ) (f : FamilySoFar) → c.current ≡ Some (record { name = family; family = f })
+    → (st : Setting) → st.format ≡ c.setting.format → has_wrong_suffix st kind family s ≡ false → told ≡ told_part st kind family s
+
+-- what was told of a sample, or Order
+abbrev pub part_stop : Kind → LabelSet → Result (Option Part) Rule → Option Current → Option Rule
+part_stop kind labels (Err rule) current = Some rule
+part_stop kind labels (Ok None) current = None
+part_stop kind labels (Ok (Some part)) current = order_stop kind labels part current
+
+-- the current family has what was told of a sample
+abbrev pub with_told : Checking → Kind → LabelSet → Result (Option Part) Rule → Checking
+with_told c kind labels (Err rule) = c
+with_told c kind labels (Ok None) = c
+with_told c kind labels (Ok (Some part)) = with_part_at c kind labels part
+
+-- nothing is told of a sample that begins a family, but Incomplete where it leaves one
+abbrev pub told_left : Option Rule → Result (Option Part) Rule
+told_left None = Ok None
+told_left (Some rule) = Err rule
+
+-- the characters of the names and values of labels
+abbrev pub label_characters : List Label → ℕ
+label_characters ls = sum_by (λ (l : Label). characters l.name + characters l.value) ls
+
+-- the exemplar of a sample of the current family is a bad one
+abbrev pub has_bad_exemplar : Option Current → Sample → Bool
+has_bad_exemplar None s = false
+has_bad_exemplar (Some k) s = is_bad_exemplar (kind_in k.family) k.name s
+
+-- ---- groups
+
+-- the group of a sample of the current family
+abbrev pub key_in : Current → Kind → LabelSet → SampleKey
+key_in k kind labels = group_key k.name (group_of kind k.name labels)
+
+-- Interleaved: a sample of the current family goes back to its group
+abbrev pub is_back : Checking → Kind → LabelSet → Bool
+is_back c kind labels = is_open_metrics c.setting.format && some_passes (λ k. goes_back c.runs (key_in k kind labels)) c.current
+
+-- the groups with a sample of the current family more, where the format has the rule
+abbrev pub runs_with : Format → Option Current → Kind → LabelSet → Runs → Runs
+runs_with f None kind labels r = r
+runs_with f (Some k) kind labels r = if is_open_metrics f then with_group r (key_in k kind labels) else r
+
+-- a sample of the current family has gone to its group
+abbrev pub entered_by : Checking → Kind → LabelSet → Checking
+entered_by c kind labels = record c { runs = runs_with c.setting.format c.current kind labels c.runs }
+
+-- ---- a sample more
+
+-- Interleaved, then Duplicate, then what was told or Order, then TooMany
+abbrev pub add_stop : Checking → Kind → Sample → Result (Option Part) Rule → Option Rule
+add_stop c kind s told = let labels = kept_labels c.setting.treatment s.labels in
+    if is_back c kind labels then Some rules.Interleaved else sample_stop c (key_of c.setting s) (part_stop kind labels told c.current)
+
+-- the current family has the sample
+abbrev pub with_added : Checking → Kind → Sample → Result (Option Part) Rule → Checking
+with_added c kind s told = let labels = kept_labels c.setting.treatment s.labels in
+    with_sample (with_told (entered_by c kind labels) kind labels told) (key_of c.setting s) s.value
+
+-- Interleaved or Suffix, of a sample whose name the current family's kind doesn't allow
+abbrev pub name_stop : Checking → Sample → Rule
+name_stop c s = if is_back c (current_kind c.current) (kept_labels c.setting.treatment s.labels) then rules.Interleaved else rules.Suffix

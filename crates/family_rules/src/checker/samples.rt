@@ -1,0 +1,251 @@
+//! Samples of the family that goes on, and of one that they begin.
+ghost use Rattle.std.specs.Prelude.{◌≡◌, None, true, false, not, IfOk, OnOk};
+ghost use Rattle.page_model.specs.Owners.{kept_labels};
+ghost use Rattle.page_model.specs.Rules.{is_open_metrics};
+ghost use Rattle.page_model.specs.declared.item.Item.TheVariants as items;
+ghost use Rattle.family_rules.specs.Steps.{Takes, with_current, left_stop};
+ghost use Rattle.family_rules.specs.Samples.{TellsPart, is_current_sample, has_bad_exemplar, with_value, with_part_at, with_told, told_left, fits_order, part_stop, is_back, entered_by, with_sample, with_added, sample_stop, add_stop, name_stop};
+
+use super::Checker;
+use crate::exemplars::is_bad_exemplar;
+use crate::runs::group_labels;
+use crate::sample_values::part_or_rule;
+use exact_decimal::Number;
+use label_sets::{Kind, LabelSet, Memory, Name};
+use packed_keys::SampleKey;
+use page_model::{Format, Rule, Sample, Treatment, is_sample_name};
+use sample_groups::Part;
+
+impl Checker {
+    /// Whether the family of the nearest line owns a sample of this name.
+    fn is_current_sample(&self, name: &Name) -> bool
+        ensures { result ≡ is_current_sample self.now.setting.format self.now.current name.now }
+    {
+        match &self.current {
+            Some(current) => {
+                is_sample_name(self.format, current.family.kind(), &current.name, name)
+            }
+            None => false,
+        }
+    }
+
+    /// A label set as a page of this treatment keeps it.
+    fn kept_labels(&self, labels: LabelSet) -> Result<LabelSet, Memory>
+        ensures { IfOk result (λ kept. kept ≡ kept_labels self.now.setting.treatment labels) }
+    {
+        match self.treatment {
+            Treatment::Scraped => labels.renamed(self.alloc),
+            Treatment::Written => Ok(labels),
+        }
+    }
+
+    /// Adds the value of a sample to the current family.
+    fn push_value(&mut self, value: Number) -> Result<(), Memory>
+        ensures { OnOk result (self.new ≡ with_value self.old value) }
+    {
+        if let Some(current) = &mut self.current {
+            current.family.push_value(self.alloc, value)?;
+        }
+        Ok(())
+    }
+
+    /// Adds a sample of the current family, or answers the rule that it breaks: 14, then the given one, then 20.
+    fn add_key(
+        &mut self,
+        key: SampleKey,
+        value: Number,
+        broken: Option<Rule>,
+    ) -> Result<Option<Rule>, Memory>
+        ensures broken { IfOk result (λ answer. answer ≡ sample_stop self.old key broken) }
+        ensures added { IfOk result (λ answer. answer ≡ None → self.new ≡ with_sample self.old key value) }
+    {
+        let added = self.seen.insert(key)?;
+        if !added {
+            return Ok(Some(Rule::Duplicate));
+        }
+        if broken.is_some() {
+            return Ok(broken);
+        }
+        if self.samples >= self.limit {
+            return Ok(Some(Rule::TooMany));
+        }
+        self.samples += 1;
+        self.push_value(value)?;
+        Ok(None)
+    }
+
+    /// What a sample of the current family is to its group, where its kind has groups, or the rule that it
+    /// breaks: 15 or 16.
+    fn part_or_rule(&self, kind: Kind, sample: &Sample) -> Result<Option<Part>, Rule>
+        ensures { TellsPart self.now kind sample.now result }
+    {
+        match &self.current {
+            Some(current) => part_or_rule(self.format, kind, &current.name, sample),
+            None => Err(Rule::Suffix),
+        }
+    }
+
+    /// Nothing, or rule 18 where a sample of another family leaves the current one.
+    fn no_part_or_rule(&self) -> Result<Option<Part>, Rule>
+        ensures { result ≡ told_left (left_stop self.now.current) }
+    {
+        match self.left_rule() {
+            Some(rule) => Err(rule),
+            None => Ok(None),
+        }
+    }
+
+    /// Rule 10: a sample of the current family has a bad exemplar.
+    fn has_bad_exemplar(&self, sample: &Sample) -> bool
+        ensures { result ≡ has_bad_exemplar self.now.current sample.now }
+    {
+        match &self.current {
+            Some(current) => is_bad_exemplar(current.family.kind(), &current.name, sample),
+            None => false,
+        }
+    }
+
+    /// Adds a sample of the current family to its group, and answers whether it goes back to it: rule 12.
+    fn enter(&mut self, kind: Kind, labels: &LabelSet) -> Result<bool, Memory>
+        ensures back { IfOk result (λ back. back ≡ is_back self.old kind labels.now) }
+        ensures entered { IfOk result (λ back. back ≡ false → self.new ≡ entered_by self.old kind labels.now) }
+    {
+        if self.is_text() {
+            return Ok(false);
+        }
+        match &self.current {
+            Some(current) => {
+                let shared = group_labels(self.alloc, kind, &current.name, labels)?;
+                self.runs.enter(&current.name, shared)
+            }
+            None => Ok(false),
+        }
+    }
+
+    /// Whether the format has no rule 12.
+    fn is_text(&self) -> bool
+        ensures { is_open_metrics self.now.setting.format ≡ not result }
+    {
+        match self.format {
+            Format::Text => true,
+            Format::OpenMetrics => false,
+        }
+    }
+
+    /// Adds a part to its group in the current family, unless it breaks rule 17.
+    fn add_part(&mut self, kind: Kind, labels: &LabelSet, part: Part) -> Result<bool, Memory>
+        ensures answer { IfOk result (λ added. added ≡ fits_order kind labels.now part self.old.current) }
+        ensures added { IfOk result (λ added. added ≡ true → self.new ≡ with_part_at self.old kind labels.now part) }
+        ensures rest { OnOk result (self.new ≡ with_current self.old self.new.current) }
+    {
+        match &mut self.current {
+            Some(current) => current.family.groups.add(self.alloc, kind, labels, part),
+            None => Ok(true),
+        }
+    }
+
+    /// Adds what was told of a sample to the current family, or answers the rule that it breaks: 15 to 18.
+    fn add_told(
+        &mut self,
+        kind: Kind,
+        labels: &LabelSet,
+        told: Result<Option<Part>, Rule>,
+    ) -> Result<Option<Rule>, Memory>
+        ensures broken { IfOk result (λ broken. broken ≡ part_stop kind labels.now told self.old.current) }
+        ensures added { IfOk result (λ broken. broken ≡ None → self.new ≡ with_told self.old kind labels.now told) }
+        ensures rest { OnOk result (self.new ≡ with_current self.old self.new.current) }
+    {
+        match told {
+            Ok(Some(part)) => {
+                let added = self.add_part(kind, labels, part)?;
+                Ok((!added).then_some(Rule::Order))
+            }
+            Ok(None) => Ok(None),
+            Err(rule) => Ok(Some(rule)),
+        }
+    }
+
+    /// Adds a sample of the current family, of which this was told, or answers the rule that it breaks: 12, 14
+    /// to 18 or 20.
+    fn add_sample(
+        &mut self,
+        kind: Kind,
+        sample: Sample,
+        told: Result<Option<Part>, Rule>,
+    ) -> Result<Option<Rule>, Memory>
+        ensures broken { IfOk result (λ answer. answer ≡ add_stop self.old kind sample told) }
+        ensures added { IfOk result (λ answer. answer ≡ None → self.new ≡ with_added self.old kind sample told) }
+    {
+        let Sample {
+            name,
+            labels,
+            value,
+            ..
+        } = sample;
+        let labels = self.kept_labels(labels)?;
+        let back = self.enter(kind, &labels)?;
+        if back {
+            return Ok(Some(Rule::Interleaved));
+        }
+        let broken = self.add_told(kind, &labels, told)?;
+        self.add_key(SampleKey { name, labels }, value, broken)
+    }
+
+    /// Takes a sample of the current family, and answers the rule that it breaks: 10, 12, 14 to 17 or 20.
+    fn take_own(&mut self, sample: Sample) -> Result<Option<Rule>, Memory>
+        requires { is_current_sample self.now.setting.format self.now.current sample.name ≡ true }
+        ensures { IfOk result (Takes (items.Sample sample) self.old self.new) }
+    {
+        if self.has_bad_exemplar(&sample) {
+            return Ok(Some(Rule::Exemplar));
+        }
+        let kind = self.current_kind();
+        let told = self.part_or_rule(kind, &sample);
+        self.add_sample(kind, sample, told)
+    }
+
+    /// The rule that a sample of the current family breaks whose name its kind doesn't allow: 12 or 13.
+    fn name_rule(&mut self, sample: Sample) -> Result<Rule, Memory>
+        ensures { IfOk result (λ rule. rule ≡ name_stop self.old sample) }
+    {
+        let kind = self.current_kind();
+        let labels = self.kept_labels(sample.labels)?;
+        let back = self.enter(kind, &labels)?;
+        if back {
+            return Ok(Rule::Interleaved);
+        }
+        Ok(Rule::Suffix)
+    }
+
+    /// Takes a sample that is of the family of its own name, and answers the rule that it breaks.
+    fn take_other(&mut self, sample: Sample) -> Result<Option<Rule>, Memory>
+        requires { is_current_sample self.now.setting.format self.now.current sample.name ≡ false }
+        ensures { IfOk result (Takes (items.Sample sample) self.old self.new) }
+    {
+        // No name without a suffix may have one.
+        if sample.exemplar.is_some() {
+            return Ok(Some(Rule::Exemplar));
+        }
+        if self.is_current(&sample.name) {
+            let rule = self.name_rule(sample)?;
+            return Ok(Some(rule));
+        }
+        if self.is_left(&sample.name) {
+            return Ok(Some(Rule::Split));
+        }
+        let told = self.no_part_or_rule();
+        let family = sample.name.copy()?;
+        self.begin(family)?;
+        self.add_sample(Kind::Unknown, sample, told)
+    }
+
+    /// Takes a sample line, and answers the rule that it breaks.
+    pub(super) fn take_sample(&mut self, sample: Sample) -> Result<Option<Rule>, Memory>
+        ensures { IfOk result (Takes (items.Sample sample) self.old self.new) }
+    {
+        if self.is_current_sample(&sample.name) {
+            return self.take_own(sample);
+        }
+        self.take_other(sample)
+    }
+}

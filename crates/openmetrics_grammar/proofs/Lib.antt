@@ -1,0 +1,4 @@
+pub mod LabelSteps
+pub mod TokenSteps
+pub mod SampleSteps
+pub mod DescriptorSteps

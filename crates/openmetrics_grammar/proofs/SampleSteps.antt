@@ -1,0 +1,281 @@
+-- Samples and exemplars, step by step.
+use Rattle.std.proofs.Common.{◌≡◌, ℕ, ◌<◌, Bool, true, false, not, ◌&&◌, ◌||◌, List, [], ◌∷◌, length, Option, Some, None, refl, sym, ap, ◌∙◌, arith, codes}
+use Rattle.std.specs.Prelude.{take_while, option_map, if◌then◌else◌}
+use Rattle.std.specs.Str.{bytes_eq}
+use Rattle.label_sets.specs.declared.label.Label.{Label}
+use Rattle.label_sets.specs.declared.label_set.LabelSet.{LabelSet}
+use Rattle.label_sets.specs.Lists.{◌>>=◌, when_true, behind, some_passes}
+use Rattle.label_sets.specs.Labels.{label_set}
+use Rattle.label_sets.specs.Names.{is_metric_name, is_metric_char}
+use Rattle.exact_decimal.specs.Numbers.{number}
+use Rattle.page_model.specs.declared.format.Format.TheVariants.{OpenMetrics}
+use Rattle.page_model.specs.declared.format.Treatment.{Treatment}
+use Rattle.page_model.specs.declared.item.Exemplar.{Exemplar}
+use Rattle.page_model.specs.declared.item.Item.TheVariants as items
+use Rattle.page_model.specs.declared.item.Sample.{Sample}
+use Rattle.page_model.specs.declared.rule.Rule.TheVariants as rules
+use Rattle.page_model.specs.Written.{WrittenExemplar, WrittenSample, sample, exemplar_of, token_out_of_range, stamp_out_of_range, stamp_number, exemplar_out_of_range, has_out_of_range, is_label_list}
+use Rattle.page_model.specs.OpenReading.{list_at, optional_list_at, value_at, stamp_at, sample_of}
+use Rattle.page_model.specs.OpenReading as reading
+use Rattle.line_scan.specs.declared.line.LineRead.TheVariants as reads
+use Rattle.line_scan.specs.declared.scan.Cut.{Cut}
+use Rattle.line_scan.specs.Cuts.{IsNamed}
+use Rattle.line_scan.specs.LineReading.{says_fault, Reads}
+use Rattle.openmetrics_grammar.specs.declared.exemplar.ExemplarRead.{ExemplarRead}
+use Rattle.openmetrics_grammar.specs.declared.sample.SampleRead.{SampleRead}
+use Rattle.openmetrics_grammar.specs.Samples.{IsExemplarOf, IsMaybeExemplarOf, IsMaybeExemplarIn, IsExemplarIn, IsSampleOf, exemplar_behind, maybe_in_range, has_bad_exemplar_labels, exemplar_made, no_exemplar, an_exemplar}
+
+-- ---- an exemplar
+
+not_all : (left : List ℕ) (w : WrittenExemplar) → 0 < length left → when_true (bytes_eq left []) w ≡ None
+not_all [] w some = absurd (omega arith)
+not_all (c ∷ cs) w some = refl
+
+all_read : (left : List ℕ) (w : WrittenExemplar) → length left ≡ 0 → when_true (bytes_eq left []) w ≡ Some w
+all_read [] w none = refl
+all_read (c ∷ cs) w none = absurd (omega arith)
+
+pub exemplar-no_list : (cs : List ℕ) → None ≡ list_at cs → exemplar_behind cs ≡ None
+exemplar-no_list cs h = rw (← h) refl
+
+module _ (cs rest : List ℕ) (labels : List Label) (l : Some (labels, rest) ≡ list_at cs) where
+  pub exemplar-no_value : value_at rest ≡ None → exemplar_behind cs ≡ None
+  exemplar-no_value h = rw (← l, h) refl
+
+  module _ (value behind_value : List ℕ) (v : value_at rest ≡ Some (value, behind_value)) where
+    pub exemplar-no_stamp : stamp_at behind_value ≡ None → exemplar_behind cs ≡ None
+    exemplar-no_stamp h = rw (← l, v, h) refl
+
+    module _ (stamp : Option (List ℕ)) (left : List ℕ) (s : stamp_at behind_value ≡ Some (stamp, left)) where
+      pub exemplar-more : 0 < length left → exemplar_behind cs ≡ None
+      exemplar-more h = rw (← l, v, s) (not_all left (record { labels = labels; value = value; stamp = stamp }) h)
+
+      pub exemplar-found : length left ≡ 0 → exemplar_behind cs ≡ Some (record { labels = labels; value = value; stamp = stamp })
+      exemplar-found h = rw (← l, v, s) (all_read left (record { labels = labels; value = value; stamp = stamp }) h)
+
+-- the numbers of an exemplar are in range where both of them are
+pub exemplar_range : (w : WrittenExemplar) (a b : Bool) → a ≡ not (token_out_of_range w.value) → b ≡ not (some_passes token_out_of_range w.stamp) → (a && b) ≡ not (exemplar_out_of_range OpenMetrics w)
+exemplar_range w a b e g = rw (e, g) (go (token_out_of_range w.value) w.stamp)
+  where
+    go : (x : Bool) (o : Option (List ℕ)) → (not x && not (some_passes token_out_of_range o)) ≡ not (x || some_passes (stamp_out_of_range OpenMetrics) o)
+    go true o = refl
+    go false None = refl
+    go false (Some token) = refl
+
+pub no_exemplar_at : (cs : List ℕ) → length cs ≡ 0 → IsMaybeExemplarIn (reading.exemplar_of cs) None
+unfolding reading.exemplar_of
+no_exemplar_at [] h = record { written = None; found_is = refl; read = no_exemplar }
+no_exemplar_at (c ∷ cs) h = absurd (omega arith)
+
+pub exemplar-no_mark : (cs : List ℕ) → 0 < length cs → None ≡ behind (codes " # ") cs → reading.exemplar_of cs ≡ None
+unfolding reading.exemplar_of
+exemplar-no_mark [] some h = absurd (omega arith)
+exemplar-no_mark (c ∷ cs) some h = rw (← h) refl
+
+abbrev some_exemplar : WrittenExemplar → Option (Option WrittenExemplar)
+some_exemplar w = Some (Some w)
+
+abbrev exemplar_with : List Label → List ℕ → Option (List ℕ) → WrittenExemplar
+exemplar_with labels value stamp = record { labels = labels; value = value; stamp = stamp }
+
+-- an exemplar that may be there is the one behind its mark, step by step
+marked_end : (b : Bool) (w : WrittenExemplar) → when_true b (Some w) ≡ (when_true b w >>= some_exemplar)
+marked_end true w = refl
+marked_end false w = refl
+
+module _ (labels : List Label) where
+  abbrev stamped : List ℕ → Option (List ℕ) × List ℕ → Option (Option WrittenExemplar)
+  stamped value s = when_true (bytes_eq s.1 []) (Some (exemplar_with labels value s.0))
+
+  abbrev stamped_alone : List ℕ → Option (List ℕ) × List ℕ → Option WrittenExemplar
+  stamped_alone value s = when_true (bytes_eq s.1 []) (exemplar_with labels value s.0)
+
+  marked_stamp : (value : List ℕ) (o : Option (Option (List ℕ) × List ℕ)) → (o >>= stamped value) ≡ (o >>= stamped_alone value >>= some_exemplar)
+  marked_stamp value None = refl
+  marked_stamp value (Some s) = marked_end (bytes_eq s.1 []) (exemplar_with labels value s.0)
+
+  abbrev valued : List ℕ × List ℕ → Option (Option WrittenExemplar)
+  valued v = stamp_at v.1 >>= stamped v.0
+
+  abbrev valued_alone : List ℕ × List ℕ → Option WrittenExemplar
+  valued_alone v = stamp_at v.1 >>= stamped_alone v.0
+
+  marked_value : (o : Option (List ℕ × List ℕ)) → (o >>= valued) ≡ (o >>= valued_alone >>= some_exemplar)
+  marked_value None = refl
+  marked_value (Some v) = marked_stamp v.0 (stamp_at v.1)
+
+abbrev labelled : List Label × List ℕ → Option (Option WrittenExemplar)
+labelled l = value_at l.1 >>= valued l.0
+
+abbrev labelled_alone : List Label × List ℕ → Option WrittenExemplar
+labelled_alone l = value_at l.1 >>= valued_alone l.0
+
+marked_list : (o : Option (List Label × List ℕ)) → (o >>= labelled) ≡ (o >>= labelled_alone >>= some_exemplar)
+marked_list None = refl
+marked_list (Some l) = marked_value l.0 (value_at l.1)
+
+exemplar_marked : (cs body : List ℕ) → 0 < length cs → Some body ≡ behind (codes " # ") cs → reading.exemplar_of cs ≡ (exemplar_behind body >>= some_exemplar)
+unfolding reading.exemplar_of
+exemplar_marked [] body some h = absurd (omega arith)
+exemplar_marked (c ∷ cs) body some h = rw (← h) (marked_list (list_at body))
+
+module _ (cs body : List ℕ) (some : 0 < length cs) (mark : Some body ≡ behind (codes " # ") cs) where
+  pub marked-none : exemplar_behind body ≡ None → reading.exemplar_of cs ≡ None
+  marked-none h = exemplar_marked cs body some mark ∙ rw h refl
+
+  pub marked-found : (e : ExemplarRead) → IsExemplarIn (exemplar_behind body) e → IsMaybeExemplarIn (reading.exemplar_of cs) (Some e)
+  marked-found e i = record {
+    written = Some i.written;
+    found_is = exemplar_marked cs body some mark ∙ rw i.found_is refl;
+    read = an_exemplar i.written e i.read;
+  }
+
+-- ---- a sample
+
+pub sample-no_name : (cs : List ℕ) → is_metric_name (take_while is_metric_char cs) ≡ false → sample_of cs ≡ None
+unfolding sample_of
+sample-no_name cs h = rw h refl
+
+module _ (cs : List ℕ) (cut : Cut) (n : IsNamed is_metric_name is_metric_char cs cut) where
+  pub sample-no_list : None ≡ optional_list_at cut.rest.now → sample_of cs ≡ None
+  unfolding sample_of
+  sample-no_list h = rw (n.named, ← n.rest, ← h) refl
+
+  module _ (rest : List ℕ) (labels : List Label) (l : Some (labels, rest) ≡ optional_list_at cut.rest.now) where
+    pub sample-no_value : value_at rest ≡ None → sample_of cs ≡ None
+    unfolding sample_of
+    sample-no_value h = rw (n.named, ← n.rest, ← l, h) refl
+
+    module _ (value behind_value : List ℕ) (v : value_at rest ≡ Some (value, behind_value)) where
+      pub sample-no_stamp : stamp_at behind_value ≡ None → sample_of cs ≡ None
+      unfolding sample_of
+      sample-no_stamp h = rw (n.named, ← n.rest, ← l, v, h) refl
+
+      module _ (stamp : Option (List ℕ)) (left : List ℕ) (s : stamp_at behind_value ≡ Some (stamp, left)) where
+        pub sample-no_exemplar : reading.exemplar_of left ≡ None → sample_of cs ≡ None
+        unfolding sample_of
+        sample-no_exemplar h = rw (n.named, ← n.rest, ← l, v, s, h) refl
+
+        pub sample-found : (exemplar : Option WrittenExemplar) → reading.exemplar_of left ≡ Some exemplar
+            → sample_of cs ≡ Some (sample (record { name = cut.front.now; labels = labels; value = value; stamp = stamp; exemplar = exemplar }))
+        unfolding sample_of
+        sample-found exemplar h = rw (n.named, ← n.rest, ← l, v, s, h, n.front) refl
+
+maybe_range : (w : Option WrittenExemplar) (e : Option ExemplarRead) → IsMaybeExemplarOf w e → maybe_in_range e ≡ not (some_passes (exemplar_out_of_range OpenMetrics) w)
+maybe_range _ _ no_exemplar = refl
+maybe_range _ _ (an_exemplar w e i) = i.in_range
+
+-- the numbers of a sample are in range where all of them are
+pub sample_range : (w : WrittenSample) (a b : Bool) (e : Option ExemplarRead) → a ≡ not (token_out_of_range w.value) → b ≡ not (some_passes token_out_of_range w.stamp) → IsMaybeExemplarOf w.exemplar e
+    → (a && b && maybe_in_range e) ≡ not (has_out_of_range OpenMetrics (sample w))
+sample_range w a b e x y i = rw (x, y, maybe_range w.exemplar e i) (go (token_out_of_range w.value) w.stamp (some_passes (exemplar_out_of_range OpenMetrics) w.exemplar))
+  where
+    go : (v : Bool) (o : Option (List ℕ)) (u : Bool) → (not v && not (some_passes token_out_of_range o) && not u) ≡ not (v || some_passes (stamp_out_of_range OpenMetrics) o || u)
+    go true o u = refl
+    go false None u = refl
+    go false (Some token) u = go_on (token_out_of_range token)
+      where
+        go_on : (b : Bool) → (not b && not u) ≡ not (b || u)
+        go_on true = refl
+        go_on false = refl
+
+-- ---- what is made of what is read
+
+pub made-no_exemplar : (t : Treatment) (w : Option WrittenExemplar) → IsMaybeExemplarOf w None → Some None ≡ exemplar_made t w
+made-no_exemplar t _ no_exemplar = refl
+
+same_stamp : (o : Option (List ℕ)) → option_map number o ≡ option_map (stamp_number OpenMetrics) o
+same_stamp None = refl
+same_stamp (Some token) = refl
+
+-- what was read is of an exemplar that is there
+exemplar_there : (w : Option WrittenExemplar) (e : ExemplarRead) → IsMaybeExemplarOf w (Some e) → (x : WrittenExemplar) × (w ≡ Some x) × IsExemplarOf x e
+exemplar_there _ _ (an_exemplar x e i) = (x, refl, i)
+
+module _ (t : Treatment) (x : WrittenExemplar) where
+  bad_made : (b : Bool) → is_label_list t x.labels ≡ b → None ≡ when_true (is_label_list t x.labels) (label_set x.labels) → None ≡ exemplar_made t (Some x)
+  bad_made true is g = absurd (let k = rw is at g in cc)
+  bad_made false is g = rw is refl
+
+  good_made : (set : LabelSet) (b : Bool) → is_label_list t x.labels ≡ b → Some set ≡ when_true (is_label_list t x.labels) (label_set x.labels) → (is_label_list t x.labels ≡ true) × (set ≡ label_set x.labels)
+  good_made set true is g = (is, (let k = rw is at g in cc))
+  good_made set false is g = absurd (let k = rw is at g in cc)
+
+  made_good : is_label_list t x.labels ≡ true → exemplar_made t (Some x) ≡ Some (Some (exemplar_of OpenMetrics x))
+  made_good h = rw h refl
+
+same_exemplar : (x : WrittenExemplar) (e : ExemplarRead) → IsExemplarOf x e → (set : LabelSet) → set ≡ label_set x.labels
+    → ◌≡◌ {A = Exemplar} (record { labels = set; value = e.value; stamp = e.stamp }) (exemplar_of OpenMetrics x)
+same_exemplar x e i set same = rw (same, i.value, i.stamp, same_stamp x.stamp) refl
+
+module _ (t : Treatment) (w : Option WrittenExemplar) (e : ExemplarRead) (i : IsMaybeExemplarOf w (Some e)) where
+  pub made-bad_labels : None ≡ when_true (is_label_list t e.labels.items) (label_set e.labels.items) → None ≡ exemplar_made t w
+  made-bad_labels h = let there = exemplar_there w e i in rw there.1 (bad_made t there.0 (is_label_list t there.0.labels) refl (rw there.2.labels at h))
+
+  pub made-exemplar : (set : LabelSet) → Some set ≡ when_true (is_label_list t e.labels.items) (label_set e.labels.items)
+      → Some (Some (record { labels = set; value = e.value; stamp = e.stamp })) ≡ exemplar_made t w
+  made-exemplar set h =
+      let there = exemplar_there w e i in
+      let good = good_made t there.0 set (is_label_list t there.0.labels) refl (rw there.2.labels at h) in
+      ap (λ (y : Exemplar). Some (Some y)) (same_exemplar there.0 e there.2 set good.1) ∙ sym (made_good t there.0 good.0) ∙ ap (exemplar_made t) (sym there.1)
+
+-- ---- the item of a sample
+
+not_both : (a b : Bool) → a ≡ not b → b ≡ not a
+not_both a true e = ap not (sym e)
+not_both a false e = ap not (sym e)
+
+no_set : (b : Bool) (set : LabelSet) → None ≡ when_true b set → b ≡ false
+no_set true set h = absurd cc
+no_set false set h = refl
+
+a_set : (b : Bool) (x set : LabelSet) → Some x ≡ when_true b set → (b ≡ true) × (x ≡ set)
+a_set true x set h = (refl, cc)
+a_set false x set h = absurd cc
+
+no_made : (b : Bool) (o : Option Exemplar) → None ≡ (if b then None else Some o) → b ≡ true
+no_made true o h = refl
+no_made false o h = absurd cc
+
+a_made : (b : Bool) (x o : Option Exemplar) → Some x ≡ (if b then None else Some o) → (b ≡ false) × (x ≡ o)
+a_made true x o h = absurd cc
+a_made false x o h = (refl, cc)
+
+module _ (t : Treatment) (w : WrittenSample) where
+  fault_of : (a b c : Bool) → has_out_of_range OpenMetrics (sample w) ≡ a → is_label_list t w.labels ≡ b → has_bad_exemplar_labels t w.exemplar ≡ c
+      → says_fault OpenMetrics t (Some (sample w)) ≡ (if a then Some rules.Range else (if not b || c then Some rules.Labels else None))
+  fault_of a b c e f g = rw (e, f, g) refl
+
+  module _ (s : SampleRead) (i : IsSampleOf w s) where
+    pub said-range : s.in_range ≡ false → says_fault OpenMetrics t (Some (sample w)) ≡ Some rules.Range
+    said-range e = fault_of true (is_label_list t w.labels) (has_bad_exemplar_labels t w.exemplar) (not_both s.in_range (has_out_of_range OpenMetrics (sample w)) i.in_range ∙ ap not e) refl refl
+
+    module _ (e : s.in_range ≡ true) where
+      ranged : has_out_of_range OpenMetrics (sample w) ≡ false
+      ranged = not_both s.in_range (has_out_of_range OpenMetrics (sample w)) i.in_range ∙ ap not e
+
+      pub said-labels : None ≡ when_true (is_label_list t s.labels.items) (label_set s.labels.items) → says_fault OpenMetrics t (Some (sample w)) ≡ Some rules.Labels
+      said-labels h = fault_of false false (has_bad_exemplar_labels t w.exemplar) ranged (ap (is_label_list t) (sym i.labels) ∙ no_set (is_label_list t s.labels.items) (label_set s.labels.items) h) refl
+
+      module _ (set : LabelSet) (h : Some set ≡ when_true (is_label_list t s.labels.items) (label_set s.labels.items)) where
+        good_set : (is_label_list t s.labels.items ≡ true) × (set ≡ label_set s.labels.items)
+        good_set = a_set (is_label_list t s.labels.items) set (label_set s.labels.items) h
+
+        listed : is_label_list t w.labels ≡ true
+        listed = ap (is_label_list t) (sym i.labels) ∙ good_set.0
+
+        pub said-exemplar : None ≡ exemplar_made t w.exemplar → says_fault OpenMetrics t (Some (sample w)) ≡ Some rules.Labels
+        said-exemplar g = fault_of false true true ranged listed (no_made (has_bad_exemplar_labels t w.exemplar) (option_map (exemplar_of OpenMetrics) w.exemplar) g)
+
+        pub said-sample : (exemplar : Option Exemplar) → Some exemplar ≡ exemplar_made t w.exemplar → (name : List ℕ) → name ≡ s.name.now
+            → Reads OpenMetrics t (Some (sample w)) (reads.Item (items.Sample (record { name = name; labels = set; value = s.value; stamp = s.stamp; exemplar = exemplar })))
+        said-sample exemplar g name n =
+            let made = a_made (has_bad_exemplar_labels t w.exemplar) exemplar (option_map (exemplar_of OpenMetrics) w.exemplar) g in (
+              fault_of false true false ranged listed made.0,
+              ap (λ (x : Sample). Some (items.Sample x)) (sym (same_sample name set exemplar n (good_set.1 ∙ ap label_set i.labels) made.1)),
+            )
+          where
+            same_sample : (nm : List ℕ) (st : LabelSet) (ex : Option Exemplar) → nm ≡ s.name.now → st ≡ label_set w.labels → ex ≡ option_map (exemplar_of OpenMetrics) w.exemplar
+                → ◌≡◌ {A = Sample} (record { name = nm; labels = st; value = s.value; stamp = s.stamp; exemplar = ex })
+                (record { name = w.name; labels = label_set w.labels; value = number w.value; stamp = option_map (stamp_number OpenMetrics) w.stamp; exemplar = option_map (exemplar_of OpenMetrics) w.exemplar })
+            same_sample nm st ex a b c = rw (a ∙ i.name, b, i.value, i.stamp ∙ same_stamp w.stamp, c) refl

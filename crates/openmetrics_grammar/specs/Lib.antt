@@ -1,0 +1,4 @@
+pub mod LabelLists
+pub mod Tokens
+pub mod Samples
+pub mod Descriptors

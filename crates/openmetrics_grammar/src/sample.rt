@@ -1,0 +1,142 @@
+//! Sample lines (OpenMetrics 1.0, "ABNF": sample).
+ghost use Rattle.std.specs.Prelude.{◌≡◌, ◌&&◌, IfOk, IsUtf8, MatchOption, Option, None, Some};
+ghost use Rattle.page_model.specs.declared.format.Format.TheVariants.{OpenMetrics};
+ghost use Rattle.page_model.specs.OpenReading.{sample_of};
+ghost use Rattle.page_model.specs.Written.{WrittenExemplar, WrittenSample, sample};
+ghost use Rattle.line_scan.specs.LineReading.{Reads};
+ghost use Rattle.openmetrics_grammar.specs.Samples.{IsSampleOf, IsSampleIn, IsMaybeExemplarOf, maybe_in_range, exemplar_made};
+
+use crate::exemplar::{ExemplarRead, exemplar_of};
+use crate::labels::optional_list_at;
+use crate::numbers::{StampAt, ValueAt, are_in_range, stamp_at, value_at};
+use exact_decimal::Number;
+use label_sets::{Label, Memory, Name};
+use line_scan::{LineRead, MetricChar, cut_name, own_labels, set_of};
+use page_model::{Exemplar, Item, Rule, Sample, Treatment};
+use std::alloc::Global;
+
+/// A sample as it is written, its numbers read.
+#[derive(Drop)]
+struct SampleRead<'a> {
+    name: &'a [u8],
+    labels: Vec<Label>,
+    value: Number,
+    stamp: Option<Number>,
+    exemplar: Option<ExemplarRead>,
+    /// Whether each number of the line is in range.
+    in_range: bool,
+}
+
+/// Whether each number of a line is in range.
+fn line_in_range(value: &ValueAt<'_>, stamp: &StampAt<'_>, exemplar: &Option<ExemplarRead>) -> bool
+    ensures { result ≡ (value.now.in_range && stamp.now.in_range && maybe_in_range exemplar.now) }
+{
+    match exemplar {
+        Some(exemplar) => are_in_range(value, stamp) && exemplar.in_range,
+        None => are_in_range(value, stamp),
+    }
+}
+
+/// The parts of a sample line.
+fn sample_of<'a>(
+    alloc: Global,
+    bytes: &'a [u8],
+    labels: &mut Vec<Label>,
+) -> Result<Option<SampleRead<'a>>, Memory>
+    requires { IsUtf8 bytes.now }
+    ensures { IfOk result (λ read. MatchOption read (sample_of bytes.now ≡ None) (IsSampleIn (sample_of bytes.now))) }
+{
+    let Some(name) = cut_name::<MetricChar>(bytes) else {
+        return Ok(None);
+    };
+    // A line that was refused may have left some.
+    labels.clear();
+    let Some(rest) = optional_list_at(alloc, name.rest, labels)? else {
+        return Ok(None);
+    };
+    let Some(value) = value_at(rest) else {
+        return Ok(None);
+    };
+    let Some(stamp) = stamp_at(value.rest) else {
+        return Ok(None);
+    };
+    let Some(exemplar) = exemplar_of(alloc, stamp.rest)? else {
+        return Ok(None);
+    };
+    let labels = own_labels(alloc, labels)?;
+    let in_range = line_in_range(&value, &stamp, &exemplar);
+    Ok(Some(SampleRead {
+        name: name.front,
+        labels,
+        value: value.value,
+        stamp: stamp.stamp,
+        exemplar,
+        in_range,
+    }))
+}
+
+/// The exemplar of a sample, or that there is none; nothing where its labels break a rule.
+fn made_exemplar(
+    alloc: Global,
+    treatment: Treatment,
+    exemplar: Option<ExemplarRead>,
+) -> Result<Option<Option<Exemplar>>, Memory>
+    ensures { (written : Option WrittenExemplar) → IsMaybeExemplarOf written exemplar → IfOk result (λ made. made ≡ exemplar_made treatment written) }
+{
+    let Some(read) = exemplar else {
+        return Ok(Some(None));
+    };
+    let Some(labels) = set_of(alloc, treatment, read.labels)? else {
+        return Ok(None);
+    };
+    Ok(Some(Some(Exemplar {
+        labels,
+        value: read.value,
+        stamp: read.stamp,
+    })))
+}
+
+/// The item of a sample. It is refused where a number is out of range, else where the labels or those of the
+/// exemplar break a rule.
+fn made_sample(
+    alloc: Global,
+    treatment: Treatment,
+    read: SampleRead<'_>,
+) -> Result<LineRead, Memory>
+    requires { IsUtf8 read.name.now }
+    ensures { (written : WrittenSample) → IsSampleOf written read.entry → IfOk result (Reads OpenMetrics treatment (Some (sample written))) }
+{
+    if !read.in_range {
+        return Ok(LineRead::Refused(Rule::Range));
+    }
+    let Some(labels) = set_of(alloc, treatment, read.labels)? else {
+        return Ok(LineRead::Refused(Rule::Labels));
+    };
+    let Some(exemplar) = made_exemplar(alloc, treatment, read.exemplar)? else {
+        return Ok(LineRead::Refused(Rule::Labels));
+    };
+    let name = Name::from_utf8(alloc, read.name)?;
+    Ok(LineRead::Item(Item::Sample(Sample {
+        name,
+        labels,
+        value: read.value,
+        stamp: read.stamp,
+        exemplar,
+    })))
+}
+
+/// A sample line.
+pub(crate) fn sample_line(
+    alloc: Global,
+    treatment: Treatment,
+    bytes: &[u8],
+    labels: &mut Vec<Label>,
+) -> Result<LineRead, Memory>
+    requires { IsUtf8 bytes.now }
+    ensures { IfOk result (Reads OpenMetrics treatment (sample_of bytes.now)) }
+{
+    match sample_of(alloc, bytes, labels)? {
+        Some(read) => made_sample(alloc, treatment, read),
+        None => Ok(LineRead::Refused(Rule::Syntax)),
+    }
+}
