@@ -16,9 +16,12 @@ Kinds of pages:
 Ways in which they collide, in the hash of the kit (`FoldHasher`, which has no seed):
     packed      all keys have one hash, each hashed as one string of bytes
     bucket      the same, but their hashes share the low 16 bits alone
-    second      the first keys have one hash, and so go over to an ordered map; the others share the second
-                hash, by which that map finds them
+    second      the first keys have one hash, and so go over to an ordered map; the others share the hash of
+                `second` and themselves, by which that map found them while both hashes were of one hasher
     parts       all keys have one hash, each part of them hashed by itself, as a derived `Hash` does
+
+No page is made whose keys share both hashes of the table: the second is SipHash-1-3, and no one can write
+down many keys that share it.
 
 The two pages take turns in each round; the least time of each counts. Exit status 1 where a ratio is above
 two.
@@ -177,7 +180,7 @@ KINDS = {
 
 
 def second(key: Key) -> list[bytes]:
-    """A key as the second hash meets it."""
+    """A key as the second hash of before met it."""
     return [b"second", *packed(key)]
 
 
