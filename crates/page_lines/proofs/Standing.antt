@@ -2,7 +2,7 @@
 use Rattle.std.proofs.Common.{◌≡◌, ℕ, false, ◌+◌, ◌-◌, ◌<◌, ◌≤◌, List, [], ◌∷◌, ◌++◌, refl, sym, ap, subst, ◌∙◌, arith, length, take, drop, get_or}
 use Rattle.std.proofs.Math.Seq.{take-append-add}
 use Rattle.std.proofs.lemmas.List.{append-nil, append_assoc, length-append, length-drop, length-take, length-take-le, length_push, take-append-drop, take_at, take-append-le, take-take, take_all, take_more}
-use Rattle.std.proofs.lemmas.List.Elements.{All-take}
+use Rattle.std.proofs.lemmas.List.Elements.{All-take, All-append}
 use Rattle.page_lines.specs.declared.Place.{Place}
 use Rattle.page_lines.specs.declared.Place.TheVariants.{Within, Behind, Passing}
 use Rattle.page_lines.specs.declared.Step.{Step}
@@ -341,3 +341,9 @@ stands-new most =
       behind = λ e. absurd (cc);
       passing = λ e. absurd (cc);
     }
+
+-- a line without a line feed that takes the front of such bytes has none
+pub plain-on : (line more piece : List ℕ) (room n : ℕ) → Plain line → Plain (take n piece) → room ≤ n → more ≡ line ++ take room piece → Plain more
+plain-on line more piece room n a b within e =
+    let front : Plain (take room piece) = subst Plain (take-take room n piece within) (All-take (λ c. is_line_feed c ≡ false) room (take n piece) b) in
+    subst Plain (sym e) (All-append (λ c. is_line_feed c ≡ false) line (take room piece) a front)

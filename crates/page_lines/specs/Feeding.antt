@@ -7,7 +7,7 @@ use Rattle.page_lines.specs.declared.Last.{Last}
 use Rattle.page_lines.specs.declared.Last.TheVariants.{Clean, Open}
 use Rattle.page_lines.specs.declared.Step.{Step}
 use Rattle.page_lines.specs.declared.Step.TheVariants.{Line, More, TooLong}
-use Rattle.page_lines.specs.Lines.{ended_lines, open_line, lines_of, ends_clean}
+use Rattle.page_lines.specs.Lines.{Plain, ended_lines, open_line, lines_of, ends_clean}
 use Rattle.page_lines.specs.Told.{Told, whole, too_long, told_line, told_of}
 
 -- a reader: how many bytes a line may have, how many bytes were fed, the line that was told of last or is under way, its number, and where the bytes fed end
@@ -18,13 +18,14 @@ pub record Feeding : Type 0 where
   pub number : ℕ
   pub place : Place
 
--- the fields of a reader fit together, its buffer holding `held` bytes of the `capacity` that it has
-pub record IsSound (most fed number : ℕ) (place : Place) (held capacity : ℕ) : Type 0 where
+-- the fields of a reader fit together, its buffer holding `held` bytes of the `capacity` that it has, none of them a line feed
+pub record IsSound (most fed number : ℕ) (place : Place) (line : List ℕ) (held capacity : ℕ) : Type 0 where
   pub short : held ≤ most
   pub room : most ≤ capacity
   pub few : fed < 2 ^ 32 - 1
   pub numbered : number ≤ fed + 1
   pub ended : place ≡ Behind → number ≤ fed
+  pub plain : Plain line
 
 -- the bytes fed end within a line that is under way, or in front of it
 pub record IsWithin (fed : List ℕ) (at : Feeding) : Type 0 where

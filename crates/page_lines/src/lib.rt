@@ -68,7 +68,7 @@ impl Model for Lines {
     } };
 
     ghost invariant = { λ l.
-        IsSound l.most l.fed l.number l.place (vec_len l.line) (vec_capacity l.line) };
+        IsSound l.most l.fed l.number l.place l.line.items (vec_len l.line) (vec_capacity l.line) };
 }
 
 impl Lines {
@@ -99,6 +99,7 @@ impl Lines {
     pub fn line(&self) -> &[u8]
         ensures value { result.now ≡ self.now.line }
         ensures short { length result.now ≤ self.now.most }
+        ensures plain { Plain result.now }
     {
         self.line.as_slice()
     }

@@ -1,8 +1,8 @@
 -- Each return is a step of a line that is under way.
-use Rattle.std.proofs.Common.{◌≡◌, ◌-◌, ◌<◌, arith, length, min, subst, length-take}
-use Rattle.std.proofs.lemmas.List.{take_all}
+use Rattle.std.proofs.Common.{◌≡◌, ◌-◌, ◌<◌, ap, arith, length, min, take, subst, length-take}
+use Rattle.std.proofs.lemmas.List.{take_all, length-take-le}
 use Rattle.page_lines.specs.Lines.{Plain}
-use Rattle.page_lines.proofs.Standing.{feed_in_front, step-line, step-more, step-past}
+use Rattle.page_lines.proofs.Standing.{feed_in_front, step-line, step-more, step-past, plain-on}
 use Rattle.page_lines.proofs.Lines.gather.Goals as goal
 
 pub returns-in-Some : goal.returns-in-Some
@@ -28,3 +28,17 @@ returns c =
     let room = c.self.inside.most - c.len.result in
     step-past _ _ _ _ _ c.args.self.now c.self.view_is c.args.piece.now _ c.min-window.result room c.requires.within c.in_default.ensures.none (omega arith) (omega arith) (omega arith)
     (rw c.unwrap-2.ensures at c.extend_from_slice-2.ensures.items)
+
+pub invariant_of-self-2 : goal.invariant_of-self-2
+invariant_of-self-2 c =
+    let room = c.self.inside.most - c.len.result in
+    let kept : length (take room c.args.piece.now) ≡ room = length-take-le room c.args.piece.now (omega arith) in
+    let grown = rw c.unwrap-2.ensures at c.extend_from_slice-2.ensures.len in
+    record {
+      short = omega (arith, kept, grown);
+      room = omega arith;
+      few = let e = ap (λ v. v.fed) c.self.view_is in omega (arith, e, c.requires.room);
+      numbered = omega arith;
+      ended = λ e. absurd cc;
+      plain = plain-on _ _ c.args.piece.now room c.min-window.result c.self.invariant.plain c.in_default.ensures.none (omega arith) (rw c.unwrap-2.ensures at c.extend_from_slice-2.ensures.items);
+    }
