@@ -89,7 +89,7 @@ fn reading_sum(reading: &Reading) -> u64 {
 /// A sum over a page that tells two pages apart.
 fn page_sum(page: &Page) -> u64 {
     let mut sum = 0;
-    for family in page.families.as_slice() {
+    for family in page.families().as_slice() {
         sum = mixed(sum, bytes_sum(family.name.as_bytes()));
         sum = mixed(sum, bytes_sum(family.help.as_bytes()));
         sum = mixed(sum, u64::from(family.kind == Kind::Counter));
@@ -128,8 +128,8 @@ fn main(rt: HostRuntime) -> io::Result<()> {
         let read = start.elapsed(&rt)?.as_nanos();
         match page {
             Ok(page) => {
-                let families = page.families.len();
-                let samples = page.samples;
+                let families = page.families().len();
+                let samples = page.samples();
                 let sum = page_sum(&page);
                 let start = Instant::now(&rt)?;
                 drop(page);

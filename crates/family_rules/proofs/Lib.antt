@@ -15,4 +15,5 @@ pub mod Loops
 pub mod Built
 pub mod Complete
 pub mod Values
+pub mod PageOfLines
 pub mod Laws

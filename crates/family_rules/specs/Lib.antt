@@ -3,6 +3,7 @@ pub mod Rare
 pub mod SampleKeys
 pub mod GroupRuns
 pub mod Checking
+pub mod TakenLines
 pub mod Steps
 pub mod Samples
 pub mod Made

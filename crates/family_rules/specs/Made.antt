@@ -4,9 +4,9 @@ use Rattle.exact_decimal.specs.declared.number.Number.{Number}
 use Rattle.label_sets.specs.declared.kind.Kind.{Kind}
 use Rattle.page_model.specs.declared.format.Format.{Format}
 use Rattle.page_model.specs.declared.page.Family.{Family}
-use Rattle.page_model.specs.declared.page.Page.{Page}
 use Rattle.page_model.specs.declared.page.Reading.{Reading}
 use Rattle.page_model.specs.declared.page.Value.TheVariants as values
+use Rattle.page_model.specs.PageValues.{PageValue}
 use Rattle.sample_groups.specs.Groups.{reading_from}
 use Rattle.sample_groups.specs.Parts.{is_grouped}
 use Rattle.packed_keys.specs.declared.sample_key.SampleKey.{SampleKey}
@@ -52,5 +52,5 @@ families_at format [] keys = []
 families_at format (e ∷ es) keys = family_at format e.0 e.1 keys ∷ families_at format es (drop (length e.1.values) keys)
 
 -- the page of what is kept
-unfoldable pub page_at : Checking → Page
+unfoldable pub page_at : Checking → PageValue
 page_at c = record { families = families_at c.setting.format (with_left c.left c.current) c.seen; samples = c.samples }

@@ -1,4 +1,4 @@
-//! The checker: items in, and the first fault, a page or its counts out.
+//! The checker of items: items in, and the first fault, the parts of a page or its counts out.
 ghost use Rattle.std.specs.Prelude.{◌≡◌, List, [], ◌∷◌, Err, IfErr, Some, IfOk, OnOk};
 ghost use Rattle.page_model.specs.Written.{Setting};
 ghost use Rattle.page_model.specs.declared.item.Item.{Item};
@@ -16,15 +16,16 @@ use crate::keys::SampleKeys;
 use crate::left::LeftFamilies;
 use crate::pages::families_in;
 use crate::runs::GroupRuns;
-use label_sets::Memory;
-use page_model::{Format, Item, Page, PageCounts, PageFault, Rule, Treatment};
+use label_sets::{List, Memory};
+use page_model::{Family, Format, Item, PageCounts, PageFault, Rule, Treatment};
 use places::put_left;
 use std::alloc::Global;
 use std::marker::Model;
 
-/// Checks the rules of a page in one pass over its items and builds its page.
+/// Checks the rules of a page in one pass over its items and builds the parts of its page. It takes any items, also
+/// such as no line spells, so it can't know that the page is right.
 #[derive(Drop)]
-pub struct Checker {
+pub(crate) struct ItemChecker {
     alloc: Global,
     format: Format,
     treatment: Treatment,
@@ -41,7 +42,7 @@ pub struct Checker {
     stopped: Option<PageFault>,
 }
 
-impl Model for Checker {
+impl Model for ItemChecker {
     ghost use Rattle.family_rules.specs.Checking.{Checking};
 
     ghost Value = { Checking };
@@ -58,7 +59,7 @@ impl Model for Checker {
     } };
 }
 
-impl Checker {
+impl ItemChecker {
     ghost use Rattle.family_rules.specs.Checking.{Stands, Answers, TellsEnd, HasStopped};
     ghost use Rattle.family_rules.specs.Steps.{Takes, TakesAny, has_ended, end_stop};
     ghost use Rattle.family_rules.specs.Made.{page_at};
@@ -69,11 +70,11 @@ impl Checker {
         format: Format,
         treatment: Treatment,
         limit: u32,
-    ) -> Result<Checker, Memory>
+    ) -> Result<ItemChecker, Memory>
         ensures { IfOk result (λ c. Stands (record { format = format; treatment = treatment; limit = limit }) c []) }
     {
         let keys = SampleKeys::new(alloc, true);
-        Ok(Checker::over(alloc, format, treatment, limit, keys))
+        Ok(ItemChecker::over(alloc, format, treatment, limit, keys))
     }
 
     /// The same, for a page that will be counted: it takes less memory, and `close` more time.
@@ -82,11 +83,11 @@ impl Checker {
         format: Format,
         treatment: Treatment,
         limit: u32,
-    ) -> Result<Checker, Memory>
+    ) -> Result<ItemChecker, Memory>
         ensures { IfOk result (λ c. Stands (record { format = format; treatment = treatment; limit = limit }) c []) }
     {
         let keys = SampleKeys::new(alloc, false);
-        Ok(Checker::over(alloc, format, treatment, limit, keys))
+        Ok(ItemChecker::over(alloc, format, treatment, limit, keys))
     }
 
     /// A checker that has taken no line and seen no key.
@@ -96,11 +97,11 @@ impl Checker {
         treatment: Treatment,
         limit: u32,
         seen: SampleKeys,
-    ) -> Checker
+    ) -> ItemChecker
         requires { seen ≡ [] }
         ensures { Stands (record { format = format; treatment = treatment; limit = limit }) result [] }
     {
-        Checker {
+        ItemChecker {
             alloc,
             format,
             treatment,
@@ -168,6 +169,7 @@ impl Checker {
 
     /// Takes the item of a line. It is refused where it breaks a rule, the least of which is named, and the
     /// checker goes on answering its first refusal, or `Memory` after that.
+    #[inline(always)]
     pub fn item(&mut self, line: u32, item: Item) -> Result<(), PageFault>
         ensures answer { (st : Setting) (earlier : List Item) → Stands st self.old earlier → Answers line (item_fault st earlier item) result }
         ensures stands { (st : Setting) (earlier : List Item) → Stands st self.old earlier → OnOk result (Stands st self.new (item ∷ earlier)) }
@@ -184,11 +186,11 @@ impl Checker {
         }
     }
 
-    /// The page of the lines that were taken.
-    fn into_page(self) -> Result<Page, Memory>
-        ensures { IfOk result (λ page. page ≡ page_at self) }
+    /// The families and the number of samples of the lines that were taken.
+    fn into_parts(self) -> Result<(List<Family>, u32), Memory>
+        ensures { IfOk result (λ parts. page_at self ≡ record { families = parts.0; samples = parts.1 }) }
     {
-        let Checker {
+        let ItemChecker {
             alloc,
             format,
             mut left,
@@ -199,14 +201,14 @@ impl Checker {
         } = self;
         put_left(&mut left, current)?;
         let families = families_in(alloc, format, left, seen.into_entries())?;
-        Ok(Page { families, samples })
+        Ok((families, samples))
     }
 
     /// How many families and samples the lines that were taken have.
     fn into_counts(self) -> Result<PageCounts, Memory>
         ensures { IfOk result (λ counts. counts ≡ counts_of (page_at self)) }
     {
-        let Checker {
+        let ItemChecker {
             mut left,
             current,
             samples,
@@ -246,20 +248,20 @@ impl Checker {
         }
     }
 
-    /// The page of all lines. `line` is the line past the last, and `clean` says that the page is empty or
-    /// ends with a line feed. An earlier refusal, or want of memory, is answered again.
-    pub fn close(self, line: u32, clean: bool) -> Result<Page, PageFault>
+    /// The families and the number of samples of all lines. `line` is the line past the last, and `clean` says that
+    /// the page is empty or ends with a line feed. An earlier refusal, or want of memory, is answered again.
+    pub fn close(self, line: u32, clean: bool) -> Result<(List<Family>, u32), PageFault>
         ensures answer { (st : Setting) (earlier : List Item) → Stands st self earlier → Answers line (end_fault st earlier clean) result }
-        ensures page { (st : Setting) (earlier : List Item) → Stands st self earlier → IfOk result (λ page. page ≡ page_of st earlier) }
+        ensures page { (st : Setting) (earlier : List Item) → Stands st self earlier → IfOk result (λ parts. page_of st earlier ≡ record { families = parts.0; samples = parts.1 }) }
         ensures stopped { (fault : PageFault) → HasStopped self fault → result ≡ Err fault }
     {
         if let Some(fault) = self.end_fault(line, clean) {
             return Err(fault);
         }
-        Ok(self.into_page()?)
+        Ok(self.into_parts()?)
     }
 
-    /// How many families and samples the page of all lines has. It answers as `close` does, and makes no page.
+    /// How many families and samples the page of all lines has. It answers as `close` does, and makes no families.
     pub fn count(self, line: u32, clean: bool) -> Result<PageCounts, PageFault>
         ensures answer { (st : Setting) (earlier : List Item) → Stands st self earlier → Answers line (end_fault st earlier clean) result }
         ensures counts { (st : Setting) (earlier : List Item) → Stands st self earlier → IfOk result (λ counts. counts ≡ counts_of (page_of st earlier)) }

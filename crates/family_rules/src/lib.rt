@@ -8,6 +8,7 @@ mod family;
 mod keys;
 mod left;
 mod numbers;
+mod page_checker;
 mod pages;
 mod rare_text;
 mod runs;
@@ -16,7 +17,7 @@ mod sample_values;
 mod tests;
 mod unit;
 
-pub use checker::Checker;
+pub use page_checker::Checker;
 pub use page_model::{
     Bucket, Cause, Event, Exemplar, Family, Format, Item, Outcome, Page, PageCounts, PageFault,
     Quantile, Reading, Rule, Sample, Shown, Treatment, Value,

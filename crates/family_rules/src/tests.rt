@@ -1,7 +1,8 @@
 use crate::Checker;
+use crate::checker::ItemChecker;
 use exact_decimal::{of, read};
-use label_sets::{Kind, Label, LabelSet, Memory, Name, Text};
-use page_model::{Exemplar, Format, Item, Page, PageCounts, PageFault, Rule, Sample, Treatment};
+use label_sets::{Kind, Label, LabelSet, List, Memory, Name, Text};
+use page_model::{Exemplar, Family, Format, Item, PageCounts, PageFault, Rule, Sample, Treatment};
 use std::alloc::{AllocError, Global};
 
 fn labels_of(alloc: Global, label: &str, value: &str) -> Result<LabelSet, Memory> {
@@ -122,8 +123,8 @@ fn read_lines(
     format: Format,
     limit: u32,
     lines: &str,
-) -> Result<Checker, PageFault> {
-    let mut checker = Checker::new(alloc, format, Treatment::Scraped, limit)?;
+) -> Result<ItemChecker, PageFault> {
+    let mut checker = ItemChecker::new(alloc, format, Treatment::Scraped, limit)?;
     let mut number: u32 = 0;
     for line in lines.split(';') {
         number = number.saturating_add(1);
@@ -132,14 +133,14 @@ fn read_lines(
     Ok(checker)
 }
 
-/// The page of the lines, or the first refusal, which the end answers again.
+/// The families and the number of samples of the lines, or the first refusal, which the end answers again.
 fn read_page(
     alloc: Global,
     format: Format,
     limit: u32,
     lines: &str,
     clean: bool,
-) -> Result<Page, PageFault> {
+) -> Result<(List<Family>, u32), PageFault> {
     read_lines(alloc, format, limit, lines)?.close(99, clean)
 }
 
@@ -224,8 +225,8 @@ fn checks_groups(rt: HostRuntime) {
 #[test]
 fn builds_the_page(rt: HostRuntime) -> Result<(), PageFault> {
     let lines = "help b;histogram h;h_bucket le=1 2;h_bucket le=+Inf 2;counter a;a 2;a 1";
-    let page = read_page(rt.alloc(), Format::Text, 4, lines, true)?;
-    assert_eq!(rt; page.samples, 4);
+    let (families, samples) = read_page(rt.alloc(), Format::Text, 4, lines, true)?;
+    assert_eq!(rt; samples, 4);
     let counts = read_lines(rt.alloc(), Format::Text, 4, lines)?.count(9, true)?;
     assert_eq!(rt;
         counts,
@@ -235,13 +236,13 @@ fn builds_the_page(rt: HostRuntime) -> Result<(), PageFault> {
         }
     );
     let mut readings = 0;
-    for family in page.families.as_slice() {
+    for family in families.as_slice() {
         readings = family.readings.len();
         if family.name.as_str() == "h" {
             assert_eq!(rt; readings, 1);
         }
     }
-    assert_eq!(rt; page.families.len(), 3);
+    assert_eq!(rt; families.len(), 3);
     assert_eq!(rt; readings, 2);
     Ok(())
 }
@@ -296,13 +297,30 @@ fn refuses_open_pages(rt: HostRuntime) {
 fn builds_open_pages(rt: HostRuntime) -> Result<(), PageFault> {
     let lines =
         "counter c;noted c_total;c_total a;c_created a;info i;i_info a;i_info b;stateset s;s s=on 1;s s=off 0;summary q;q_created a;eof";
-    let page = read_page(rt.alloc(), Format::OpenMetrics, 9, lines, false)?;
-    for family in page.families.as_slice() {
+    let (families, samples) = read_page(rt.alloc(), Format::OpenMetrics, 9, lines, false)?;
+    for family in families.as_slice() {
         let readings = family.readings.len();
         let expected = if family.name.as_str() == "q" { 0 } else { 2 };
         assert_eq!(rt; readings, expected);
     }
-    assert_eq!(rt; page.families.len(), 4);
-    assert_eq!(rt; page.samples, 8);
+    assert_eq!(rt; families.len(), 4);
+    assert_eq!(rt; samples, 8);
+    Ok(())
+}
+
+#[test]
+fn page_without_lines(rt: HostRuntime) -> Result<(), PageFault> {
+    let alloc = rt.alloc();
+    let page = Checker::new(alloc, Format::Text, Treatment::Scraped, 4)?.close(1, true)?;
+    assert!(rt; page.families().is_empty());
+    assert_eq!(rt; page.samples(), 0);
+    let counts = Checker::counting(alloc, Format::Text, Treatment::Scraped, 4)?.count(1, true)?;
+    assert_eq!(rt;
+        counts,
+        PageCounts {
+            families: 0,
+            samples: 0
+        }
+    );
     Ok(())
 }

@@ -1,2 +1,3 @@
 pub mod PageSteps
 pub mod PageEnds
+pub mod SpelledItems

@@ -29,9 +29,15 @@ pub record Fed : Type 0 where
   pub checker : Checking
   pub stopped : Option PageFault
 
--- the reader of lines takes lines as long as the treatment allows, and was fed no more bytes than have a number
-abbrev pub IsLimited : Feeding → Treatment → Type 0
-IsLimited lines t = (lines.most ≡ line_limit t) × (lines.fed < 2 ^ 32 - 1)
+-- the checker goes by this format and treatment, unless it has stopped
+abbrev pub GoesBy : Format → Treatment → Checking → Type 0
+GoesBy f t c = c.stopped ≡ None → (c.setting.format ≡ f) × (c.setting.treatment ≡ t)
+
+-- the parts of a reader fit together: its lines are as long as the treatment allows, it was fed no more bytes than have a number, and its checker goes by the same format and treatment
+pub record FitsTogether (f : Format) (t : Treatment) (lines : Feeding) (c : Checking) : Type 0 where
+  pub most : lines.most ≡ line_limit t
+  pub few : lines.fed < 2 ^ 32 - 1
+  pub goes_by : GoesBy f t c
 
 -- a reader of this format, under this treatment and limit, was fed these bytes and has found no fault
 pub record Stands (f : Format) (t : Treatment) (limit : ℕ) (fed : List ℕ) (p : Fed) : Type 0 where

@@ -44,7 +44,7 @@ pub struct PageEnd {
 }
 
 impl<G: Grammar> Model for PageReader<G> {
-    ghost use Rattle.page_feeding.specs.PageFeeding.{Fed, IsLimited};
+    ghost use Rattle.page_feeding.specs.PageFeeding.{Fed, FitsTogether};
 
     ghost Value = { Fed };
 
@@ -55,7 +55,7 @@ impl<G: Grammar> Model for PageReader<G> {
       stopped = p.stopped;
     } };
 
-    ghost invariant = { λ p. IsLimited p.lines p.treatment };
+    ghost invariant = { λ p. FitsTogether G.format p.treatment p.lines p.checker };
 }
 
 /// The most bytes of a line.
@@ -70,7 +70,7 @@ fn line_limit(treatment: Treatment) -> u32
 
 impl<G: Grammar> PageReader<G> {
     ghost use Rattle.family_rules.specs.Checking as checking;
-    ghost use Rattle.page_feeding.specs.PageFeeding.{Stands, HasStopped, TakesLine, TakesStep, TakesPiece, line_result, AtLast, EndAnswer, Answers, CountAnswers};
+    ghost use Rattle.page_feeding.specs.PageFeeding.{Stands, GoesBy, HasStopped, TakesLine, TakesStep, TakesPiece, line_result, AtLast, EndAnswer, Answers, CountAnswers};
 
     /// A reader that was fed nothing. `limit` is the most samples that the page may have.
     pub fn new(alloc: Global, treatment: Treatment, limit: u32) -> Result<PageReader<G>, Memory>
@@ -94,6 +94,7 @@ impl<G: Grammar> PageReader<G> {
 
     /// A reader that was fed nothing, over a checker that has taken no line.
     fn over(alloc: Global, treatment: Treatment, checker: Checker) -> Result<PageReader<G>, Memory>
+        requires { GoesBy G.format treatment checker }
         ensures { (limit : ℕ) → checking.Stands (setting_of G.format treatment limit) checker [] → IfOk result (Stands G.format treatment limit []) }
     {
         Ok(PageReader {

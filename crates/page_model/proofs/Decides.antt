@@ -5,7 +5,7 @@ use Rattle.std.proofs.lemmas.List.{map-append}
 use Rattle.page_lines.specs.Lines.{lines_of, ends_clean}
 use Rattle.page_model.specs.declared.format.Format.{Format}
 use Rattle.page_model.specs.declared.format.Format.TheVariants.{Text, OpenMetrics}
-use Rattle.page_model.specs.declared.page.Page.{Page}
+use Rattle.page_model.specs.PageValues.{PageValue}
 use Rattle.page_model.specs.Written.{Written, Setting}
 use Rattle.page_model.specs.Faults.{Line, Fault, lines_fault, fault_of}
 use Rattle.page_model.specs.Readings.{page_of}
@@ -75,7 +75,7 @@ first_fault_read st bytes fault = (
 )
 
 -- a text says the page that is read, where no fault is, and no other
-pub page_is_read : (st : Setting) (bytes : List ℕ) (page : Page) → IsPageOf st bytes page ↔ ((text_fault st bytes ≡ None) × (page ≡ text_page st bytes))
+pub page_is_read : (st : Setting) (bytes : List ℕ) (page : PageValue) → IsPageOf st bytes page ↔ ((text_fault st bytes ≡ None) × (page ≡ text_page st bytes))
 unfolding text_fault text_page
 page_is_read st bytes page = (
   λ h.
@@ -89,11 +89,11 @@ pub first_fault_once : (st : Setting) (bytes : List ℕ) (e f : Fault) → First
 first_fault_once st bytes e f p q = same_Some e f (sym ((first_fault_read st bytes e).0 p) ∙ (first_fault_read st bytes f).0 q)
 
 -- a text has at most one page
-pub page_of_once : (st : Setting) (bytes : List ℕ) (a b : Page) → IsPageOf st bytes a → IsPageOf st bytes b → a ≡ b
+pub page_of_once : (st : Setting) (bytes : List ℕ) (a b : PageValue) → IsPageOf st bytes a → IsPageOf st bytes b → a ≡ b
 page_of_once st bytes a b p q = ((page_is_read st bytes a).0 p).1 ∙ sym (((page_is_read st bytes b).0 q).1)
 
 -- a text never has both
-pub fault_or_page : (st : Setting) (bytes : List ℕ) (fault : Fault) (page : Page) → FirstFault st bytes fault → IsPageOf st bytes page → ⊥
+pub fault_or_page : (st : Setting) (bytes : List ℕ) (fault : Fault) (page : PageValue) → FirstFault st bytes fault → IsPageOf st bytes page → ⊥
 fault_or_page st bytes fault page p q = none-some fault (sym (((page_is_read st bytes page).0 q).0) ∙ (first_fault_read st bytes fault).0 p)
 
 -- a fault of a text's first lines is its fault, whatever follows them

@@ -24,7 +24,7 @@ use Rattle.page_model.specs.declared.page.Value.{Value}
 use Rattle.page_model.specs.Written.{Setting}
 use Rattle.page_model.specs.Owners.{Owned, owned_lines, kind_of, samples_of}
 use Rattle.page_model.specs.Readings.{counter_suffix, unit_in, key_name, value_of, value_with, stamp_of, exemplars_of, reading_labels, reading_of, readings_of, family_of, families_of, page_of}
-use Rattle.page_model.specs.declared.page.Page.{Page}
+use Rattle.page_model.specs.PageValues.{PageValue}
 use Rattle.page_model.specs.Pages.{items_of, IsPageOf}
 use Rattle.page_model.specs.Presence.{all_readings, keys_of}
 
@@ -217,5 +217,5 @@ keys_of-page_of st items =
     keys_distinct (all_readings (page_of st items)) (under_distinct st lines (families_of lines) (first_of_each_distinct bytes_eq (map (λ (o : Owned). o.family) lines)))
 
 -- the keys of the page of a text are distinct
-pub page-distinct_keys : (st : Setting) (bytes : List ℕ) (page : Page) → IsPageOf st bytes page → IsDistinct key_eq (keys_of page)
+pub page-distinct_keys : (st : Setting) (bytes : List ℕ) (page : PageValue) → IsPageOf st bytes page → IsDistinct key_eq (keys_of page)
 page-distinct_keys st bytes page p = subst (λ q. IsDistinct key_eq (keys_of q)) (sym p.page_is) (keys_of-page_of st (items_of st.format p.lines))

@@ -8,7 +8,7 @@ use Rattle.page_lines.specs.Lines.{lines_of, ends_clean}
 use Rattle.page_model.specs.declared.format.Treatment.{Treatment}
 use Rattle.page_model.specs.declared.page.Reading.{Reading}
 use Rattle.page_model.specs.declared.page.Family.{Family}
-use Rattle.page_model.specs.declared.page.Page.{Page}
+use Rattle.page_model.specs.PageValues.{PageValue}
 use Rattle.page_model.specs.Written.{Setting, text_setting}
 use Rattle.page_model.specs.Pages.{IsPageOf, AreSomeOf, IsThinnerReading, IsThinnerFamily, AreThinnerFamilies, IsPageRead, IsRightPage}
 use Rattle.page_model.specs.Owners.{owned_lines}
@@ -35,7 +35,7 @@ whole_families [] = tt
 whole_families (f ∷ fs) = (whole_family f, whole_families fs)
 
 -- the page of a text is right
-pub text_is_right : (st : Setting) (bytes : List ℕ) (page : Page) → IsPageOf st bytes page → IsPageRead st page
+pub text_is_right : (st : Setting) (bytes : List ℕ) (page : PageValue) → IsPageOf st bytes page → IsPageRead st page
 text_is_right st bytes page p = record { text = bytes; whole = page; read = p; families = whole_families page.families; samples = refl }
 
 nothing_broken : (treatment : Treatment) (limit : ℕ) → fault_of (text_setting treatment limit) [] true ≡ None
@@ -114,7 +114,7 @@ distinct_left (k ∷ ks) (l ∷ ls) (inl h) d =
 distinct_left (k ∷ ks) (l ∷ ls) (inr h) d = distinct_left ks (l ∷ ls) h d.1
 
 -- the keys of a right page are distinct
-pub right-distinct_keys : (page : Page) → IsRightPage page → IsDistinct key_eq (keys_of page)
+pub right-distinct_keys : (page : PageValue) → IsRightPage page → IsDistinct key_eq (keys_of page)
 unfolding readings_in
 right-distinct_keys page right =
     let read = right.1 in

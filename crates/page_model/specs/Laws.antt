@@ -7,7 +7,7 @@ use Rattle.page_lines.specs.Lines.{lines_of}
 use Rattle.page_model.specs.declared.format.Format.{Format}
 use Rattle.page_model.specs.declared.format.Treatment.{Treatment}
 use Rattle.page_model.specs.declared.item.Item.{Item}
-use Rattle.page_model.specs.declared.page.Page.{Page}
+use Rattle.page_model.specs.PageValues.{PageValue}
 use Rattle.page_model.specs.Written.{Written, Setting, text_setting}
 use Rattle.page_model.specs.Owners.{kind_of, owned_lines, samples_of}
 use Rattle.page_model.specs.Faults.{Line, Fault, end_fault, lines_fault, fault_of, IsLeastFault}
@@ -30,7 +30,7 @@ ReadsFaults = (st : Setting) (bytes : List ℕ) (fault : Fault) → FirstFault s
 
 -- a text says the page that the plain readers find, where they find no fault, and no other
 abbrev pub ReadsPages : Type 0
-ReadsPages = (st : Setting) (bytes : List ℕ) (page : Page) → IsPageOf st bytes page ↔ ((text_fault st bytes ≡ None) × (page ≡ text_page st bytes))
+ReadsPages = (st : Setting) (bytes : List ℕ) (page : PageValue) → IsPageOf st bytes page ↔ ((text_fault st bytes ≡ None) × (page ≡ text_page st bytes))
 
 -- a text has at most one fault
 abbrev pub FaultOnce : Type 0
@@ -38,11 +38,11 @@ FaultOnce = (st : Setting) (bytes : List ℕ) (e f : Fault) → FirstFault st by
 
 -- a text has at most one page
 abbrev pub PageOnce : Type 0
-PageOnce = (st : Setting) (bytes : List ℕ) (a b : Page) → IsPageOf st bytes a → IsPageOf st bytes b → a ≡ b
+PageOnce = (st : Setting) (bytes : List ℕ) (a b : PageValue) → IsPageOf st bytes a → IsPageOf st bytes b → a ≡ b
 
 -- a text with a fault has no page
 abbrev pub NeverBoth : Type 0
-NeverBoth = (st : Setting) (bytes : List ℕ) (fault : Fault) (page : Page) → FirstFault st bytes fault → ¬ IsPageOf st bytes page
+NeverBoth = (st : Setting) (bytes : List ℕ) (fault : Fault) (page : PageValue) → FirstFault st bytes fault → ¬ IsPageOf st bytes page
 
 -- the fault of the first lines is that of the page, however it goes on
 abbrev pub FaultStays : Type 0
@@ -59,11 +59,11 @@ FaultIsLeast = (st : Setting) (ls : List Line) (clean : Bool) (fault : Fault) �
 
 -- the keys of a page's readings are distinct
 abbrev pub DistinctKeys : Type 0
-DistinctKeys = (page : Page) → IsRightPage page → IsDistinct key_eq (keys_of page)
+DistinctKeys = (page : PageValue) → IsRightPage page → IsDistinct key_eq (keys_of page)
 
 -- the page of a text is right, and that of a target's text is scraped
 abbrev pub TextsAreRight : Type 0
-TextsAreRight = (st : Setting) (bytes : List ℕ) (page : Page) → IsPageOf st bytes page → IsPageRead st page
+TextsAreRight = (st : Setting) (bytes : List ℕ) (page : PageValue) → IsPageOf st bytes page → IsPageRead st page
 
 -- items of lines without a fault are those of some text, which then says their page
 abbrev pub ItemsMakeTexts : Type 0

@@ -15,6 +15,7 @@ pub mod Owners
 pub mod Rules
 pub mod RuleNames
 pub mod Faults
+pub mod PageValues
 pub mod Readings
 pub mod Pages
 pub mod Counts

@@ -4,7 +4,7 @@ use Rattle.std.specs.Prelude.{ℕ, List, map, Option}
 use Rattle.page_lines.specs.Lines.{lines_of, ends_clean}
 use Rattle.page_model.specs.declared.format.Format.{Format}
 use Rattle.page_model.specs.declared.format.Format.TheVariants.{Text, OpenMetrics}
-use Rattle.page_model.specs.declared.page.Page.{Page}
+use Rattle.page_model.specs.PageValues.{PageValue}
 use Rattle.page_model.specs.Written.{Written, Setting}
 use Rattle.page_model.specs.TextReading.{text_line_of}
 use Rattle.page_model.specs.OpenReading.{open_line_of}
@@ -30,5 +30,5 @@ unfoldable pub text_fault : Setting → List ℕ → Option Fault
 text_fault st bytes = fault_of st (lines_read st.format bytes) (ends_clean bytes)
 
 -- the page of a text that has no fault
-unfoldable pub text_page : Setting → List ℕ → Page
+unfoldable pub text_page : Setting → List ℕ → PageValue
 text_page st bytes = page_of st (items_of st.format (lines_read st.format bytes))

@@ -9,7 +9,7 @@ use Rattle.page_model.specs.declared.format.Treatment.TheVariants.{Scraped}
 use Rattle.page_model.specs.declared.item.Item.{Item}
 use Rattle.page_model.specs.declared.page.Reading.{Reading}
 use Rattle.page_model.specs.declared.page.Family.{Family}
-use Rattle.page_model.specs.declared.page.Page.{Page}
+use Rattle.page_model.specs.PageValues.{PageValue}
 use Rattle.page_model.specs.Written.{Written, Setting, item_of}
 use Rattle.page_model.specs.TextItems.{SpellsText}
 use Rattle.page_model.specs.OpenItems.{SpellsOpen}
@@ -67,7 +67,7 @@ pub record FirstFault (st : Setting) (bytes : List ℕ) (fault : Fault) : Type 0
   pub has_fault : fault_of st lines (ends_clean bytes) ≡ Some fault
 
 -- the text has no fault and says this page
-pub record IsPageOf (st : Setting) (bytes : List ℕ) (page : Page) : Type 0 where
+pub record IsPageOf (st : Setting) (bytes : List ℕ) (page : PageValue) : Type 0 where
   pub lines : List Line
   pub are_lines : AreLines st.format (lines_of bytes) lines
   pub without_fault : fault_of st lines (ends_clean bytes) ≡ None
@@ -106,17 +106,17 @@ AreThinnerFamilies (f ∷ fs) [] = ⊥
 AreThinnerFamilies (f ∷ fs) (g ∷ gs) = IsThinnerFamily f g × AreThinnerFamilies fs gs
 
 -- a page of some text read in this way, or such a page with readings, stamps or exemplars taken out
-pub record IsPageRead (st : Setting) (page : Page) : Type 0 where
+pub record IsPageRead (st : Setting) (page : PageValue) : Type 0 where
   pub text : List ℕ
-  pub whole : Page
+  pub whole : PageValue
   pub read : IsPageOf st text whole
   pub families : AreThinnerFamilies whole.families page.families
   pub samples : page.samples ≡ whole.samples
 
 -- a right page: one of some text, in some format and under some treatment and limit
-abbrev pub IsRightPage : Page → Type 0
+abbrev pub IsRightPage : PageValue → Type 0
 IsRightPage page = (st : Setting) × IsPageRead st page
 
 -- a right page of a target's text
-abbrev pub IsScrapedPage : Page → Type 0
+abbrev pub IsScrapedPage : PageValue → Type 0
 IsScrapedPage page = (st : Setting) × (st.treatment ≡ Scraped) × IsPageRead st page

@@ -6,31 +6,31 @@ use Rattle.label_sets.specs.declared.series_key.SeriesKey.{SeriesKey}
 use Rattle.label_sets.specs.Keys.{key_eq}
 use Rattle.page_model.specs.declared.page.Reading.{Reading}
 use Rattle.page_model.specs.declared.page.Family.{Family}
-use Rattle.page_model.specs.declared.page.Page.{Page}
+use Rattle.page_model.specs.PageValues.{PageValue}
 use Rattle.page_model.specs.declared.event.Outcome.{Outcome}
 use Rattle.page_model.specs.declared.event.Outcome.TheVariants as outcomes
 
 -- the page without families
-abbrev pub empty_page : Page
+abbrev pub empty_page : PageValue
 empty_page = record { families = []; samples = 0 }
 
 -- the page of a scrape, empty where the scrape failed
-abbrev pub page_of_outcome : Outcome → Page
+abbrev pub page_of_outcome : Outcome → PageValue
 page_of_outcome (outcomes.Page page) = page
 page_of_outcome (outcomes.Failed cause) = empty_page
 
 -- the readings of a page, in page order
-abbrev pub all_readings : Page → List Reading
+abbrev pub all_readings : PageValue → List Reading
 all_readings page = flat_map (λ (f : Family). f.readings) page.families
 
 -- the keys of a page, in page order
-abbrev pub keys_of : Page → List SeriesKey
+abbrev pub keys_of : PageValue → List SeriesKey
 keys_of page = map (λ (r : Reading). r.key) (all_readings page)
 
 -- the reading of a series, where the page has one
-abbrev pub reading_at : SeriesKey → Page → Option Reading
+abbrev pub reading_at : SeriesKey → PageValue → Option Reading
 reading_at key page = find (λ (r : Reading). key_eq key r.key) (all_readings page)
 
 -- the series is present in the page
-abbrev pub is_present : SeriesKey → Page → Bool
+abbrev pub is_present : SeriesKey → PageValue → Bool
 is_present key page = is_some (reading_at key page)

@@ -22,7 +22,7 @@ use Rattle.page_model.specs.declared.page.Value.{Value}
 use Rattle.page_model.specs.declared.page.Value.TheVariants as values
 use Rattle.page_model.specs.declared.page.Reading.{Reading}
 use Rattle.page_model.specs.declared.page.Family.{Family}
-use Rattle.page_model.specs.declared.page.Page.{Page}
+use Rattle.page_model.specs.PageValues.{PageValue}
 use Rattle.page_model.specs.Written.{Setting}
 use Rattle.page_model.specs.Items.{is_sample, help_of_line, unit_of_line}
 use Rattle.page_model.specs.Owners.{Owned, is_of, kind_of, owned_lines, samples_of, kept_labels, group_of}
@@ -147,7 +147,7 @@ unfoldable pub families_of : List Owned → List (List ℕ)
 families_of lines = first_of_each bytes_eq (map (λ (o : Owned). o.family) lines)
 
 -- the page of the items of all lines, the last first
-unfoldable pub page_of : Setting → List Item → Page
+unfoldable pub page_of : Setting → List Item → PageValue
 page_of st items =
     let lines = reverse (owned_lines st.format items) in
     record { families = map (family_of st lines) (families_of lines); samples = count_by is_sample items }

@@ -5,6 +5,7 @@ use crate::item::Exemplar;
 use exact_decimal::{Decimal, Number};
 use label_sets::{Kind, List, Memory, Name, SeriesKey, Text};
 use std::alloc::Global;
+use std::marker::Model;
 
 /// A cumulative bucket of a histogram.
 #[derive(Clone, Copy, Debug, PartialEq, Eq)]
@@ -119,16 +120,37 @@ impl Family {
     }
 }
 
-/// A page without a fault: families in the order of their first lines.
+/// A page without a fault: families in the order of their first lines. That it is right is kept by its type: some
+/// text says it, or it is such a page with readings, stamps or exemplars taken out.
 #[derive(Drop)]
 pub struct Page {
-    pub families: List<Family>,
-    /// The number of sample lines.
-    pub samples: u32,
+    families: List<Family>,
+    samples: u32,
+}
+
+impl Model for Page {
+    ghost use Rattle.page_model.specs.PageValues.{PageValue};
+
+    ghost Value = { PageValue };
+
+    ghost use Rattle.page_model.specs.Pages.{IsRightPage};
+
+    ghost view = { λ p. record { families = p.families; samples = p.samples } };
+
+    ghost invariant = { λ p. IsRightPage (record { families = p.families; samples = p.samples }) };
 }
 
 impl Page {
+    ghost use Rattle.page_model.specs.Pages.{IsRightPage};
     ghost use Rattle.page_model.specs.Presence.{empty_page};
+
+    /// The page of these families, and of so many sample lines.
+    pub fn new(families: List<Family>, samples: u32) -> Page
+        requires { IsRightPage (record { families = families; samples = samples }) }
+        ensures { result ≡ record { families = families; samples = samples } }
+    {
+        Page { families, samples }
+    }
 
     /// The page without families. It takes no memory.
     pub fn empty(alloc: Global) -> Page
@@ -138,6 +160,21 @@ impl Page {
             families: List::new(alloc),
             samples: 0,
         }
+    }
+
+    /// The families in the order of their first lines.
+    pub fn families(&self) -> &List<Family>
+        ensures families { result.now ≡ self.now.families }
+        ensures right { IsRightPage self.now }
+    {
+        &self.families
+    }
+
+    /// The number of sample lines.
+    pub fn samples(&self) -> u32
+        ensures { result ≡ self.now.samples }
+    {
+        self.samples
     }
 
     /// The same page: its families have one owner more.

@@ -1,3 +1,4 @@
+use crate::tree::page_metrics;
 use crate::{Target, event_request};
 use exact_decimal::{Number, of};
 use label_sets::{Kind, LabelSet, List, Memory, Name, SeriesKey, Text};
@@ -34,7 +35,7 @@ fn family(alloc: Global, kind: Kind, readings: Vec<Reading>) -> Result<Family, M
 }
 
 // A counter that was created at 5 s, after the moment and at no known time; a family without readings; a gauge.
-fn page(alloc: Global) -> Result<Page, Memory> {
+fn counters(alloc: Global) -> Result<Vec<Family>, Memory> {
     let known = reading(alloc, "c_total", Kind::Counter, Some(5))?;
     let later = reading(alloc, "c_total", Kind::Counter, Some(11))?;
     let unknown = reading(alloc, "c_total", Kind::Counter, None)?;
@@ -43,11 +44,7 @@ fn page(alloc: Global) -> Result<Page, Memory> {
     let counter = family(alloc, Kind::Counter, counters)?;
     let nothing = family(alloc, Kind::Counter, Vec::new(alloc))?;
     let gauge = family(alloc, Kind::Gauge, Vec::from_array(alloc, [gauge])?)?;
-    let families = Vec::from_array(alloc, [counter, nothing, gauge])?;
-    Ok(Page {
-        families: List::from_vec(families)?,
-        samples: 6,
-    })
+    Ok(Vec::from_array(alloc, [counter, nothing, gauge])?)
 }
 
 // Two observations at most at 1, three above, and no sum.
@@ -67,7 +64,7 @@ fn buckets(alloc: Global) -> Result<Value, Memory> {
 }
 
 // A histogram, the same as a gauge histogram, and a summary without a count.
-fn observations(alloc: Global) -> Result<Page, Memory> {
+fn observations(alloc: Global) -> Result<Vec<Family>, Memory> {
     let mut histogram = reading(alloc, "h", Kind::Histogram, Some(5))?;
     histogram.value = buckets(alloc)?;
     let mut passed_over = reading(alloc, "g", Kind::GaugeHistogram, None)?;
@@ -85,11 +82,7 @@ fn observations(alloc: Global) -> Result<Page, Memory> {
         Vec::from_array(alloc, [passed_over])?,
     )?;
     let summary = family(alloc, Kind::Summary, Vec::from_array(alloc, [summary])?)?;
-    let families = Vec::from_array(alloc, [histogram, passed_over, summary])?;
-    Ok(Page {
-        families: List::from_vec(families)?,
-        samples: 5,
-    })
+    Ok(Vec::from_array(alloc, [histogram, passed_over, summary])?)
 }
 
 fn request(alloc: Global, outcome: Outcome) -> Result<Request, Memory> {
@@ -140,14 +133,14 @@ fn value_is(metric: &Metric, number: u64) -> bool {
     }
 }
 
-fn scraped(alloc: Global, page: Result<Page, Memory>) -> Result<Request, Memory> {
-    request(alloc, Outcome::Page(page?))
+fn metrics_of(alloc: Global, families: Result<Vec<Family>, Memory>) -> Result<Vec<Metric>, Memory> {
+    page_metrics(alloc, MOMENT, families?.as_slice())
 }
 
 #[test]
 fn counter_with_its_starts(rt: HostRuntime) {
-    let request = scraped(rt.alloc(), page(rt.alloc())).expect(&rt, "memory");
-    let counter = metric(&request, 0, 0).expect(&rt, "counter");
+    let metrics = metrics_of(rt.alloc(), counters(rt.alloc())).expect(&rt, "memory");
+    let counter = metrics.get(0).expect(&rt, "counter");
     assert!(rt; counter.name.as_str() == "c_total");
     assert!(rt; counter.description.as_str() == "Help.");
     assert_eq!(rt; start(counter, 0), Some(Some(5_000_000_000)));
@@ -157,17 +150,17 @@ fn counter_with_its_starts(rt: HostRuntime) {
 
 #[test]
 fn gauge_without_start(rt: HostRuntime) {
-    let request = scraped(rt.alloc(), page(rt.alloc())).expect(&rt, "memory");
-    let gauge = metric(&request, 0, 1).expect(&rt, "gauge");
+    let metrics = metrics_of(rt.alloc(), counters(rt.alloc())).expect(&rt, "memory");
+    let gauge = metrics.get(1).expect(&rt, "gauge");
     assert_eq!(rt; start(gauge, 0), Some(None));
     assert!(rt; value_is(gauge, 7));
-    assert!(rt; metric(&request, 0, 2).is_none());
+    assert_eq!(rt; metrics.len(), 2);
 }
 
 #[test]
 fn histogram_with_differences(rt: HostRuntime) {
-    let request = scraped(rt.alloc(), observations(rt.alloc())).expect(&rt, "memory");
-    let histogram = metric(&request, 0, 0).expect(&rt, "histogram");
+    let metrics = metrics_of(rt.alloc(), observations(rt.alloc())).expect(&rt, "memory");
+    let histogram = metrics.get(0).expect(&rt, "histogram");
     let point = histogram_point(histogram).expect(&rt, "point");
     assert_eq!(rt; point.start, 5_000_000_000);
     let value = point.value.as_ref().expect(&rt, "value");
@@ -178,21 +171,25 @@ fn histogram_with_differences(rt: HostRuntime) {
 
 #[test]
 fn summary_without_count(rt: HostRuntime) {
-    let request = scraped(rt.alloc(), observations(rt.alloc())).expect(&rt, "memory");
-    let summary = metric(&request, 0, 1).expect(&rt, "summary");
+    let metrics = metrics_of(rt.alloc(), observations(rt.alloc())).expect(&rt, "memory");
+    let summary = metrics.get(1).expect(&rt, "summary");
     let point = summary_point(summary).expect(&rt, "point");
     assert_eq!(rt; point.start, MOMENT);
     let value = point.value.as_ref().expect(&rt, "value");
     assert_eq!(rt; value.count, 0);
     assert!(rt; value.sum == of(3));
-    assert!(rt; metric(&request, 0, 2).is_none());
+    assert_eq!(rt; metrics.len(), 2);
 }
 
 #[test]
-fn samples_of_the_scrape(rt: HostRuntime) {
-    let request = scraped(rt.alloc(), page(rt.alloc())).expect(&rt, "memory");
-    let samples = metric(&request, 1, 1).expect(&rt, "samples");
-    assert!(rt; value_is(samples, 6));
+fn page_without_families(rt: HostRuntime) {
+    let alloc = rt.alloc();
+    let request = request(alloc, Outcome::Page(Page::empty(alloc))).expect(&rt, "memory");
+    assert_eq!(rt; request.scopes.len(), 1);
+    let up = metric(&request, 0, 0).expect(&rt, "up");
+    assert!(rt; value_is(up, 1));
+    let samples = metric(&request, 0, 1).expect(&rt, "samples");
+    assert!(rt; value_is(samples, 0));
 }
 
 #[test]

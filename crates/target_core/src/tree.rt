@@ -42,7 +42,11 @@ fn target_metrics(alloc: Global, moment: u64, up: u64, samples: u64) -> Result<V
 }
 
 /// The metrics of families, in order.
-fn page_metrics(alloc: Global, moment: u64, families: &[Family]) -> Result<Vec<Metric>, Memory>
+pub(crate) fn page_metrics(
+    alloc: Global,
+    moment: u64,
+    families: &[Family],
+) -> Result<Vec<Metric>, Memory>
     ensures { IfOk result (λ metrics. metrics.items ≡ filter_map (trees.family_metric moment) families.now) }
 {
     let mut metrics = Vec::with_capacity(alloc, families.len())?;
@@ -87,7 +91,7 @@ fn families_of(outcome: &Outcome) -> &[Family]
     ensures { result.now ≡ (page_of_outcome outcome.now).families }
 {
     match outcome {
-        Outcome::Page(page) => page.families.as_slice(),
+        Outcome::Page(page) => page.families().as_slice(),
         Outcome::Failed(_) => &[],
     }
 }
@@ -97,7 +101,7 @@ fn samples_of(outcome: &Outcome) -> u32
     ensures { result ≡ (page_of_outcome outcome.now).samples }
 {
     match outcome {
-        Outcome::Page(page) => page.samples,
+        Outcome::Page(page) => page.samples(),
         Outcome::Failed(_) => 0,
     }
 }

@@ -30,7 +30,7 @@ fn byte_by_byte(alloc: Global, page: &[u8]) -> Result<Page, PageFault> {
 /// The families and samples of a page, or its line and rule.
 fn seen(read: Result<Page, PageFault>) -> Result<(usize, u32), PageFault> {
     let page = read?;
-    Ok((page.families.len(), page.samples))
+    Ok((page.families().len(), page.samples()))
 }
 
 const PAGES: [(&[u8], usize, u32); 6] = [
@@ -120,7 +120,7 @@ fn goes_on_refusing(rt: HostRuntime) -> Result<(), PageFault> {
 
 /// The value of the first label of the first reading.
 fn first_value(page: &Page) -> &[u8] {
-    for family in page.families.as_slice() {
+    for family in page.families().as_slice() {
         for reading in family.readings.as_slice() {
             for label in reading.key.labels.labels() {
                 return label.value.as_bytes();
@@ -152,7 +152,7 @@ fn what_is_shown_is_copied(rt: HostRuntime) -> Result<(), PageFault> {
     };
     let copy = shown.copy()?;
     assert_eq!(rt; copy.job.as_str(), "j");
-    assert_eq!(rt; copy.page.samples, 1);
+    assert_eq!(rt; copy.page.samples(), 1);
     assert!(rt; first_value(&copy.page) == b"1".as_slice());
     Ok(())
 }

@@ -29,7 +29,7 @@ fn converted_text(
 ) -> Result<Vec<u8>, AllocError>
     ensures { IfOk result (λ text. text.items ≡ spec.converted_text target.now nanos page) }
 {
-    let mut text = Vec::with_capacity(alloc, page.samples as usize * SAMPLE_BYTES)?;
+    let mut text = Vec::with_capacity(alloc, page.samples() as usize * SAMPLE_BYTES)?;
     let request = event_request(alloc, target, nanos, &Outcome::Page(page))?;
     otlp_json::write_line(&request, &mut text)?;
     Ok(text)

@@ -5,7 +5,7 @@ ghost use Rattle.std.specs.Option.{option_copied};
 ghost use Rattle.std.specs.Str.{bytes_eq};
 ghost use Rattle.family_rules.specs.Steps.{Takes, line_of, is_current_family, known_in, current_kind, is_late_in, left_stop, place_stop, unit_stop, begun, reached, with_descriptor, with_left};
 
-use super::Checker;
+use super::ItemChecker;
 use crate::family::{Current, Descriptor, FamilySoFar};
 use crate::left::LeftFamilies;
 use crate::unit::has_bad_unit;
@@ -13,7 +13,7 @@ use label_sets::{Kind, Memory, Name};
 use page_model::Rule;
 use std::mem;
 
-impl Checker {
+impl ItemChecker {
     /// Whether this is the family of the nearest line.
     pub(super) fn is_current(&self, family: &Name) -> bool
         ensures { result ≡ is_current_family self.now.current family.now }

@@ -6,7 +6,7 @@ ghost use Rattle.page_model.specs.declared.item.Item.TheVariants as items;
 ghost use Rattle.family_rules.specs.Steps.{Takes, with_current, left_stop};
 ghost use Rattle.family_rules.specs.Samples.{TellsPart, is_current_sample, has_bad_exemplar, with_value, with_part_at, with_told, told_left, fits_order, part_stop, is_back, entered_by, with_sample, with_added, sample_stop, add_stop, name_stop};
 
-use super::Checker;
+use super::ItemChecker;
 use crate::exemplars::is_bad_exemplar;
 use crate::runs::group_labels;
 use crate::sample_values::part_or_rule;
@@ -16,7 +16,7 @@ use packed_keys::SampleKey;
 use page_model::{Format, Rule, Sample, Treatment, is_sample_name};
 use sample_groups::Part;
 
-impl Checker {
+impl ItemChecker {
     /// Whether the family of the nearest line owns a sample of this name.
     fn is_current_sample(&self, name: &Name) -> bool
         ensures { result ≡ is_current_sample self.now.setting.format self.now.current name.now }

@@ -10,4 +10,4 @@ returns-in-Clean-clause-answer g c = λ t limit fed s.
 pub returns-in-Open-clause-answer : goal.returns-in-Open-clause-answer
 returns-in-Open-clause-answer g c = λ t limit fed s.
     c.read_last.ensures t limit fed (ended-open g.G.Grammar.format t limit fed _ (subst (Stands g.G.Grammar.format t limit fed) (sym c.page.view_is) s) c.finish.new.self c.finish.ensures.most
-    c.in-Open.ensures.stands c.in-Open.ensures.end c.page.invariant.1)
+    c.in-Open.ensures.stands c.in-Open.ensures.end c.page.invariant.few)
