@@ -5,9 +5,8 @@
 mod checker;
 mod exemplars;
 mod family;
-mod keys;
+mod keyed_values;
 mod left;
-mod numbers;
 mod pages;
 mod rare_text;
 mod runs;

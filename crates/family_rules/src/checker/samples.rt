@@ -4,7 +4,7 @@ ghost use Rattle.page_model.specs.Owners.{kept_labels};
 ghost use Rattle.page_model.specs.Rules.{is_open_metrics};
 ghost use Rattle.page_model.specs.declared.item.Item.TheVariants as items;
 ghost use Rattle.family_rules.specs.Steps.{Takes, with_current, left_stop};
-ghost use Rattle.family_rules.specs.Samples.{TellsPart, is_current_sample, has_bad_exemplar, with_value, with_part_at, with_told, told_left, fits_order, part_stop, is_back, entered_by, with_sample, with_added, sample_stop, add_stop, name_stop};
+ghost use Rattle.family_rules.specs.Samples.{TellsPart, is_current_sample, has_bad_exemplar, with_counted, with_part_at, with_told, told_left, fits_order, part_stop, is_back, entered_by, with_sample, with_added, sample_stop, add_stop, name_stop};
 
 use super::Checker;
 use crate::exemplars::is_bad_exemplar;
@@ -39,14 +39,14 @@ impl Checker {
         }
     }
 
-    /// Adds the value of a sample to the current family.
-    fn push_value(&mut self, value: Number) -> Result<(), Memory>
-        ensures { OnOk result (self.new ≡ with_value self.old value) }
+    /// Counts a sample of the current family.
+    fn count_sample(&mut self) -> Result<(), Memory>
+        ensures { OnOk result (self.new ≡ with_counted self.old) }
     {
-        if let Some(current) = &mut self.current {
-            current.family.push_value(self.alloc, value)?;
+        match &mut self.current {
+            Some(current) => current.family.count_sample(),
+            None => Ok(()),
         }
-        Ok(())
     }
 
     /// Adds a sample of the current family, or answers the rule that it breaks: 14, then the given one, then 20.
@@ -59,7 +59,7 @@ impl Checker {
         ensures broken { IfOk result (λ answer. answer ≡ sample_stop self.old key broken) }
         ensures added { IfOk result (λ answer. answer ≡ None → self.new ≡ with_sample self.old key value) }
     {
-        let added = self.seen.insert(key)?;
+        let added = self.seen.insert(key, value)?;
         if !added {
             return Ok(Some(Rule::Duplicate));
         }
@@ -70,7 +70,7 @@ impl Checker {
             return Ok(Some(Rule::TooMany));
         }
         self.samples += 1;
-        self.push_value(value)?;
+        self.count_sample()?;
         Ok(None)
     }
 
