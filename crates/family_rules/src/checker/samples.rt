@@ -30,6 +30,7 @@ impl Checker {
     }
 
     /// A label set as a page of this treatment keeps it.
+    #[inline(always)]
     fn kept_labels(&self, labels: LabelSet) -> Result<LabelSet, Memory>
         ensures { IfOk result (λ kept. kept ≡ kept_labels self.now.setting.treatment labels) }
     {
@@ -106,6 +107,7 @@ impl Checker {
     }
 
     /// Adds a sample of the current family to its group, and answers whether it goes back to it: rule 12.
+    #[inline(always)]
     fn enter(&mut self, kind: Kind, labels: &LabelSet) -> Result<bool, Memory>
         ensures back { IfOk result (λ back. back ≡ is_back self.old kind labels.now) }
         ensures entered { IfOk result (λ back. back ≡ false → self.new ≡ entered_by self.old kind labels.now) }
@@ -167,6 +169,7 @@ impl Checker {
 
     /// Adds a sample of the current family, of which this was told, or answers the rule that it breaks: 12, 14
     /// to 18 or 20.
+    #[inline(always)]
     fn add_sample(
         &mut self,
         kind: Kind,
