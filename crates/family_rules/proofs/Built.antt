@@ -8,6 +8,7 @@ use Rattle.std.specs.Cmp.Lexicographic.{bytes_decides}
 use Rattle.std.proofs.lemmas.List.{append-nil, map-append, append_assoc}
 use Rattle.std.proofs.lemmas.List.Elements.{filter-append, filter_map-append}
 use Rattle.std.proofs.lemmas.Grind.{flat_map-append}
+use Rattle.exact_decimal.specs.declared.number.Number.{Number}
 use Rattle.label_sets.specs.declared.kind.Kind.{Kind}
 use Rattle.label_sets.specs.declared.kind.Kind.TheVariants.{Counter, Gauge, StateSet, Info, Unknown}
 use Rattle.label_sets.specs.declared.label_set.LabelSet.{LabelSet}
@@ -28,7 +29,7 @@ use Rattle.sample_groups.specs.Groups.{groups_from, reading_from}
 use Rattle.sample_groups.specs.Parts.{is_grouped, entry_of}
 use Rattle.sample_groups.specs.Sound.{AreSound}
 use Rattle.sample_groups.proofs.Laws.{readings_made}
-use Rattle.family_rules.specs.Checking.{groups_so_far, so_far, left_before, key_of, keys_above, Checking, Stands, left_families, current_family}
+use Rattle.family_rules.specs.Checking.{groups_so_far, so_far, left_before, key_of, keyed, seen_above, Checking, Stands, left_families, current_family}
 use Rattle.family_rules.specs.Steps.{with_left, end_stop}
 use Rattle.family_rules.specs.Made.{page_at, plain_reading, readings_at, readings_in, family_at, families_at}
 use Rattle.page_model.specs.declared.page.Value.TheVariants as values
@@ -264,71 +265,69 @@ samples_none : (above : List Owned) (F : List ℕ) → list_any (is_of F) above 
 samples_none above F none = reversed_samples above F ∙ ap reverse (no_samples above F none)
 
 module _ (st : Setting) where
-  -- the keys of a family's samples
-  abbrev keys_in : List Owned → List ℕ → List SampleKey
-  keys_in above F = map (key_of st) (samples_of (reverse above) F)
+  -- a family's samples, each as its key and its value
+  abbrev seen_in : List Owned → List ℕ → List (SampleKey × Number)
+  seen_in above F = map (keyed st) (samples_of (reverse above) F)
 
-  keys_other : (o : Owned) (above : List Owned) (F : List ℕ) → bytes_eq o.family F ≡ false → keys_in (o ∷ above) F ≡ keys_in above F
-  keys_other o above F e = ap (map (key_of st)) (samples_of-reverse o above F ∙ ap (λ l. samples_of (reverse above) F ++ l) (none_of_other o F e) ∙ append-nil (samples_of (reverse above) F))
+  seen_other : (o : Owned) (above : List Owned) (F : List ℕ) → bytes_eq o.family F ≡ false → seen_in (o ∷ above) F ≡ seen_in above F
+  seen_other o above F e = ap (map (keyed st)) (samples_of-reverse o above F ∙ ap (λ l. samples_of (reverse above) F ++ l) (none_of_other o F e) ∙ append-nil (samples_of (reverse above) F))
 
-  keys_own : (o : Owned) (above : List Owned) → keys_in (o ∷ above) o.family ≡ keys_in above o.family ++ option_to_list (option_map (key_of st) (sample_of_line o.item))
-  keys_own o above = ap (map (key_of st)) (own_samples o.family o.item above) ∙ map-append (key_of st) (samples_of (reverse above) o.family) (option_to_list (sample_of_line o.item))
-      ∙ ap (λ l. keys_in above o.family ++ l) (by (sample_of_line o.item))
+  seen_own : (o : Owned) (above : List Owned) → seen_in (o ∷ above) o.family ≡ seen_in above o.family ++ option_to_list (option_map (keyed st) (sample_of_line o.item))
+  seen_own o above = ap (map (keyed st)) (own_samples o.family o.item above) ∙ map-append (keyed st) (samples_of (reverse above) o.family) (option_to_list (sample_of_line o.item))
+      ∙ ap (λ l. seen_in above o.family ++ l) (by (sample_of_line o.item))
     where
-      by : (s : Option Sample) → map (key_of st) (option_to_list s) ≡ option_to_list (option_map (key_of st) s)
+      by : (s : Option Sample) → map (keyed st) (option_to_list s) ≡ option_to_list (option_map (keyed st) s)
       by None = refl
       by (Some s) = refl
 
-  one_flat : (f : List ℕ → List SampleKey) (F : List ℕ) → flat_map f (F ∷ []) ≡ f F
+  one_flat : (f : List ℕ → List (SampleKey × Number)) (F : List ℕ) → flat_map f (F ∷ []) ≡ f F
   one_flat f F = append-nil (f F)
 
-  -- the keys of the left families and of the next line's
-  keys_before : (F : List ℕ) (item : Item) (above : List Owned) → AreFit st above → is_split above (record { family = F; item = item }) ≡ false
-      → flat_map (keys_in above) (families_of (reverse above)) ≡ flat_map (keys_in above) (left_before F above) ++ keys_in above F
+  -- the samples of the left families and of the next line's
+  seen_before : (F : List ℕ) (item : Item) (above : List Owned) → AreFit st above → is_split above (record { family = F; item = item }) ≡ false
+      → flat_map (seen_in above) (families_of (reverse above)) ≡ flat_map (seen_in above) (left_before F above) ++ seen_in above F
   unfolding left_before is_split families_of samples_of
-  keys_before F item [] fit h = refl
-  keys_before F item (n ∷ above) fit h =
-      ap (flat_map (keys_in (n ∷ above))) (families_of-reverse st n above fit) ∙ by (bytes_eq n.family F) refl h
+  seen_before F item [] fit h = refl
+  seen_before F item (n ∷ above) fit h =
+      ap (flat_map (seen_in (n ∷ above))) (families_of-reverse st n above fit) ∙ by (bytes_eq n.family F) refl h
     where
       by : (b : Bool) → bytes_eq n.family F ≡ b → (not b && list_any (is_of F) above) ≡ false
-          → flat_map (keys_in (n ∷ above)) (left_before n.family above ++ n.family ∷ [])
-          ≡ flat_map (keys_in (n ∷ above)) (cond b (left_before n.family above) (left_before n.family above ++ n.family ∷ [])) ++ keys_in (n ∷ above) F
-      by true e none = flat_map-append (keys_in (n ∷ above)) (left_before n.family above) (n.family ∷ [])
-          ∙ ap (λ l. flat_map (keys_in (n ∷ above)) (left_before n.family above) ++ l) (one_flat (keys_in (n ∷ above)) n.family ∙ ap (keys_in (n ∷ above)) ((bytes_decides n.family F).0 e))
+          → flat_map (seen_in (n ∷ above)) (left_before n.family above ++ n.family ∷ [])
+          ≡ flat_map (seen_in (n ∷ above)) (cond b (left_before n.family above) (left_before n.family above ++ n.family ∷ [])) ++ seen_in (n ∷ above) F
+      by true e none = flat_map-append (seen_in (n ∷ above)) (left_before n.family above) (n.family ∷ [])
+          ∙ ap (λ l. flat_map (seen_in (n ∷ above)) (left_before n.family above) ++ l) (one_flat (seen_in (n ∷ above)) n.family ∙ ap (seen_in (n ∷ above)) ((bytes_decides n.family F).0 e))
       by false e none =
-          sym (append-nil (flat_map (keys_in (n ∷ above)) (left_before n.family above ++ n.family ∷ [])))
-          ∙ ap (λ l. flat_map (keys_in (n ∷ above)) (left_before n.family above ++ n.family ∷ []) ++ l) (sym (ap (map (key_of st)) (samples_none (n ∷ above) F (rw e none))))
+          sym (append-nil (flat_map (seen_in (n ∷ above)) (left_before n.family above ++ n.family ∷ [])))
+          ∙ ap (λ l. flat_map (seen_in (n ∷ above)) (left_before n.family above ++ n.family ∷ []) ++ l) (sym (ap (map (keyed st)) (samples_none (n ∷ above) F (rw e none))))
 
-  -- the keys stand family by family
-  together : (above : List Owned) → AreFit st above → keys_above st above ≡ flat_map (keys_in above) (families_of (reverse above))
-  unfolding keys_above left_before families_of
+  -- the samples stand family by family
+  together : (above : List Owned) → AreFit st above → seen_above st above ≡ flat_map (seen_in above) (families_of (reverse above))
+  unfolding seen_above left_before families_of
   together [] fit = refl
   together (o ∷ above) fit =
-      let own : List SampleKey = option_to_list (option_map (key_of st) (sample_of_line o.item)) in
-      let before : keys_above st above ≡ flat_map (keys_in above) (left_before o.family above) ++ keys_in above o.family = together above fit.1 ∙ keys_before o.family o.item above fit.1 fit.0.together in
-      ap (λ l. l ++ own) before ∙ append_assoc (flat_map (keys_in above) (left_before o.family above)) (keys_in above o.family) own
-      ∙ ap (λ l. flat_map (keys_in above) (left_before o.family above) ++ l) (sym (keys_own o above))
-      ∙ ap (λ l. l ++ keys_in (o ∷ above) o.family) (flat_map-same (keys_in above) (keys_in (o ∷ above)) o.family (left_before o.family above) (fresh st o.family o.item above fit.1 fit.0.together) (λ name e. sym (keys_other o above name e)))
-      ∙ ap (λ l. flat_map (keys_in (o ∷ above)) (left_before o.family above) ++ l) (sym (one_flat (keys_in (o ∷ above)) o.family))
-      ∙ sym (flat_map-append (keys_in (o ∷ above)) (left_before o.family above) (o.family ∷ []))
-      ∙ ap (flat_map (keys_in (o ∷ above))) (sym (families_of-reverse st o above fit))
+      let own : List (SampleKey × Number) = option_to_list (option_map (keyed st) (sample_of_line o.item)) in
+      let before : seen_above st above ≡ flat_map (seen_in above) (left_before o.family above) ++ seen_in above o.family = together above fit.1 ∙ seen_before o.family o.item above fit.1 fit.0.together in
+      ap (λ l. l ++ own) before ∙ append_assoc (flat_map (seen_in above) (left_before o.family above)) (seen_in above o.family) own
+      ∙ ap (λ l. flat_map (seen_in above) (left_before o.family above) ++ l) (sym (seen_own o above))
+      ∙ ap (λ l. l ++ seen_in (o ∷ above) o.family) (flat_map-same (seen_in above) (seen_in (o ∷ above)) o.family (left_before o.family above) (fresh st o.family o.item above fit.1 fit.0.together) (λ name e. sym (seen_other o above name e)))
+      ∙ ap (λ l. flat_map (seen_in (o ∷ above)) (left_before o.family above) ++ l) (sym (one_flat (seen_in (o ∷ above)) o.family))
+      ∙ sym (flat_map-append (seen_in (o ∷ above)) (left_before o.family above) (o.family ∷ []))
+      ∙ ap (flat_map (seen_in (o ∷ above))) (sym (families_of-reverse st o above fit))
 
 -- ---- families
 
-taken : (st : Setting) (k : Kind) (unit : List ℕ) (samples : List Sample) (more : List SampleKey)
-    → readings_at k unit (map (key_of st) samples ++ more) (map (λ (s : Sample). s.value) samples) ≡ map (λ s. plain_reading k unit (key_of st s) s.value) samples
-taken st k unit [] [] = refl
-taken st k unit [] (key ∷ more) = refl
+taken : (st : Setting) (k : Kind) (unit : List ℕ) (samples : List Sample) (more : List (SampleKey × Number))
+    → readings_at k unit (length samples) (map (keyed st) samples ++ more) ≡ map (λ s. plain_reading k unit (key_of st s) s.value) samples
+taken st k unit [] more = refl
 taken st k unit (s ∷ samples) more = ap (λ l. plain_reading k unit (key_of st s) s.value ∷ l) (taken st k unit samples more)
 
-dropped : (st : Setting) (samples : List Sample) (more : List SampleKey) → drop (length (map (λ (s : Sample). s.value) samples)) (map (key_of st) samples ++ more) ≡ more
-dropped st [] [] = refl
-dropped st [] (key ∷ more) = refl
+dropped : (st : Setting) (samples : List Sample) (more : List (SampleKey × Number)) → drop (length samples) (map (keyed st) samples ++ more) ≡ more
+dropped st [] more = refl
 dropped st (s ∷ samples) more = dropped st samples more
 
 -- the readings of what is known of a family are those of its samples
-made_readings : (st : Setting) (above : List Owned) (F : List ℕ) (more : List SampleKey) → AreFit st above
-    → readings_in st.format F (so_far st above F) (keys_in st above F ++ more) ≡ readings_of st (kind_of above F) F (unwrap_or (first_some (unit_in F) above) []) (samples_of (reverse above) F)
+made_readings : (st : Setting) (above : List Owned) (F : List ℕ) (more : List (SampleKey × Number)) → AreFit st above
+    → readings_in st.format F (so_far st above F) (seen_in st above F ++ more) ≡ readings_of st (kind_of above F) F (unwrap_or (first_some (unit_in F) above) []) (samples_of (reverse above) F)
 unfolding so_far kind_of groups_so_far
 made_readings st above F more fit = by (is_grouped st.format (kind_of above F)) refl
   where
@@ -337,7 +336,7 @@ made_readings st above F more fit = by (is_grouped st.format (kind_of above F)) 
 
     by : (b : Bool) → is_grouped st.format (kind_of above F) ≡ b
         → cond b (filter_map (reading_from st.format (kind_of above F) F (unwrap_or (first_some (unit_in F) above) [])) (cond b (groups_from (map (entry_of st (kind_of above F) F) (samples_of (reverse above) F))) []))
-        (readings_at (kind_of above F) (unwrap_or (first_some (unit_in F) above) []) (keys_in st above F ++ more) (map (λ (s : Sample). s.value) (samples_of (reverse above) F)))
+        (readings_at (kind_of above F) (unwrap_or (first_some (unit_in F) above) []) (length (samples_of (reverse above) F)) (seen_in st above F ++ more))
         ≡ readings_of st (kind_of above F) F (unwrap_or (first_some (unit_in F) above) []) (samples_of (reverse above) F)
     by true e =
         let k : Kind = kind_of above F in
@@ -349,8 +348,8 @@ made_readings st above F more fit = by (is_grouped st.format (kind_of above F)) 
         taken st k unit (samples_of (reverse above) F) more
         ∙ sym (readings_read st k e F unit above fit (sound_samples st above F fit))
 
-one_family : (st : Setting) (above : List Owned) (F : List ℕ) (more : List SampleKey) → AreFit st above
-    → family_at st.format F (so_far st above F) (keys_in st above F ++ more) ≡ family_of st (reverse above) F
+one_family : (st : Setting) (above : List Owned) (F : List ℕ) (more : List (SampleKey × Number)) → AreFit st above
+    → family_at st.format F (so_far st above F) (seen_in st above F ++ more) ≡ family_of st (reverse above) F
 unfolding family_of so_far kind_of
 one_family st above F more fit =
     let help : first_some (help_in F) above ≡ first_some (help_in F) (reverse above) = sym (said_once help_of_line help_sort st above F fit) in
@@ -367,13 +366,13 @@ one_family st above F more fit =
     })
 
 all_families : (st : Setting) (above : List Owned) (names : List (List ℕ)) → AreFit st above
-    → families_at st.format (pairs (so_far st above) names) (flat_map (keys_in st above) names) ≡ map (family_of st (reverse above)) names
+    → families_at st.format (pairs (so_far st above) names) (flat_map (seen_in st above) names) ≡ map (family_of st (reverse above)) names
 unfolding families_at so_far
 all_families st above [] fit = refl
 all_families st above (F ∷ names) fit =
-    let first : family_at st.format F (so_far st above F) (keys_in st above F ++ flat_map (keys_in st above) names) ≡ family_of st (reverse above) F = one_family st above F (flat_map (keys_in st above) names) fit in
-    let rest : families_at st.format (pairs (so_far st above) names) (drop (length (so_far st above F).values) (keys_in st above F ++ flat_map (keys_in st above) names)) ≡ map (family_of st (reverse above)) names =
-    ap (families_at st.format (pairs (so_far st above) names)) (dropped st (samples_of (reverse above) F) (flat_map (keys_in st above) names)) ∙ all_families st above names fit in
+    let first : family_at st.format F (so_far st above F) (seen_in st above F ++ flat_map (seen_in st above) names) ≡ family_of st (reverse above) F = one_family st above F (flat_map (seen_in st above) names) fit in
+    let rest : families_at st.format (pairs (so_far st above) names) (drop (so_far st above F).samples (seen_in st above F ++ flat_map (seen_in st above) names)) ≡ map (family_of st (reverse above)) names =
+    ap (families_at st.format (pairs (so_far st above) names)) (dropped st (samples_of (reverse above) F) (flat_map (seen_in st above) names)) ∙ all_families st above names fit in
     λ i. first i ∷ rest i
 
 -- the families that were left, with the current one, are those of the lines
@@ -400,7 +399,7 @@ page_built st c earlier s =
     let above : List Owned = owned_lines st.format earlier in
     let fit : AreFit st above = fit_lines st earlier s.faultless in
     let kept_is : with_left c.left c.current ≡ pairs (so_far st above) (families_of (reverse above)) = (λ i. with_left (s.left i) (s.current i)) ∙ all_pairs st above fit in
-    let seen_is : c.seen ≡ flat_map (keys_in st above) (families_of (reverse above)) = s.seen ∙ together st above fit in
+    let seen_is : c.seen ≡ flat_map (seen_in st above) (families_of (reverse above)) = s.seen ∙ together st above fit in
     let families : families_at c.setting.format (with_left c.left c.current) c.seen ≡ map (family_of st (reverse above)) (families_of (reverse above)) =
     (λ i. families_at (s.setting i).format (kept_is i) (seen_is i)) ∙ all_families st above (families_of (reverse above)) fit in
     λ i. record { families = families i; samples = s.samples i }

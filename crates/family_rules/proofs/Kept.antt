@@ -1,5 +1,5 @@
 -- What is known of each family, and which families were left, once a line is added.
-use Rattle.std.proofs.Common.{◌≡◌, ℕ, suc, arith, Bool, true, false, cond, not, ◌&&◌, ◌||◌, List, [], ◌∷◌, ◌++◌, map, length, Option, Some, None, refl, sym, ap, subst, ◌∙◌, reverse, is_some}
+use Rattle.std.proofs.Common.{◌≡◌, ◌+◌, ℕ, suc, arith, Bool, true, false, cond, not, ◌&&◌, ◌||◌, List, [], ◌∷◌, ◌++◌, map, length, length-append, Option, Some, None, refl, sym, ap, subst, ◌∙◌, reverse, is_some}
 use Rattle.std.specs.Prelude.{◌==◌}
 use Rattle.std.specs.List.{list_any, cons_option}
 use Rattle.std.specs.Option.{option_or, option_to_list}
@@ -185,14 +185,13 @@ module _ (st : Setting) where
 
   pub so_far-sample : (F : List ℕ) (s : Sample) (above : List Owned)
       → so_far st (record { family = F; item = items.Sample s } ∷ above) F
-      ≡ record (so_far st above F) { values = (so_far st above F).values ++ s.value ∷ []; groups = grown st (kind_of above F) F s (so_far st above F).groups }
+      ≡ record (so_far st above F) { samples = (so_far st above F).samples + 1; groups = grown st (kind_of above F) F s (so_far st above F).groups }
   unfolding so_far kind_of
   so_far-sample F s above =
       let samples = own_samples F (items.Sample s) above in
-      let values : map (λ (t : Sample). t.value) (samples_of (reverse above) F ++ s ∷ []) ≡ map (λ (t : Sample). t.value) (samples_of (reverse above) F) ++ s.value ∷ [] =
-      map-append (λ (t : Sample). t.value) (samples_of (reverse above) F) (s ∷ []) in
+      let more : length (samples_of (reverse above) F ++ s ∷ []) ≡ length (samples_of (reverse above) F) + 1 = length-append (samples_of (reverse above) F) (s ∷ []) in
       let groups = groups_more st (kind_of above F) F (samples_of (reverse above) F) s in
-      rw (bytes_same F, samples, values, groups) refl
+      rw (bytes_same F, samples, more, groups) refl
 
   -- nothing is known of a family without lines
   pub so_far-none : (above : List Owned) (F : List ℕ) → list_any (is_of F) above ≡ false → so_far st above F ≡ no_lines
@@ -223,7 +222,7 @@ not_zero-append : {A : Type 0} (xs ys : List A) → not (length (xs ++ ys) == 0)
 not_zero-append [] ys = refl
 not_zero-append (x ∷ xs) ys = rw (suc_zero (length (xs ++ ys)), suc_zero (length xs)) refl
 
-some_value : (b : Bool) (item : Item) → not (length (map (λ (s : Sample). s.value) (cons_option (cond b (sample_of_line item) None) [])) == 0) ≡ (b && is_sample item)
+some_value : (b : Bool) (item : Item) → not (length (cons_option (cond b (sample_of_line item) None) []) == 0) ≡ (b && is_sample item)
 some_value false item = refl
 some_value true (items.Sample s) = refl
 some_value true _ = refl
@@ -232,10 +231,9 @@ some_sample : (st : Setting) (above : List Owned) (F : List ℕ) → has_samples
 unfolding so_far samples_of
 some_sample st [] F = refl
 some_sample st (o ∷ above) F =
-    ap (λ l. not (length (map (λ (s : Sample). s.value) l) == 0)) (samples_of-reverse o above F)
-    ∙ ap (λ l. not (length l == 0)) (map-append (λ (s : Sample). s.value) (samples_of (reverse above) F) (samples_of (o ∷ []) F))
-    ∙ not_zero-append (map (λ (s : Sample). s.value) (samples_of (reverse above) F)) (map (λ (s : Sample). s.value) (samples_of (o ∷ []) F))
-    ∙ or_comm (has_samples (so_far st above F)) (not (length (map (λ (s : Sample). s.value) (samples_of (o ∷ []) F)) == 0))
+    ap (λ l. not (length l == 0)) (samples_of-reverse o above F)
+    ∙ not_zero-append (samples_of (reverse above) F) (samples_of (o ∷ []) F)
+    ∙ or_comm (has_samples (so_far st above F)) (not (length (samples_of (o ∷ []) F) == 0))
     ∙ ap (λ b. b || has_samples (so_far st above F)) (some_value (is_of F o) o.item)
     ∙ ap (λ b. (is_of F o && is_sample o.item) || b) (some_sample st above F)
 

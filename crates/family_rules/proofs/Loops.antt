@@ -1,6 +1,7 @@
 -- The loops that build readings and families.
-use Rattle.std.proofs.Common.{◌≡◌, ◌≤◌, ◌+◌, ℕ, zero, suc, arith, List, [], ◌∷◌, ◌++◌, drop, length, Option, Some, None, refl, sym, ap, ◌∙◌}
-use Rattle.std.specs.Prelude.{slice_get, MatchOption}
+use Rattle.std.proofs.Common.{◌≡◌, ◌≤◌, ◌+◌, ℕ, zero, suc, arith, Bool, true, cond, List, [], ◌∷◌, ◌++◌, drop, length, Option, Some, None, refl, sym, ap, ◌∙◌}
+use Rattle.std.specs.Prelude.{◌||◌, slice_get}
+use Rattle.std.specs.List.{list_any, zip}
 use Rattle.std.specs.Vec.Iter.{into_iter_items, into_iter_steps}
 use Rattle.std.specs.declared.vec.IntoIter.{IntoIter}
 use Rattle.std.specs.declared.alloc.Global.{Global}
@@ -11,23 +12,22 @@ use Rattle.page_model.specs.declared.format.Format.{Format}
 use Rattle.page_model.specs.declared.page.Family.{Family}
 use Rattle.page_model.specs.declared.page.Reading.{Reading}
 use Rattle.family_rules.specs.declared.family.FamilySoFar.{FamilySoFar}
+use Rattle.exact_decimal.specs.declared.number.Number.{Number}
 use Rattle.packed_keys.specs.declared.sample_key.SampleKey.{SampleKey}
-use Rattle.family_rules.specs.Made.{readings_at, family_at, families_at}
+use Rattle.packed_keys.specs.Packing.{sample_key_eq}
+use Rattle.family_rules.specs.KeyedValues.{is_key_of, IsNext}
+use Rattle.family_rules.specs.Made.{plain_reading, readings_at, family_at, families_at}
 
 pub no_length : {A : Type 0} (xs : List A) → length xs ≡ 0 → xs ≡ []
 no_length [] h = refl
 no_length (x ∷ xs) h = absurd (omega arith)
 
-pub no_values : (kind : Kind) (unit : List ℕ) (keys : List SampleKey) → readings_at kind unit keys [] ≡ []
-no_values kind unit [] = refl
-no_values kind unit (k ∷ keys) = refl
-
 pub readings_end : (rs rest whole : List Reading) → rest ≡ [] → rs ++ rest ≡ whole → rs ≡ whole
 readings_end rs rest whole none h = sym (append-nil rs) ∙ ap (λ l. rs ++ l) (sym none) ∙ h
 
 -- one family more
-pub families_step : (format : Format) (it next : List (List ℕ × FamilySoFar)) (name : List ℕ) (known : FamilySoFar) (keys rest : List SampleKey) (f : Family) (fs new whole : List Family)
-    → it ≡ (name, known) ∷ next → f ≡ family_at format name known keys → rest ≡ drop (length known.values) keys → new ≡ fs ++ f ∷ [] → fs ++ families_at format it keys ≡ whole
+pub families_step : (format : Format) (it next : List (List ℕ × FamilySoFar)) (name : List ℕ) (known : FamilySoFar) (keys rest : List (SampleKey × Number)) (f : Family) (fs new whole : List Family)
+    → it ≡ (name, known) ∷ next → f ≡ family_at format name known keys → rest ≡ drop known.samples keys → new ≡ fs ++ f ∷ [] → fs ++ families_at format it keys ≡ whole
     → new ++ families_at format next rest ≡ whole
 unfolding families_at
 families_step format it next name known keys rest f fs new whole items family_is rest_is new_is h =
@@ -35,15 +35,15 @@ families_step format it next name known keys rest f fs new whole items family_is
     ∙ (λ i. fs ++ (family_is i ∷ families_at format next (rest_is i)))
     ∙ ap (λ es. fs ++ families_at format es keys) (sym items) ∙ h
 
-pub families_end : (format : Format) (it : List (List ℕ × FamilySoFar)) (keys : List SampleKey) (fs whole : List Family) → it ≡ [] → fs ++ families_at format it keys ≡ whole → fs ≡ whole
+pub families_end : (format : Format) (it : List (List ℕ × FamilySoFar)) (keys : List (SampleKey × Number)) (fs whole : List Family) → it ≡ [] → fs ++ families_at format it keys ≡ whole → fs ≡ whole
 unfolding families_at
 families_end format it keys fs whole none h = sym (append-nil fs) ∙ ap (λ es. fs ++ families_at format es keys) (sym none) ∙ h
 
 -- each family that is kept is one of the page
-pub families_count : (format : Format) (es : List (List ℕ × FamilySoFar)) (keys : List SampleKey) → length (families_at format es keys) ≡ length es
+pub families_count : (format : Format) (es : List (List ℕ × FamilySoFar)) (keys : List (SampleKey × Number)) → length (families_at format es keys) ≡ length es
 unfolding families_at
 families_count format [] keys = refl
-families_count format (e ∷ es) keys = ap suc (families_count format es (drop (length e.1.values) keys))
+families_count format (e ∷ es) keys = ap suc (families_count format es (drop e.1.samples keys))
 
 -- the next of the values that are to come has the next of the names
 pub next_named : {V : Type 0} (names : List (List ℕ)) (at : ℕ) (name : List ℕ) (v : V) (values : List V) → slice_get names at ≡ Some name
@@ -56,22 +56,91 @@ next_named (n ∷ ns) (suc at) name v values h = next_named ns at name v values 
 pub no_names : {V : Type 0} (names : List (List ℕ)) (at : ℕ) (values : List V) → length names ≤ at → named (drop at names) values ≡ []
 no_names names at values h = ap (λ ns. named ns values) (drop_all at names h)
 
--- the next of values that come one after the other, where there is one
-abbrev pub IsNextOf : {A : Type 0} → Option A → List A → List A → Type 0
-IsNextOf o old new = MatchOption o ((old ≡ []) × (new ≡ [])) (λ x. old ≡ x ∷ new)
-
-pub none_left : {A : Type 0} (o : Option A) (old new : List A) → o ≡ None → IsNextOf o old new → old ≡ []
+pub none_left : {A : Type 0} (o : Option A) (old new : List A) → o ≡ None → IsNext o old new → old ≡ []
 none_left None old new e h = h.0
 none_left (Some x) old new e h = absurd (let f : Some x ≡ None = e in cc)
 
-pub one_left : {A : Type 0} (o : Option A) (x : A) (old new : List A) → o ≡ Some x → IsNextOf o old new → old ≡ x ∷ new
+pub one_left : {A : Type 0} (o : Option A) (x : A) (old new : List A) → o ≡ Some x → IsNext o old new → old ≡ x ∷ new
 one_left None x old new e h = absurd (let f : None ≡ Some x = e in cc)
 one_left (Some y) x old new e h = let same : y ≡ x = let f : Some y ≡ Some x = e in cc in h ∙ ap (λ z. z ∷ new) same
 
--- one key more is passed over
-pub passed_one : (s t : IntoIter SampleKey Global) (o : Option SampleKey) (n : ℕ) (whole : List SampleKey) → into_iter_steps s o t → into_iter_items s ≡ drop n whole → into_iter_items t ≡ drop (n + 1) whole
+-- one item more is passed over
+pub passed_one : {A : Type 0} (s t : IntoIter A Global) (o : Option A) (n : ℕ) (whole : List A) → into_iter_steps s o t → into_iter_items s ≡ drop n whole → into_iter_items t ≡ drop (n + 1) whole
 passed_one s t None n whole step h =
     let before : into_iter_items s ≡ [] = no_length (into_iter_items s) (omega (arith, s.rest.ok, step.0)) in
     let after : into_iter_items t ≡ [] = no_length (into_iter_items t) (omega (arith, t.rest.ok, step.1)) in
     after ∙ (sym (ap (drop 1) before) ∙ (ap (drop 1) h ∙ drop-drop 1 n whole))
 passed_one s t (Some x) n whole step h = sym (ap (drop 1) step.0) ∙ (ap (drop 1) h ∙ drop-drop 1 n whole)
+
+-- no values leave no pairs
+pub zip-none : {K V : Type 0} (ks : List K) (vs : List V) → vs ≡ [] → zip ks vs ≡ []
+zip-none [] vs h = refl
+zip-none (k ∷ ks) [] h = refl
+zip-none (k ∷ ks) (v ∷ vs) h = absurd (let f : v ∷ vs ≡ [] = h in cc)
+
+-- no keys leave no pairs
+pub zip-keyless : {K V : Type 0} (ks : List K) (vs : List V) → ks ≡ [] → zip ks vs ≡ []
+zip-keyless [] vs h = refl
+zip-keyless (k ∷ ks) vs h = absurd (let f : k ∷ ks ≡ [] = h in cc)
+
+-- what is passed over in both lists is passed over in the pairs
+pub zip-drop : {K V : Type 0} (n : ℕ) (ks : List K) (vs : List V) → zip (drop n ks) (drop n vs) ≡ drop n (zip ks vs)
+zip-drop zero ks vs = refl
+zip-drop (suc n) [] vs = refl
+zip-drop (suc n) (k ∷ ks) [] = zip-none (drop n ks) [] refl
+zip-drop (suc n) (k ∷ ks) (v ∷ vs) = zip-drop n ks vs
+
+-- one pair more at the end
+pub zip-more : {K V : Type 0} (ks : List K) (vs : List V) (k : K) (v : V) → length vs ≡ length ks → zip (ks ++ k ∷ []) (vs ++ v ∷ []) ≡ zip ks vs ++ (k, v) ∷ []
+zip-more [] [] k v h = refl
+zip-more [] (w ∷ vs) k v h = absurd (omega (arith, h))
+zip-more (l ∷ ks) [] k v h = absurd (omega (arith, h))
+zip-more (l ∷ ks) (w ∷ vs) k v h = ap (λ es. (l, w) ∷ es) (zip-more ks vs k v (omega (arith, h)))
+
+-- a key of the pairs is one of the keys
+pub key_in_zip : (key : SampleKey) (ks : List SampleKey) (vs : List Number) → length vs ≡ length ks → is_key_of key (zip ks vs) ≡ list_any (sample_key_eq key) ks
+key_in_zip key [] vs h = refl
+key_in_zip key (k ∷ ks) [] h = absurd (omega (arith, h))
+key_in_zip key (k ∷ ks) (v ∷ vs) h = ap (λ b. sample_key_eq key k || b) (key_in_zip key ks vs (omega (arith, h)))
+
+-- one reading more
+pub readings_step : (kind : Kind) (unit : List ℕ) (n m : ℕ) (it next : List (SampleKey × Number)) (key : SampleKey) (value : Number) (rs new whole : List Reading)
+    → n ≡ suc m → it ≡ (key, value) ∷ next → new ≡ rs ++ plain_reading kind unit key value ∷ [] → rs ++ readings_at kind unit n it ≡ whole
+    → new ++ readings_at kind unit m next ≡ whole
+readings_step kind unit n m it next key value rs new whole count items new_is h =
+    ap (λ l. l ++ readings_at kind unit m next) new_is ∙ append_assoc rs (plain_reading kind unit key value ∷ []) (readings_at kind unit m next)
+    ∙ sym (λ i. rs ++ readings_at kind unit (count i) (items i)) ∙ h
+
+-- one sample more is passed over
+pub rest_step : {A : Type 0} (n m : ℕ) (it next whole : List A) (x : A) → n ≡ suc m → it ≡ x ∷ next → drop n it ≡ whole → drop m next ≡ whole
+rest_step n m it next whole x count items h = sym (λ i. drop (count i) (items i)) ∙ h
+
+pub no_samples_left : (kind : Kind) (unit : List ℕ) (n : ℕ) → readings_at kind unit n [] ≡ []
+no_samples_left kind unit zero = refl
+no_samples_left kind unit (suc n) = refl
+
+pub nothing_dropped : {A : Type 0} (n : ℕ) (xs : List A) → xs ≡ [] → drop n xs ≡ xs
+nothing_dropped zero xs h = refl
+nothing_dropped (suc n) [] h = refl
+nothing_dropped (suc n) (x ∷ xs) h = absurd (let f : x ∷ xs ≡ [] = h in cc)
+
+pub none_dropped : {A : Type 0} (n : ℕ) (it next whole : List A) → it ≡ [] → next ≡ [] → drop n it ≡ whole → next ≡ whole
+none_dropped n it next whole none after h = after ∙ sym none ∙ sym (nothing_dropped n it none) ∙ h
+
+-- a sample that was added stands behind the others
+pub sample_more : (key : SampleKey) (value : Number) (ks new : List SampleKey) (vs more : List Number) (now : List (SampleKey × Number)) (added : Bool)
+    → zip ks vs ≡ now → length vs ≡ length ks → added ≡ true → new ≡ cond added (ks ++ key ∷ []) ks → more ≡ vs ++ value ∷ []
+    → zip new more ≡ cond added (now ++ (key, value) ∷ []) now
+sample_more key value ks new vs more now added view each h keys values =
+    let new_is : new ≡ ks ++ key ∷ [] = keys ∙ ap (λ b. cond b (ks ++ key ∷ []) ks) h in
+    (λ i. zip (new_is i) (values i)) ∙ zip-more ks vs key value each ∙ ap (λ l. l ++ (key, value) ∷ []) view
+    ∙ sym (ap (λ b. cond b (now ++ (key, value) ∷ []) now) h)
+
+-- the key and the value that come next make the next pair
+pub next_pair : {K V : Type 0} (k : K) (v : V) (ks kn : List K) (vs vn : List V) (now : List (K × V)) → zip ks vs ≡ now → ks ≡ k ∷ kn → vs ≡ v ∷ vn → now ≡ (k, v) ∷ zip kn vn
+next_pair k v ks kn vs vn now view keys values = sym view ∙ (λ i. zip (keys i) (values i))
+
+-- no values come any more
+pub values_done : {A : Type 0} (s t : IntoIter A Global) (o : Option A) → o ≡ None → into_iter_steps s o t → (into_iter_items s ≡ []) × (into_iter_items t ≡ [])
+values_done s t None e step = (no_length (into_iter_items s) (omega (arith, s.rest.ok, step.0)), no_length (into_iter_items t) (omega (arith, t.rest.ok, step.1)))
+values_done s t (Some x) e step = absurd (let f : Some x ≡ None = e in cc)

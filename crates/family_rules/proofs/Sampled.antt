@@ -1,7 +1,6 @@
 -- What the functions of a checker prove of a sample, from what each of their steps did.
 use Rattle.std.proofs.Common.{◌≡◌, ℕ, Bool, true, false, cond, not, ◌&&◌, ◌||◌, List, [], ◌∷◌, ◌++◌, map, reverse, codes, Option, Some, None, Result, Ok, Err, refl, sym, ap, subst, ◌∙◌, is_some, count_by}
 use Rattle.std.specs.Prelude.{nat_le, nat_lt}
-use Rattle.std.specs.List.{list_any}
 use Rattle.std.specs.Map.{lookup}
 use Rattle.std.specs.Option.{option_or}
 use Rattle.std.specs.Str.{bytes_eq}
@@ -27,7 +26,7 @@ use Rattle.sample_groups.specs.declared.part.Part.{Part}
 use Rattle.sample_groups.specs.Groups.{groups_from, known_group, or_empty, breaks_order, shared_labels}
 use Rattle.sample_groups.specs.Parts.{is_grouped, entry_of, part_of}
 use Rattle.sample_groups.proofs.Laws.{shared_group, order_kept}
-use Rattle.packed_keys.specs.Packing.{sample_key_eq}
+use Rattle.family_rules.specs.KeyedValues.{is_key_of}
 use Rattle.packed_keys.specs.declared.sample_key.SampleKey.{SampleKey}
 use Rattle.family_rules.specs.GroupRuns.{goes_back}
 use Rattle.family_rules.specs.Checking.{Checking, groups_so_far, so_far, key_of, Stands}
@@ -37,7 +36,7 @@ use Rattle.family_rules.proofs.Lists.{bytes_same}
 use Rattle.family_rules.proofs.Faults.{fit_lines, sound_samples, left_fault, measure_fault, rest_fault, sample_fault}
 use Rattle.family_rules.proofs.Plain.{suffix_is, plain_value, plain_threshold, plain_order}
 use Rattle.family_rules.proofs.RunLaws.{interleaved_kept}
-use Rattle.family_rules.proofs.Seen.{duplicate_keys}
+use Rattle.family_rules.proofs.Seen.{duplicate_seen}
 use Rattle.family_rules.proofs.Kept.{reversed_samples}
 use Rattle.family_rules.proofs.Standing.{ready_reached, ready_kind, stands_sample, split_left, split_own, left_kept, stays, own_owner, current_owner, ready_current_owner}
 use Rattle.family_rules.proofs.Taking.{refused, reached_same, reached_other}
@@ -53,15 +52,15 @@ stop_kept : (st : Setting) (c : Checking) (earlier : List Item) (s : Sample) (br
     → sample_stop c (key_of c.setting s) broken ≡ cond (is_duplicate st (owned_lines st.format earlier) s) (Some rules.Duplicate) (option_or broken (cond (is_past_limit st earlier) (Some rules.TooMany) None))
 unfolding sample_stop is_past_limit
 stop_kept st c earlier s broken stands =
-    let double : list_any (sample_key_eq (key_of c.setting s)) c.seen ≡ is_duplicate st (owned_lines st.format earlier) s =
-    (λ i. list_any (sample_key_eq (key_of (stands.setting i) s)) (stands.seen i)) ∙ duplicate_keys st (owned_lines st.format earlier) s in
+    let double : is_key_of (key_of c.setting s) c.seen ≡ is_duplicate st (owned_lines st.format earlier) s =
+    (λ i. is_key_of (key_of (stands.setting i) s) (stands.seen i)) ∙ duplicate_seen st (owned_lines st.format earlier) s in
     let past : nat_le c.setting.limit c.samples ≡ nat_le st.limit (count_by is_sample earlier) = λ i. nat_le (stands.setting i).limit (stands.samples i) in
     λ i. cond (double i) (Some rules.Duplicate) (option_or broken (cond (past i) (Some rules.TooMany) None))
 
 -- a rule that is broken refuses the sample
 stop_some : (c : Checking) (key : SampleKey) (rule : Rule) → sample_stop c key (Some rule) ≡ None → ⊥
 unfolding sample_stop
-stop_some c key rule h = by (list_any (sample_key_eq key) c.seen) h
+stop_some c key rule h = by (is_key_of key c.seen) h
   where
     by : (b : Bool) → cond b (Some rules.Duplicate) (Some rule) ≡ None → ⊥
     by true e = cc

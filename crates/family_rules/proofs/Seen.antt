@@ -1,7 +1,6 @@
--- The keys that are kept answer rule Duplicate.
+-- The samples that were seen answer rule Duplicate.
 use Rattle.std.proofs.Common.{◌≡◌, ◌&&◌, ◌||◌, List, [], ◌∷◌, Option, Some, None, refl, ap, ◌∙◌}
 use Rattle.std.specs.Prelude.{option_map}
-use Rattle.std.specs.List.{list_any}
 use Rattle.std.specs.Option.{option_to_list}
 use Rattle.std.specs.Str.{bytes_eq}
 use Rattle.std.proofs.lemmas.List.Folds.{list_any-append}
@@ -12,24 +11,27 @@ use Rattle.page_model.specs.Written.{Setting}
 use Rattle.page_model.specs.Items.{sample_of_line}
 use Rattle.page_model.specs.Owners.{Owned, kept_labels}
 use Rattle.page_model.specs.Rules.{is_same_series, is_duplicate}
+use Rattle.exact_decimal.specs.declared.number.Number.{Number}
+use Rattle.packed_keys.specs.declared.sample_key.SampleKey.{SampleKey}
 use Rattle.packed_keys.specs.Packing.{sample_key_eq}
-use Rattle.family_rules.specs.Checking.{key_of, keys_above}
+use Rattle.family_rules.specs.KeyedValues.{is_key_of}
+use Rattle.family_rules.specs.Checking.{key_of, keyed, seen_above}
 use Rattle.family_rules.proofs.Lists.{or_false, or_comm, bytes_swap, label_sets_swap}
 
 key_same : (st : Setting) (s t : Sample) → sample_key_eq (key_of st s) (key_of st t) ≡ is_same_series st s t
 key_same st s t = ap (λ b. b && label_sets_eq (kept_labels st.treatment s.labels) (kept_labels st.treatment t.labels)) (bytes_swap s.name t.name)
     ∙ ap (λ b. bytes_eq t.name s.name && b) (label_sets_swap (kept_labels st.treatment s.labels) (kept_labels st.treatment t.labels))
 
--- Duplicate, by the keys
-pub duplicate_keys : (st : Setting) (above : List Owned) (s : Sample) → list_any (sample_key_eq (key_of st s)) (keys_above st above) ≡ is_duplicate st above s
-unfolding keys_above is_duplicate
-duplicate_keys st [] s = refl
-duplicate_keys st (o ∷ above) s =
-    list_any-append (sample_key_eq (key_of st s)) (keys_above st above) (option_to_list (option_map (key_of st) (sample_of_line o.item)))
-    ∙ or_comm (list_any (sample_key_eq (key_of st s)) (keys_above st above)) (list_any (sample_key_eq (key_of st s)) (option_to_list (option_map (key_of st) (sample_of_line o.item))))
-    ∙ ap (λ b. b || list_any (sample_key_eq (key_of st s)) (keys_above st above)) (by (sample_of_line o.item))
-    ∙ ap (λ b. some_passes (is_same_series st s) (sample_of_line o.item) || b) (duplicate_keys st above s)
+-- Duplicate, by what was seen
+pub duplicate_seen : (st : Setting) (above : List Owned) (s : Sample) → is_key_of (key_of st s) (seen_above st above) ≡ is_duplicate st above s
+unfolding seen_above is_duplicate
+duplicate_seen st [] s = refl
+duplicate_seen st (o ∷ above) s =
+    list_any-append (λ (e : SampleKey × Number). sample_key_eq (key_of st s) e.0) (seen_above st above) (option_to_list (option_map (keyed st) (sample_of_line o.item)))
+    ∙ or_comm (is_key_of (key_of st s) (seen_above st above)) (is_key_of (key_of st s) (option_to_list (option_map (keyed st) (sample_of_line o.item))))
+    ∙ ap (λ b. b || is_key_of (key_of st s) (seen_above st above)) (by (sample_of_line o.item))
+    ∙ ap (λ b. some_passes (is_same_series st s) (sample_of_line o.item) || b) (duplicate_seen st above s)
   where
-    by : (t : Option Sample) → list_any (sample_key_eq (key_of st s)) (option_to_list (option_map (key_of st) t)) ≡ some_passes (is_same_series st s) t
+    by : (t : Option Sample) → is_key_of (key_of st s) (option_to_list (option_map (keyed st) t)) ≡ some_passes (is_same_series st s) t
     by None = refl
     by (Some t) = or_false (sample_key_eq (key_of st s) (key_of st t)) ∙ key_same st s t

@@ -30,9 +30,9 @@ use Rattle.family_rules.specs.declared.family.Current.{Current}
 use Rattle.family_rules.specs.declared.family.Descriptor.{Descriptor}
 use Rattle.family_rules.specs.declared.family.Descriptor.TheVariants as sorts
 use Rattle.family_rules.specs.declared.family.FamilySoFar.{FamilySoFar}
-use Rattle.family_rules.specs.Checking.{Checking, no_lines, has_samples, groups_so_far, so_far, left_before, left_families, current_family, key_of, keys_above, Stands}
+use Rattle.family_rules.specs.Checking.{Checking, no_lines, has_samples, groups_so_far, so_far, left_before, left_families, current_family, key_of, keyed, seen_above, Stands}
 use Rattle.family_rules.specs.Steps.{has, line_of, unit_stop, family_with, with_descriptor, is_late_in, current_kind, is_current_family, known_in, has_incomplete, left_stop, place_stop, with_left, begun, reached, current_with, IsReady}
-use Rattle.family_rules.specs.Samples.{is_current_sample, family_with_value, with_part_in, with_part_at, with_told, runs_with, entered_by, with_sample}
+use Rattle.family_rules.specs.Samples.{is_current_sample, family_with_sample, with_part_in, with_part_at, with_told, runs_with, entered_by, with_sample}
 use Rattle.family_rules.specs.GroupRuns.{no_runs, runs_of, nearest_runs}
 use Rattle.family_rules.proofs.RunLaws.{no_samples_no_runs, runs_sample}
 use Rattle.family_rules.proofs.Lists.{or_false, bytes_same, pairs, lookup-map, map-pairs, insert_entry-last}
@@ -246,7 +246,7 @@ module _ (st : Setting) (c : Checking) (earlier : List Item) (F : List ℕ) (r :
   stands_with : (item : Item) → item_fault st earlier item ≡ None → is_eof item ≡ false → owner_of st.format (owned_lines st.format earlier) item ≡ Some F
       → (d : Checking) → d.setting ≡ c.setting → d.left ≡ c.left → d.current ≡ Some (record { name = F; family = so_far st (record { family = F; item = item } ∷ owned_lines st.format earlier) F })
       → d.runs ≡ runs_of st (record { family = F; item = item } ∷ owned_lines st.format earlier) F
-      → d.seen ≡ keys_above st (record { family = F; item = item } ∷ owned_lines st.format earlier) → d.samples ≡ count_by is_sample (item ∷ earlier) → d.ended ≡ c.ended → d.stopped ≡ c.stopped
+      → d.seen ≡ seen_above st (record { family = F; item = item } ∷ owned_lines st.format earlier) → d.samples ≡ count_by is_sample (item ∷ earlier) → d.ended ≡ c.ended → d.stopped ≡ c.stopped
       → Stands st d (item ∷ earlier)
   unfolding left_families current_family nearest_runs owned_lines
   stands_with item none more owner d setting left current runs seen samples ended stopped =
@@ -261,16 +261,16 @@ module _ (st : Setting) (c : Checking) (earlier : List Item) (F : List ℕ) (r :
         left = left ∙ r.left ∙ pairs_same ∙ ap (λ l. pairs (so_far st l) (left_families l)) (sym lines);
         current = current ∙ ap (current_family st) (sym lines);
         runs = runs ∙ ap (nearest_runs st) (sym lines);
-        seen = seen ∙ ap (keys_above st) (sym lines);
+        seen = seen ∙ ap (seen_above st) (sym lines);
         samples = samples;
         ended = ended ∙ r.ended ∙ ap (λ b. b || list_any is_eof earlier) (sym more);
         working = stopped ∙ r.working;
         faultless = (none, r.faultless);
       } in placed
 
-  unseen : (item : Item) → sample_of_line item ≡ None → c.seen ≡ keys_above st (record { family = F; item = item } ∷ owned_lines st.format earlier)
-  unfolding keys_above
-  unseen item e = r.seen ∙ sym (append-nil (keys_above st (owned_lines st.format earlier))) ∙ ap (λ o. keys_above st (owned_lines st.format earlier) ++ option_to_list (option_map (key_of st) o)) (sym e)
+  unseen : (item : Item) → sample_of_line item ≡ None → c.seen ≡ seen_above st (record { family = F; item = item } ∷ owned_lines st.format earlier)
+  unfolding seen_above
+  unseen item e = r.seen ∙ sym (append-nil (seen_above st (owned_lines st.format earlier))) ∙ ap (λ o. seen_above st (owned_lines st.format earlier) ++ option_to_list (option_map (keyed st) o)) (sym e)
 
   changed : (change : FamilySoFar → FamilySoFar) (f : FamilySoFar) → f ≡ change (so_far st (owned_lines st.format earlier) F) → current_with change c.current ≡ Some (record { name = F; family = f })
   changed change f e = ap (current_with change) r.current ∙ ap (λ g. Some (record { name = F; family = g })) (sym e)
@@ -328,20 +328,20 @@ module _ (st : Setting) (c : Checking) (earlier : List Item) (F : List ℕ) (r :
       → d.current ≡ current_with (λ f. record f { groups = groups }) c.current
       → groups ≡ grown st (kind_of (owned_lines st.format earlier) F) F s (so_far st (owned_lines st.format earlier) F).groups
       → Stands st (with_sample d (key_of st s) s.value) (items.Sample s ∷ earlier)
-  unfolding with_sample keys_above
+  unfolding with_sample seen_above
   sampled s groups owner none d setting left seen samples ended stopped runs current groups_are =
       let above : List Owned = owned_lines st.format earlier in
-      let change : FamilySoFar → FamilySoFar = λ f. record f { values = f.values ++ s.value ∷ []; groups = groups } in
+      let change : FamilySoFar → FamilySoFar = λ f. record f { samples = f.samples + 1; groups = groups } in
       let more : count_by is_sample (items.Sample s ∷ earlier) ≡ 1 + count_by is_sample earlier = sum_by-cons (λ x. cond (is_sample x) 1 0) (items.Sample s) earlier in
       let counted : c.samples ≡ count_by is_sample earlier = r.samples in
       stands_with (items.Sample s) none refl (ap Some owner) (with_sample d (key_of st s) s.value) setting left
-      (ap (current_with (family_with_value s.value)) current ∙ twice c.current
+      (ap (current_with family_with_sample) current ∙ twice c.current
       ∙ changed change (so_far st (record { family = F; item = items.Sample s } ∷ above) F)
-      (so_far-sample st F s above ∙ ap (λ g. record (so_far st above F) { values = (so_far st above F).values ++ s.value ∷ []; groups = g }) (sym groups_are)))
-      runs (ap (λ l. l ++ key_of st s ∷ []) (seen ∙ r.seen)) (omega (arith, samples, counted, more)) ended stopped
+      (so_far-sample st F s above ∙ ap (λ g. record (so_far st above F) { samples = (so_far st above F).samples + 1; groups = g }) (sym groups_are)))
+      runs (ap (λ l. l ++ keyed st s ∷ []) (seen ∙ r.seen)) (omega (arith, samples, counted, more)) ended stopped
     where
-      twice : (k : Option Current) → current_with (family_with_value s.value) (current_with (λ f. record f { groups = groups }) k)
-          ≡ current_with (λ f. record f { values = f.values ++ s.value ∷ []; groups = groups }) k
+      twice : (k : Option Current) → current_with family_with_sample (current_with (λ f. record f { groups = groups }) k)
+          ≡ current_with (λ f. record f { samples = f.samples + 1; groups = groups }) k
       twice None = refl
       twice (Some k) = refl
 

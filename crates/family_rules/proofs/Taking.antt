@@ -3,7 +3,6 @@ use Rattle.std.proofs.lemmas.Bool.{le-leb}
 use Rattle.std.proofs.lemmas.Bool.Decides.{nat_tests}
 use Rattle.std.proofs.Common.{◌≡◌, ◌≤◌, ◌<◌, ◌⊎◌, arith, ℕ, Bool, true, false, cond, not, ◌&&◌, ◌||◌, List, [], ◌∷◌, ◌++◌, Option, Some, None, Result, Ok, Err, refl, sym, ap, subst, ◌∙◌, inl, inr, ◌+◌, is_some, count_by}
 use Rattle.std.specs.Prelude.{OnOk, IfOk, nat_le}
-use Rattle.std.specs.List.{list_any}
 use Rattle.std.specs.Option.{option_or}
 use Rattle.exact_decimal.specs.declared.number.Number.{Number}
 use Rattle.page_model.specs.declared.item.Item.{Item}
@@ -17,11 +16,11 @@ use Rattle.page_model.specs.Rules.{is_open_metrics, is_after_eof, is_late_descri
 use Rattle.page_model.specs.Faults.{item_fault}
 use Rattle.family_rules.specs.declared.family.Descriptor.{Descriptor}
 use Rattle.packed_keys.specs.declared.sample_key.SampleKey.{SampleKey}
-use Rattle.packed_keys.specs.Packing.{sample_key_eq}
+use Rattle.family_rules.specs.KeyedValues.{is_key_of}
 use Rattle.family_rules.specs.GroupRuns.{nearest_runs}
-use Rattle.family_rules.specs.Checking.{Checking, so_far, left_families, current_family, keys_above, Stands}
+use Rattle.family_rules.specs.Checking.{Checking, so_far, left_families, current_family, seen_above, Stands}
 use Rattle.family_rules.specs.Steps.{line_of, is_current_family, begun, reached, with_descriptor, left_stop, place_stop, unit_stop, has_ended, Takes, TakesAny, IsReady}
-use Rattle.family_rules.specs.Samples.{with_value, with_sample, sample_stop}
+use Rattle.family_rules.specs.Samples.{with_counted, with_sample, sample_stop}
 use Rattle.family_rules.proofs.Lists.{pairs}
 use Rattle.family_rules.proofs.Faults.{ended_fault, described_fault, unit_fault, left_fault, blank_fault, comment_fault, eof_fault}
 use Rattle.family_rules.proofs.Standing.{ready_reached, stands_described, unit_kept, place_kept, left_at_end}
@@ -117,21 +116,21 @@ pub negated_true : (a b : Bool) → a ≡ not b → a ≡ true → b ≡ false
 negated_true a false h e = refl
 negated_true a true h e = absurd (let f : true ≡ false = sym e ∙ h in cc)
 
-pub stop_duplicate : (c : Checking) (key : SampleKey) (broken : Option Rule) → list_any (sample_key_eq key) c.seen ≡ true → Some rules.Duplicate ≡ sample_stop c key broken
+pub stop_duplicate : (c : Checking) (key : SampleKey) (broken : Option Rule) → is_key_of key c.seen ≡ true → Some rules.Duplicate ≡ sample_stop c key broken
 unfolding sample_stop
 stop_duplicate c key broken h = rw h refl
 
-pub stop_broken : (c : Checking) (key : SampleKey) (broken : Option Rule) → list_any (sample_key_eq key) c.seen ≡ false → is_some broken ≡ true → broken ≡ sample_stop c key broken
+pub stop_broken : (c : Checking) (key : SampleKey) (broken : Option Rule) → is_key_of key c.seen ≡ false → is_some broken ≡ true → broken ≡ sample_stop c key broken
 unfolding sample_stop
 stop_broken c key None h some = absurd (let f : false ≡ true = some in cc)
 stop_broken c key (Some rule) h some = rw h refl
 
-pub stop_many : (c : Checking) (key : SampleKey) (broken : Option Rule) → list_any (sample_key_eq key) c.seen ≡ false → is_some broken ≡ false → c.setting.limit ≤ c.samples → Some rules.TooMany ≡ sample_stop c key broken
+pub stop_many : (c : Checking) (key : SampleKey) (broken : Option Rule) → is_key_of key c.seen ≡ false → is_some broken ≡ false → c.setting.limit ≤ c.samples → Some rules.TooMany ≡ sample_stop c key broken
 unfolding sample_stop
 stop_many c key (Some rule) h some many = absurd (let f : true ≡ false = some in cc)
 stop_many c key None h some many = rw (h, le-leb c.setting.limit c.samples many) refl
 
-pub stop_none : (c : Checking) (key : SampleKey) (broken : Option Rule) → list_any (sample_key_eq key) c.seen ≡ false → is_some broken ≡ false → c.samples < c.setting.limit → None ≡ sample_stop c key broken
+pub stop_none : (c : Checking) (key : SampleKey) (broken : Option Rule) → is_key_of key c.seen ≡ false → is_some broken ≡ false → c.samples < c.setting.limit → None ≡ sample_stop c key broken
 unfolding sample_stop
 stop_none c key (Some rule) h some few = absurd (let f : true ≡ false = some in cc)
 stop_none c key None h some few = let past : nat_le c.setting.limit c.samples ≡ false = grind (arith, nat_tests) in rw (h, past) refl
@@ -147,7 +146,7 @@ module _ (c : Checking) where
     left = s.left ∙ ap (λ l. pairs (so_far st l) (left_families l)) (sym lines);
     current = s.current ∙ ap (current_family st) (sym lines);
     runs = s.runs ∙ ap (nearest_runs st) (sym lines);
-    seen = s.seen ∙ ap (keys_above st) (sym lines);
+    seen = s.seen ∙ ap (seen_above st) (sym lines);
     samples = s.samples ∙ samples;
     ended = ended ∙ ap (λ b. is_eof item || b) s.ended;
     working = s.working;
@@ -191,9 +190,9 @@ module _ (c : Checking) where
     stands = λ st earlier s none. takes.stands st earlier s (sym (ended_kept st earlier s) ∙ h) none;
   }
 
--- a key that was added stands behind the others
-pub put_new_key : (keys : List SampleKey) (key : SampleKey) (added : Bool) → added ≡ true → cond added (keys ++ key ∷ []) keys ≡ keys ++ key ∷ []
-put_new_key keys key added h = ap (λ b. cond b (keys ++ key ∷ []) keys) h
+-- a sample that was added stands behind the others
+pub put_new : {A : Type 0} (seen : List A) (x : A) (added : Bool) → added ≡ true → cond added (seen ++ x ∷ []) seen ≡ seen ++ x ∷ []
+put_new seen x added h = ap (λ b. cond b (seen ++ x ∷ []) seen) h
 
 -- an answer that is a rule
 pub is_rule : (P : Option Rule → Type 0) (broken : Option Rule) → is_some broken ≡ true → ((rule : Rule) → broken ≡ Some rule → P (Some rule)) → P broken
@@ -206,8 +205,8 @@ is_no_rule None h = refl
 is_no_rule (Some rule) h = absurd (let f : true ≡ false = h in cc)
 
 -- the sample is added where it breaks no rule
-pub sample_added : (c d e : Checking) (key : SampleKey) (value : Number) (seen : List SampleKey) → d ≡ record c { seen = seen; samples = c.samples + 1 } → seen ≡ c.seen ++ key ∷ []
-    → e ≡ with_value d value → e ≡ with_sample c key value
+pub sample_added : (c d e : Checking) (key : SampleKey) (value : Number) (seen : List (SampleKey × Number)) → d ≡ record c { seen = seen; samples = c.samples + 1 } → seen ≡ c.seen ++ (key, value) ∷ []
+    → e ≡ with_counted d → e ≡ with_sample c key value
 unfolding with_sample
-sample_added c d e key value seen step new pushed =
-    pushed ∙ ap (λ x. with_value x value) step ∙ ap (λ l. with_value (record c { seen = l; samples = c.samples + 1 }) value) new
+sample_added c d e key value seen step new counted =
+    counted ∙ ap with_counted step ∙ ap (λ l. with_counted (record c { seen = l; samples = c.samples + 1 })) new

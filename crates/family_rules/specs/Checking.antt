@@ -22,6 +22,7 @@ use Rattle.sample_groups.specs.Parts.{is_grouped, entry_of}
 use Rattle.family_rules.specs.declared.family.Current.{Current}
 use Rattle.family_rules.specs.declared.family.FamilySoFar.{FamilySoFar}
 use Rattle.family_rules.specs.GroupRuns.{Runs, nearest_runs}
+use Rattle.exact_decimal.specs.declared.number.Number.{Number}
 use Rattle.packed_keys.specs.declared.sample_key.SampleKey.{SampleKey}
 
 -- ---- what is kept
@@ -32,14 +33,14 @@ pub record Checking : Type 0 where
   pub left : List (List ℕ × FamilySoFar)
   pub current : Option Current
   pub runs : Runs
-  pub seen : List SampleKey
+  pub seen : List (SampleKey × Number)
   pub samples : ℕ
   pub ended : Bool
   pub stopped : Option PageFault
 
 -- a family without lines
 abbrev pub no_lines : FamilySoFar
-no_lines = record { help = None; kind = None; unit = None; values = []; groups = [] }
+no_lines = record { help = None; kind = None; unit = None; samples = 0; groups = [] }
 
 -- the kind of a family
 abbrev pub kind_in : FamilySoFar → Kind
@@ -47,7 +48,7 @@ kind_in f = unwrap_or f.kind Unknown
 
 -- the family has a sample
 abbrev pub has_samples : FamilySoFar → Bool
-has_samples f = not (length f.values == 0)
+has_samples f = not (f.samples == 0)
 
 -- ---- what the lines above come to
 
@@ -61,7 +62,7 @@ so_far st above family = record {
   help = first_some (help_in family) above;
   kind = first_some (declared_kind family) above;
   unit = first_some (unit_in family) above;
-  values = map (λ (s : Sample). s.value) (samples_of (reverse above) family);
+  samples = length (samples_of (reverse above) family);
   groups = groups_so_far st (kind_of above family) family (samples_of (reverse above) family);
 }
 
@@ -85,10 +86,14 @@ current_family st (nearest ∷ above) = Some (record { name = nearest.family; fa
 abbrev pub key_of : Setting → Sample → SampleKey
 key_of st s = record { name = s.name; labels = kept_labels st.treatment s.labels }
 
--- the keys of the samples in the order of their lines
-unfoldable pub keys_above : Setting → List Owned → List SampleKey
-keys_above st [] = []
-keys_above st (o ∷ above) = keys_above st above ++ option_to_list (option_map (key_of st) (sample_of_line o.item))
+-- a sample as its key and its value
+abbrev pub keyed : Setting → Sample → SampleKey × Number
+keyed st s = (key_of st s, s.value)
+
+-- the samples in the order of their lines, each as its key and its value
+unfoldable pub seen_above : Setting → List Owned → List (SampleKey × Number)
+seen_above st [] = []
+seen_above st (o ∷ above) = seen_above st above ++ option_to_list (option_map (keyed st) (sample_of_line o.item))
 
 -- ---- what a checker stands for
 
@@ -98,7 +103,7 @@ pub record Stands (st : Setting) (c : Checking) (earlier : List Item) : Type 0 w
   pub left : c.left ≡ map (λ family. (family, so_far st (owned_lines st.format earlier) family)) (left_families (owned_lines st.format earlier))
   pub current : c.current ≡ current_family st (owned_lines st.format earlier)
   pub runs : c.runs ≡ nearest_runs st (owned_lines st.format earlier)
-  pub seen : c.seen ≡ keys_above st (owned_lines st.format earlier)
+  pub seen : c.seen ≡ seen_above st (owned_lines st.format earlier)
   pub samples : c.samples ≡ count_by is_sample earlier
   pub ended : c.ended ≡ list_any is_eof earlier
   pub working : c.stopped ≡ None

@@ -1,6 +1,6 @@
 pub mod LeftFamilies
 pub mod Rare
-pub mod SampleKeys
+pub mod KeyedValues
 pub mod GroupRuns
 pub mod Checking
 pub mod TakenLines

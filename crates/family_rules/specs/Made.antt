@@ -1,5 +1,5 @@
 -- The page of what a checker keeps (the bridge's own).
-use Rattle.std.specs.Prelude.{ℕ, List, [], ◌∷◌, filter_map, None, unwrap_or, drop, length, if◌then◌else◌}
+use Rattle.std.specs.Prelude.{ℕ, List, [], ◌∷◌, map, filter_map, None, unwrap_or, drop, take, if◌then◌else◌}
 use Rattle.exact_decimal.specs.declared.number.Number.{Number}
 use Rattle.label_sets.specs.declared.kind.Kind.{Kind}
 use Rattle.page_model.specs.declared.format.Format.{Format}
@@ -24,32 +24,30 @@ plain_reading kind unit key value = record {
   exemplars = [];
 }
 
--- the readings of these values, whose keys stand in front
-abbrev pub readings_at : Kind → List ℕ → List SampleKey → List Number → List Reading
-readings_at kind unit [] vs = []
-readings_at kind unit (key ∷ keys) [] = []
-readings_at kind unit (key ∷ keys) (v ∷ vs) = plain_reading kind unit key v ∷ readings_at kind unit keys vs
+-- the readings of so many samples, which stand in front
+abbrev pub readings_at : Kind → List ℕ → ℕ → List (SampleKey × Number) → List Reading
+readings_at kind unit count samples = map (λ (e : SampleKey × Number). plain_reading kind unit e.0 e.1) (take count samples)
 
--- the readings of what is known of a family; the keys of its samples stand in front
-abbrev pub readings_in : Format → List ℕ → FamilySoFar → List SampleKey → List Reading
-readings_in format name f keys =
+-- the readings of what is known of a family; its samples stand in front
+abbrev pub readings_in : Format → List ℕ → FamilySoFar → List (SampleKey × Number) → List Reading
+readings_in format name f samples =
     if is_grouped format (kind_in f) then filter_map (reading_from format (kind_in f) name (unwrap_or f.unit [])) f.groups
-    else readings_at (kind_in f) (unwrap_or f.unit []) keys f.values
+    else readings_at (kind_in f) (unwrap_or f.unit []) f.samples samples
 
--- the family of what is known of it; the keys of its samples stand in front
-abbrev pub family_at : Format → List ℕ → FamilySoFar → List SampleKey → Family
-family_at format name f keys = record {
+-- the family of what is known of it; its samples stand in front
+abbrev pub family_at : Format → List ℕ → FamilySoFar → List (SampleKey × Number) → Family
+family_at format name f samples = record {
   name = name;
   kind = kind_in f;
   help = unwrap_or f.help [];
   unit = unwrap_or f.unit [];
-  readings = readings_in format name f keys;
+  readings = readings_in format name f samples;
 }
 
--- the families of what is known of each; the keys of their samples stand one family behind the other
-unfoldable pub families_at : Format → List (List ℕ × FamilySoFar) → List SampleKey → List Family
-families_at format [] keys = []
-families_at format (e ∷ es) keys = family_at format e.0 e.1 keys ∷ families_at format es (drop (length e.1.values) keys)
+-- the families of what is known of each; their samples stand one family behind the other
+unfoldable pub families_at : Format → List (List ℕ × FamilySoFar) → List (SampleKey × Number) → List Family
+families_at format [] samples = []
+families_at format (e ∷ es) samples = family_at format e.0 e.1 samples ∷ families_at format es (drop e.1.samples samples)
 
 -- the page of what is kept
 unfoldable pub page_at : Checking → PageValue

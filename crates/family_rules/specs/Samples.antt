@@ -1,6 +1,5 @@
 -- What a sample does to what a checker keeps (the bridge's own).
 use Rattle.std.specs.Prelude.{◌≡◌, ℕ, Bool, true, false, not, ◌&&◌, ◌||◌, ◌+◌, List, [], ◌∷◌, ◌++◌, Option, Some, None, Result, Ok, Err, nat_le, sum_by, if◌then◌else◌}
-use Rattle.std.specs.List.{list_any}
 use Rattle.std.specs.Option.{option_or}
 use Rattle.exact_decimal.specs.declared.number.Number.{Number}
 use Rattle.exact_decimal.specs.Numbers.{number_of}
@@ -23,9 +22,9 @@ use Rattle.sample_groups.specs.declared.part.Part.{Part}
 use Rattle.sample_groups.specs.Groups.{shared_labels, known_group, or_empty, with_part, breaks_order}
 use Rattle.sample_groups.specs.Parts.{is_grouped, part_of}
 use Rattle.packed_keys.specs.declared.sample_key.SampleKey.{SampleKey}
-use Rattle.packed_keys.specs.Packing.{sample_key_eq}
 use Rattle.family_rules.specs.declared.family.Current.{Current}
 use Rattle.family_rules.specs.declared.family.FamilySoFar.{FamilySoFar}
+use Rattle.family_rules.specs.KeyedValues.{is_key_of}
 use Rattle.family_rules.specs.GroupRuns.{Runs, group_key, goes_back, with_group}
 use Rattle.family_rules.specs.Checking.{Checking, kind_in, key_of}
 use Rattle.family_rules.specs.Steps.{current_with, with_current, current_kind}
@@ -37,19 +36,19 @@ abbrev pub is_current_sample : Format → Option Current → List ℕ → Bool
 is_current_sample f None name = false
 is_current_sample f (Some k) name = is_sample_name f (kind_in k.family) k.name name
 
--- a family with the value of a sample more
-abbrev pub family_with_value : Number → FamilySoFar → FamilySoFar
-family_with_value value f = record f { values = f.values ++ value ∷ [] }
+-- a family with one sample more
+abbrev pub family_with_sample : FamilySoFar → FamilySoFar
+family_with_sample f = record f { samples = f.samples + 1 }
 
--- the current family has the value of a sample more
-abbrev pub with_value : Checking → Number → Checking
-with_value c value = with_current c (current_with (family_with_value value) c.current)
+-- the current family has one sample more
+abbrev pub with_counted : Checking → Checking
+with_counted c = with_current c (current_with family_with_sample c.current)
 
 -- one sample more, of the current family
 unfoldable pub with_sample : Checking → SampleKey → Number → Checking
 with_sample c key value = record c {
-  current = current_with (family_with_value value) c.current;
-  seen = c.seen ++ key ∷ [];
+  current = current_with family_with_sample c.current;
+  seen = c.seen ++ (key, value) ∷ [];
   samples = c.samples + 1;
 }
 
@@ -73,7 +72,7 @@ order_stop kind labels part current = if fits_order kind labels part current the
 -- Duplicate, then what else is broken, then TooMany
 unfoldable pub sample_stop : Checking → SampleKey → Option Rule → Option Rule
 sample_stop c key broken =
-    if list_any (sample_key_eq key) c.seen then Some rules.Duplicate
+    if is_key_of key c.seen then Some rules.Duplicate
     else option_or broken (if nat_le c.setting.limit c.samples then Some rules.TooMany else None)
 
 -- ---- what a sample is to its group

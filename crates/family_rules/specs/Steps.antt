@@ -24,7 +24,7 @@ use Rattle.family_rules.specs.declared.family.Descriptor.{Descriptor}
 use Rattle.family_rules.specs.declared.family.Descriptor.TheVariants as sorts
 use Rattle.family_rules.specs.declared.family.FamilySoFar.{FamilySoFar}
 use Rattle.family_rules.specs.GroupRuns.{no_runs, runs_of}
-use Rattle.family_rules.specs.Checking.{Checking, no_lines, has_samples, kind_in, so_far, left_before, keys_above, Stands}
+use Rattle.family_rules.specs.Checking.{Checking, no_lines, has_samples, kind_in, so_far, left_before, seen_above, Stands}
 
 -- ---- reading
 
@@ -134,7 +134,7 @@ pub record IsReady (st : Setting) (c : Checking) (earlier : List Item) (family :
   pub left : c.left ≡ map (λ name. (name, so_far st (owned_lines st.format earlier) name)) (left_before family (owned_lines st.format earlier))
   pub current : c.current ≡ Some (record { name = family; family = so_far st (owned_lines st.format earlier) family })
   pub runs : c.runs ≡ runs_of st (owned_lines st.format earlier) family
-  pub seen : c.seen ≡ keys_above st (owned_lines st.format earlier)
+  pub seen : c.seen ≡ seen_above st (owned_lines st.format earlier)
   pub samples : c.samples ≡ count_by is_sample earlier
   pub ended : c.ended ≡ list_any is_eof earlier
   pub working : c.stopped ≡ None

@@ -12,7 +12,7 @@ mod places;
 mod samples;
 
 use crate::family::{Current, Descriptor};
-use crate::keys::SampleKeys;
+use crate::keyed_values::KeyedValues;
 use crate::left::LeftFamilies;
 use crate::pages::families_in;
 use crate::runs::GroupRuns;
@@ -34,7 +34,7 @@ pub(crate) struct ItemChecker {
     current: Option<Current>,
     /// The groups of the current family, where the format has rule 12.
     runs: GroupRuns,
-    seen: SampleKeys,
+    seen: KeyedValues,
     samples: u32,
     /// A line `# EOF` was taken.
     ended: bool,
@@ -73,8 +73,8 @@ impl ItemChecker {
     ) -> Result<ItemChecker, Memory>
         ensures { IfOk result (λ c. Stands (record { format = format; treatment = treatment; limit = limit }) c []) }
     {
-        let keys = SampleKeys::new(alloc, true);
-        Ok(ItemChecker::over(alloc, format, treatment, limit, keys))
+        let seen = KeyedValues::new(alloc, true);
+        Ok(ItemChecker::over(alloc, format, treatment, limit, seen))
     }
 
     /// The same, for a page that will be counted: it takes less memory, and `close` more time.
@@ -86,8 +86,8 @@ impl ItemChecker {
     ) -> Result<ItemChecker, Memory>
         ensures { IfOk result (λ c. Stands (record { format = format; treatment = treatment; limit = limit }) c []) }
     {
-        let keys = SampleKeys::new(alloc, false);
-        Ok(ItemChecker::over(alloc, format, treatment, limit, keys))
+        let seen = KeyedValues::new(alloc, false);
+        Ok(ItemChecker::over(alloc, format, treatment, limit, seen))
     }
 
     /// A checker that has taken no line and seen no key.
@@ -96,7 +96,7 @@ impl ItemChecker {
         format: Format,
         treatment: Treatment,
         limit: u32,
-        seen: SampleKeys,
+        seen: KeyedValues,
     ) -> ItemChecker
         requires { seen ≡ [] }
         ensures { Stands (record { format = format; treatment = treatment; limit = limit }) result [] }

@@ -1,14 +1,13 @@
 //! What is known of a family from its lines so far.
-ghost use Rattle.std.specs.Prelude.{◌≡◌, ◌||◌, ◌++◌, [], ◌∷◌, None, Some, OnOk, is_some};
+ghost use Rattle.std.specs.Prelude.{◌≡◌, ◌||◌, None, Some, OnOk, is_some};
 ghost use Rattle.family_rules.specs.Checking.{no_lines, has_samples, kind_in};
 ghost use Rattle.family_rules.specs.Steps.{has, family_with, has_incomplete};
+ghost use Rattle.family_rules.specs.Samples.{family_with_sample};
 
-use crate::numbers::Numbers;
 use crate::rare_text::RareText;
-use exact_decimal::Number;
 use label_sets::{Kind, Memory, Name, Text};
 use sample_groups::Groups;
-use std::alloc::Global;
+use std::alloc::{AllocError, Global};
 
 /// What a line says that describes a family.
 #[derive(Drop)]
@@ -22,11 +21,11 @@ pub enum Descriptor {
 #[derive(Drop)]
 pub struct FamilySoFar {
     pub help: Option<Text>,
-    /// The values of its samples in their order.
-    pub values: Numbers,
     /// The groups of its samples, where its kind has groups.
     pub groups: Groups,
     pub unit: RareText,
+    /// How many samples it has. Their values stand in one list over the page.
+    pub samples: u32,
     pub kind: Option<Kind>,
 }
 
@@ -38,7 +37,7 @@ pub struct Current {
 }
 
 // Most families of a page have one sample, and a page may describe families alone.
-const _: () = prove!(std::mem::size_of::<FamilySoFar>() <= 104);
+const _: () = prove!(std::mem::size_of::<FamilySoFar>() <= 80);
 
 impl FamilySoFar {
     /// A family without lines. It takes no memory.
@@ -47,9 +46,9 @@ impl FamilySoFar {
     {
         FamilySoFar {
             help: None,
-            values: Numbers::new(alloc),
             groups: Groups::new(alloc),
             unit: RareText::none(),
+            samples: 0,
             kind: None,
         }
     }
@@ -69,11 +68,17 @@ impl FamilySoFar {
         matches!(self.kind(), Kind::Histogram | Kind::GaugeHistogram) && !self.groups.are_whole()
     }
 
-    /// Adds the value of a sample.
-    pub fn push_value(&mut self, alloc: Global, value: Number) -> Result<(), Memory>
-        ensures { OnOk result (self.new ≡ record self.old { values = self.old.values ++ value ∷ [] }) }
+    /// Counts a sample more. A page has few enough samples that memory is never the answer in fact.
+    pub fn count_sample(&mut self) -> Result<(), Memory>
+        ensures { OnOk result (self.new ≡ family_with_sample self.old) }
     {
-        self.values.push(alloc, value)
+        match self.samples.checked_add(1) {
+            Some(samples) => {
+                self.samples = samples;
+                Ok(())
+            }
+            None => Err(AllocError),
+        }
     }
 
     /// Keeps what a line says of it.
@@ -97,6 +102,6 @@ impl FamilySoFar {
             Descriptor::Type(_) => self.kind.is_some(),
             Descriptor::Unit(_) => self.unit.is_some(),
         };
-        described || !self.values.is_empty()
+        described || self.samples > 0
     }
 }

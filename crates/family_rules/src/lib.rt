@@ -5,9 +5,8 @@
 mod checker;
 mod exemplars;
 mod family;
-mod keys;
+mod keyed_values;
 mod left;
-mod numbers;
 mod page_checker;
 mod pages;
 mod rare_text;

@@ -1,11 +1,10 @@
 //! The families and readings of a page, from what was kept of its lines (OpenMetrics 1.0, "Data Model").
-ghost use Rattle.std.specs.Prelude.{◌≡◌, [], drop, length, unwrap_or, IfOk, OnOk};
+ghost use Rattle.std.specs.Prelude.{◌≡◌, [], drop, unwrap_or, IfOk, OnOk};
 ghost use Rattle.family_rules.specs.Made.{plain_reading, readings_at, family_at, families_at};
 
 use crate::family::FamilySoFar;
-use crate::keys::KeyEntries;
+use crate::keyed_values::KeyedEntries;
 use crate::left::LeftFamilies;
-use crate::numbers::Numbers;
 use exact_decimal::Number;
 use label_sets::{Kind, List, Memory, Name, SeriesKey, Text};
 use packed_keys::SampleKey;
@@ -42,21 +41,21 @@ fn reading(alloc: Global, kind: Kind, unit: Text, key: SampleKey, value: Number)
     }
 }
 
-/// The readings of these values, whose keys come next.
+/// The readings of so many samples, which come next.
 fn readings(
     alloc: Global,
     kind: Kind,
     unit: &Text,
-    values: Numbers,
-    keys: &mut KeyEntries,
+    count: u32,
+    samples: &mut KeyedEntries,
 ) -> Result<Vec<Reading>, Memory>
-    ensures readings { IfOk result (λ readings. readings.items ≡ readings_at kind unit.now keys.old values) }
-    ensures rest { OnOk result (keys.new ≡ drop (length values) keys.old) }
+    ensures readings { IfOk result (λ readings. readings.items ≡ readings_at kind unit.now count samples.old) }
+    ensures rest { OnOk result (samples.new ≡ drop count samples.old) }
 {
-    let mut readings = Vec::with_capacity(alloc, values.len())?;
-    for value in values.into_vec() {
-        let next = keys.next(alloc)?;
-        let Some(key) = next else {
+    let mut readings = Vec::with_capacity(alloc, count as usize)?;
+    for _ in 0..count {
+        let next = samples.next(alloc)?;
+        let Some((key, value)) = next else {
             break;
         };
         let unit = unit.copy()?;
@@ -65,22 +64,22 @@ fn readings(
     Ok(readings)
 }
 
-/// The family of what is known of it; the keys of its samples come next.
+/// The family of what is known of it; its samples come next.
 fn family(
     alloc: Global,
     format: Format,
     name: Name,
     known: FamilySoFar,
-    keys: &mut KeyEntries,
+    samples: &mut KeyedEntries,
 ) -> Result<Family, Memory>
-    ensures family { IfOk result (λ family. family ≡ family_at format name known keys.old) }
-    ensures rest { OnOk result (keys.new ≡ drop (length known.values) keys.old) }
+    ensures family { IfOk result (λ family. family ≡ family_at format name known samples.old) }
+    ensures rest { OnOk result (samples.new ≡ drop known.samples samples.old) }
 {
     let kind = known.kind();
     let help = text_or_empty(known.help);
     let unit = text_or_empty(known.unit.into_text());
     if is_grouped(format, kind) {
-        keys.pass_over(known.values.len());
+        samples.pass_over(known.samples);
         let readings = known
             .groups
             .into_readings(alloc, format, kind, &name, &unit)?;
@@ -92,7 +91,7 @@ fn family(
             readings,
         });
     }
-    let readings = List::from_vec(readings(alloc, kind, &unit, known.values, keys)?)?;
+    let readings = List::from_vec(readings(alloc, kind, &unit, known.samples, samples)?)?;
     Ok(Family {
         name,
         kind,
@@ -102,24 +101,23 @@ fn family(
     })
 }
 
-/// The families of what is known of each, in their order; the keys of their samples stand one family
-/// behind the other.
+/// The families of what is known of each, in their order; their samples stand one family behind the other.
 pub fn families_in(
     alloc: Global,
     format: Format,
     known: LeftFamilies,
-    keys: KeyEntries,
+    samples: KeyedEntries,
 ) -> Result<List<Family>, Memory>
-    ensures { IfOk result (λ families. families ≡ families_at format known keys) }
+    ensures { IfOk result (λ families. families ≡ families_at format known samples) }
 {
     let mut families = Vec::with_capacity(alloc, known.len())?;
     let mut entries = known.into_entries();
-    let mut keys = keys;
+    let mut samples = samples;
     loop {
         let next = entries.next(alloc)?;
         let Some((name, so_far)) = next else {
             return List::from_vec(families);
         };
-        families.push(family(alloc, format, name, so_far, &mut keys)?)?;
+        families.push(family(alloc, format, name, so_far, &mut samples)?)?;
     }
 }

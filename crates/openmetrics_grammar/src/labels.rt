@@ -34,6 +34,7 @@ fn label_at(bytes: &[u8]) -> Option<LabelParts<'_>>
 }
 
 /// Adds the label at the front, and answers what stands behind it.
+#[inline(always)]
 fn take_label<'a>(
     alloc: Global,
     bytes: &'a [u8],

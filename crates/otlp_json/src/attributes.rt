@@ -35,6 +35,7 @@ impl Json for Label {
     ghost text = { label_text };
 
     #[tactic(auto, unfolding(crate::specs::Texts::label_text, crate::specs::Texts::attribute_value_text, crate::specs::Json::json_string))]
+    #[inline(always)]
     fn emit<E: Emitter>(&self, out: &mut E) {
         // Labels are most of a request, so what stands between their texts is put at once.
         out.put(b"{\"key\":\"");

@@ -37,6 +37,7 @@ fn ends_have_escapes(text: &[u8], front: usize, end: usize) -> bool
 ///
 /// Most texts are short. A piece of a fixed size is tested at once, and two of them that overlap leave
 /// no byte to be tested alone.
+#[inline(always)]
 fn has_escapes(text: &[u8]) -> bool
     ensures { result ≡ list_any is_escaped text.now }
 {
@@ -79,6 +80,7 @@ fn emit_byte<E: Emitter>(out: &mut E, b: u8)
 }
 
 /// Emits a string's content that has escapes.
+#[cold]
 fn emit_escaped<E: Emitter>(out: &mut E, text: &[u8])
     ensures { out.new ≡ fold E.push out.old (flat_map json_byte text.now) }
 {
@@ -88,6 +90,7 @@ fn emit_escaped<E: Emitter>(out: &mut E, text: &[u8])
 }
 
 /// Emits a string's content.
+#[inline(always)]
 pub(crate) fn emit_content<E: Emitter>(out: &mut E, text: &[u8])
     ensures { out.new ≡ fold E.push out.old (flat_map json_byte text.now) }
 {

@@ -45,6 +45,7 @@ fn put_text(out: &mut Vec<u8>, text: &str) -> Result<(), Memory>
 }
 
 /// Adds a label: its name, then its value.
+#[inline(always)]
 fn put_label(out: &mut Vec<u8>, label: &Label) -> Result<(), Memory>
     ensures added { OnOk result (out.new.items ≡ out.old.items ++ label_bytes label.now) }
     ensures text { OnOk result (IsTextLabel label.now) }

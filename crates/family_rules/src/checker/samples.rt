@@ -4,7 +4,7 @@ ghost use Rattle.page_model.specs.Owners.{kept_labels};
 ghost use Rattle.page_model.specs.Rules.{is_open_metrics};
 ghost use Rattle.page_model.specs.declared.item.Item.TheVariants as items;
 ghost use Rattle.family_rules.specs.Steps.{Takes, with_current, left_stop};
-ghost use Rattle.family_rules.specs.Samples.{TellsPart, is_current_sample, has_bad_exemplar, with_value, with_part_at, with_told, told_left, fits_order, part_stop, is_back, entered_by, with_sample, with_added, sample_stop, add_stop, name_stop};
+ghost use Rattle.family_rules.specs.Samples.{TellsPart, is_current_sample, has_bad_exemplar, with_counted, with_part_at, with_told, told_left, fits_order, part_stop, is_back, entered_by, with_sample, with_added, sample_stop, add_stop, name_stop};
 
 use super::ItemChecker;
 use crate::exemplars::is_bad_exemplar;
@@ -30,6 +30,7 @@ impl ItemChecker {
     }
 
     /// A label set as a page of this treatment keeps it.
+    #[inline(always)]
     fn kept_labels(&self, labels: LabelSet) -> Result<LabelSet, Memory>
         ensures { IfOk result (λ kept. kept ≡ kept_labels self.now.setting.treatment labels) }
     {
@@ -39,14 +40,14 @@ impl ItemChecker {
         }
     }
 
-    /// Adds the value of a sample to the current family.
-    fn push_value(&mut self, value: Number) -> Result<(), Memory>
-        ensures { OnOk result (self.new ≡ with_value self.old value) }
+    /// Counts a sample of the current family.
+    fn count_sample(&mut self) -> Result<(), Memory>
+        ensures { OnOk result (self.new ≡ with_counted self.old) }
     {
-        if let Some(current) = &mut self.current {
-            current.family.push_value(self.alloc, value)?;
+        match &mut self.current {
+            Some(current) => current.family.count_sample(),
+            None => Ok(()),
         }
-        Ok(())
     }
 
     /// Adds a sample of the current family, or answers the rule that it breaks: 14, then the given one, then 20.
@@ -59,7 +60,7 @@ impl ItemChecker {
         ensures broken { IfOk result (λ answer. answer ≡ sample_stop self.old key broken) }
         ensures added { IfOk result (λ answer. answer ≡ None → self.new ≡ with_sample self.old key value) }
     {
-        let added = self.seen.insert(key)?;
+        let added = self.seen.insert(key, value)?;
         if !added {
             return Ok(Some(Rule::Duplicate));
         }
@@ -70,7 +71,7 @@ impl ItemChecker {
             return Ok(Some(Rule::TooMany));
         }
         self.samples += 1;
-        self.push_value(value)?;
+        self.count_sample()?;
         Ok(None)
     }
 
@@ -106,6 +107,7 @@ impl ItemChecker {
     }
 
     /// Adds a sample of the current family to its group, and answers whether it goes back to it: rule 12.
+    #[inline(always)]
     fn enter(&mut self, kind: Kind, labels: &LabelSet) -> Result<bool, Memory>
         ensures back { IfOk result (λ back. back ≡ is_back self.old kind labels.now) }
         ensures entered { IfOk result (λ back. back ≡ false → self.new ≡ entered_by self.old kind labels.now) }
@@ -167,6 +169,7 @@ impl ItemChecker {
 
     /// Adds a sample of the current family, of which this was told, or answers the rule that it breaks: 12, 14
     /// to 18 or 20.
+    #[inline(always)]
     fn add_sample(
         &mut self,
         kind: Kind,

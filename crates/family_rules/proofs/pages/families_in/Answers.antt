@@ -7,10 +7,10 @@ use Rattle.family_rules.proofs.pages.families_in.Goals as goal
 
 pub returns-in_default : goal.returns-in_default
 returns-in_default c = if_ok _ _ c.from_vec.result (λ list is. is
-    ∙ (families_end c.args.format c.loop-keys.entries c.loop-keys.keys c.loop-keys.families.items _ (none_left c.in_ok-next.next c.loop-keys.entries c.next.new.self c.in_default.is c.in_ok-next.ensures) c.loop-keys.invariant
-    ∙ ap (λ (es : List (List ℕ × FamilySoFar)). families_at c.args.format es c.args.keys) c.into_entries-entries.ensures)) c.from_vec.ensures
+    ∙ (families_end c.args.format c.loop-samples.entries c.loop-samples.samples c.loop-samples.families.items _ (none_left c.in_ok-next.next c.loop-samples.entries c.next.new.self c.in_default.is c.in_ok-next.ensures) c.loop-samples.invariant
+    ∙ ap (λ (es : List (List ℕ × FamilySoFar)). families_at c.args.format es c.args.samples) c.into_entries-entries.ensures)) c.from_vec.ensures
 
-pub loop-keys-preserved : goal.loop-keys-preserved
-loop-keys-preserved c = families_step c.args.format c.loop-keys.entries c.next.new.self c.in-Some.name c.in-Some.so_far c.loop-keys.keys c.family.new.keys c.in_ok-family.field-0 c.loop-keys.families.items c.push.new.self.items _
-    (one_left c.in_ok-next.next (c.in-Some.name, c.in-Some.so_far) c.loop-keys.entries c.next.new.self c.in-Some.is c.in_ok-next.ensures)
-    c.in_ok-family.ensures.family c.in_ok-family.ensures.rest c.in_ok-push.ensures.items c.loop-keys.invariant
+pub loop-samples-preserved : goal.loop-samples-preserved
+loop-samples-preserved c = families_step c.args.format c.loop-samples.entries c.next.new.self c.in-Some.name c.in-Some.so_far c.loop-samples.samples c.family.new.samples c.in_ok-family.field-0 c.loop-samples.families.items c.push.new.self.items _
+    (one_left c.in_ok-next.next (c.in-Some.name, c.in-Some.so_far) c.loop-samples.entries c.next.new.self c.in-Some.is c.in_ok-next.ensures)
+    c.in_ok-family.ensures.family c.in_ok-family.ensures.rest c.in_ok-push.ensures.items c.loop-samples.invariant

@@ -1,18 +1,17 @@
-use Rattle.std.proofs.Common.{◌≡◌, ◌∙◌, [], ap, arith}
-use Rattle.std.specs.Vec.Iter.{into_iter_items}
-use Rattle.family_rules.specs.Made.{readings_at}
-use Rattle.family_rules.proofs.Loops.{no_length, no_values, readings_end, none_left}
+use Rattle.std.proofs.Common.{◌≡◌, ◌∙◌, ◌+◌, ◌-◌, ◌++◌, ◌∷◌, [], ℕ, suc, ap, arith}
+use Rattle.family_rules.specs.Made.{plain_reading}
+use Rattle.family_rules.proofs.Loops.{one_left, readings_step, rest_step}
 use Rattle.family_rules.proofs.pages.readings.Goals as goal
-use Rattle.family_rules.proofs.pages.readings.Goals.{in-None, in-Some+in_ok-next+in_default}
 
-pub returns-clause-readings : goal.returns-clause-readings
-returns-clause-readings c =
-    let all = ap (readings_at c.args.kind c.args.unit.now c.args.keys.now) (c.into_iter-value-iterator.ensures.into_iter_gives.0 ∙ c.into_vec-value-items.ensures) in
-    elim c.match-next.branch [
-      | in-None w ↦
-          let none : into_iter_items c.loop-value.value-iterator ≡ [] = no_length (into_iter_items c.loop-value.value-iterator) (omega (arith, c.loop-value.value-iterator.rest.ok, w.in-None.ensures.steps.0)) in
-          readings_end c.loop-value.readings.items _ _ (ap (readings_at c.args.kind c.args.unit.now c.loop-value.keys) none ∙ no_values c.args.kind c.args.unit.now c.loop-value.keys) c.loop-value.invariant.readings ∙ all
-      | in-Some+in_ok-next+in_default w ↦
-          readings_end c.loop-value.readings.items _ _ (ap (λ keys. readings_at c.args.kind c.args.unit.now keys (into_iter_items c.loop-value.value-iterator)) (none_left w.in_ok-next.next c.loop-value.keys w.next-in-loop-value.new.self w.in_default.is w.in_ok-next.ensures))
-          c.loop-value.invariant.readings ∙ all
-    ]
+pub loop-preserved : goal.loop-preserved
+loop-preserved c =
+    let left : ℕ = c.args.count - (c.loop.counter + 1) in
+    let one_less : c.args.count - c.loop.counter ≡ suc left = omega (arith, c.loop-test.true) in
+    let sample = one_left c.in_ok-next.next (c.in-Some.key, c.in-Some.value) c.loop.samples c.next.new.self c.in-Some.is c.in_ok-next.ensures in
+    record {
+      readings = readings_step c.args.kind c.args.unit.now (c.args.count - c.loop.counter) left c.loop.samples c.next.new.self c.in-Some.key c.in-Some.value c.loop.readings.items c.push_reserved.new.self.items _
+          one_less sample (c.push_reserved.ensures.items ∙ ap (λ r. c.loop.readings.items ++ r ∷ []) (c.reading.ensures ∙ ap (λ u. plain_reading c.args.kind u c.in-Some.key c.in-Some.value) c.in_ok-unit.ensures))
+          c.loop.invariant.readings;
+      room = omega (arith, c.push_reserved.ensures.len, c.push_reserved.ensures.capacity, c.loop.invariant.room, c.loop-test.true);
+      rest = rest_step (c.args.count - c.loop.counter) left c.loop.samples c.next.new.self _ (c.in-Some.key, c.in-Some.value) one_less sample c.loop.invariant.rest;
+    }

@@ -1,36 +1,35 @@
 use Rattle.std.proofs.Common.{◌∙◌, ◌+◌, ◌≤◌, ◌<◌, ◌++◌, ◌∷◌, [], ap, sym, subst}
-use Rattle.std.specs.List.{list_any}
 use Rattle.family_rules.specs.Checking.{Checking}
-use Rattle.packed_keys.specs.Packing.{sample_key_eq}
-use Rattle.family_rules.proofs.Taking.{stop_duplicate, stop_broken, stop_many, stop_none, negated, negated_true, put_new_key, sample_added}
+use Rattle.family_rules.specs.KeyedValues.{is_key_of}
+use Rattle.family_rules.proofs.Taking.{stop_duplicate, stop_broken, stop_many, stop_none, negated, negated_true, put_new, sample_added}
 use Rattle.family_rules.proofs.checker.ItemChecker.add_key.Goals as goal
 
 pub returns-then-not-added-clause-broken : goal.returns-then-not-added-clause-broken
 returns-then-not-added-clause-broken c = stop_duplicate c.args.self.now c.args.key c.args.broken
-    (ap (λ (v : Checking). list_any (sample_key_eq c.args.key) v.seen) (sym c.self.view_is) ∙ negated c.in_ok-added.added _ c.in_ok-added.ensures.added c.if-not-added.true)
+    (ap (λ (v : Checking). is_key_of c.args.key v.seen) (sym c.self.view_is) ∙ negated c.in_ok-added.added _ c.in_ok-added.ensures.added c.if-not-added.true)
 
 pub returns-then-is_some-clause-broken : goal.returns-then-is_some-clause-broken
 returns-then-is_some-clause-broken c = stop_broken c.args.self.now c.args.key c.args.broken
-    (ap (λ (v : Checking). list_any (sample_key_eq c.args.key) v.seen) (sym c.self.view_is) ∙ negated_true c.in_ok-added.added _ c.in_ok-added.ensures.added c.if-not-added.false)
+    (ap (λ (v : Checking). is_key_of c.args.key v.seen) (sym c.self.view_is) ∙ negated_true c.in_ok-added.added _ c.in_ok-added.ensures.added c.if-not-added.false)
     (sym c.is_some.ensures ∙ c.if-is_some.true)
 
 pub returns-then-self-clause-broken : goal.returns-then-self-clause-broken
 returns-then-self-clause-broken c = stop_many c.args.self.now c.args.key c.args.broken
-    (ap (λ (v : Checking). list_any (sample_key_eq c.args.key) v.seen) (sym c.self.view_is) ∙ negated_true c.in_ok-added.added _ c.in_ok-added.ensures.added c.if-not-added.false)
+    (ap (λ (v : Checking). is_key_of c.args.key v.seen) (sym c.self.view_is) ∙ negated_true c.in_ok-added.added _ c.in_ok-added.ensures.added c.if-not-added.false)
     (sym c.is_some.ensures ∙ c.if-is_some.false)
     (subst (λ (v : Checking). v.setting.limit ≤ v.samples) c.self.view_is c.if-self.true)
 
 pub returns-clause-broken : goal.returns-clause-broken
 returns-clause-broken c = stop_none c.args.self.now c.args.key c.args.broken
-    (ap (λ (v : Checking). list_any (sample_key_eq c.args.key) v.seen) (sym c.self.view_is) ∙ negated_true c.in_ok-added.added _ c.in_ok-added.ensures.added c.if-not-added.false)
+    (ap (λ (v : Checking). is_key_of c.args.key v.seen) (sym c.self.view_is) ∙ negated_true c.in_ok-added.added _ c.in_ok-added.ensures.added c.if-not-added.false)
     (sym c.is_some.ensures ∙ c.if-is_some.false)
     (subst (λ (v : Checking). v.samples < v.setting.limit) c.self.view_is c.if-self.false)
 
 pub returns-clause-added : goal.returns-clause-added
 returns-clause-added c = λ none.
-    let seen = c.in_ok-added.ensures.keys ∙ put_new_key c.self.inside.seen c.args.key c.in_ok-added.added c.if-not-added.false
-    ∙ ap (λ (v : Checking). v.seen ++ c.args.key ∷ []) c.self.view_is in
-    sample_added c.args.self.now _ c.push_value.new.self c.args.key c.args.value c.insert.new.self (λ i. record {
+    let seen = c.in_ok-added.ensures.samples ∙ put_new c.self.inside.seen (c.args.key, c.args.value) c.in_ok-added.added c.if-not-added.false
+    ∙ ap (λ (v : Checking). v.seen ++ (c.args.key, c.args.value) ∷ []) c.self.view_is in
+    sample_added c.args.self.now _ c.count_sample.new.self c.args.key c.args.value c.insert.new.self (λ i. record {
       setting = (c.self.view_is i).setting;
       left = (c.self.view_is i).left;
       current = (c.self.view_is i).current;
@@ -39,4 +38,4 @@ returns-clause-added c = λ none.
       samples = (c.self.view_is i).samples + 1;
       ended = (c.self.view_is i).ended;
       stopped = (c.self.view_is i).stopped;
-    }) seen c.in_ok-push_value.ensures
+    }) seen c.in_ok-count_sample.ensures

@@ -1,0 +1,183 @@
+//! The values of a page's samples in one list, each by its key. Keys are packed, so that one that comes twice is
+//! found, and kept as they are where a page will be made of them, since reading them back takes longer.
+ghost use Rattle.std.specs.Prelude.{◌≡◌, ◌++◌, [], ◌∷◌, drop, not, IfOk, OnOk, List, if◌then◌else◌};
+ghost use Rattle.std.specs.Vec.Iter.{into_iter_items};
+ghost use Rattle.packed_keys.specs.declared.sample_key.SampleKey.{SampleKey as AnyKey};
+ghost use Rattle.family_rules.specs.KeyedValues.{is_key_of, keys_to_come, AreKept, HasRoomForKey, IsNext};
+
+use exact_decimal::Number;
+use label_sets::Memory;
+use packed_keys::{Keys, SampleKey, SeenKeys};
+use std::alloc::Global;
+use std::marker::Model;
+use std::vec::IntoIter;
+
+/// The samples so far, each as its key and its value, in the order of their lines; no key comes twice.
+#[derive(Drop)]
+pub struct KeyedValues {
+    seen: SeenKeys,
+    /// The same keys, where a page will be made.
+    kept: Option<Vec<SampleKey>>,
+    values: Vec<Number>,
+}
+
+impl Model for KeyedValues {
+    ghost use Rattle.std.specs.Prelude as spec;
+    ghost use Rattle.std.specs.List.{zip};
+    ghost use Rattle.packed_keys.specs.declared.sample_key.SampleKey.{SampleKey as Key};
+    ghost use Rattle.exact_decimal.specs.declared.number.Number.{Number as OneNumber};
+    ghost use Rattle.family_rules.specs.KeyedValues.{AreKeyed};
+
+    ghost Value = { spec.List (Key × OneNumber) };
+
+    ghost view = { λ k. zip k.seen k.values.items };
+
+    ghost invariant = { λ k. AreKeyed k.kept k.seen k.values.items };
+}
+
+/// Makes room for one key more, where keys are kept.
+fn make_room(kept: &mut Option<Vec<SampleKey>>) -> Result<(), Memory>
+    ensures same { (keys : List AnyKey) → AreKept kept.old keys → AreKept kept.new keys }
+    ensures room { OnOk result (HasRoomForKey kept.new) }
+{
+    match kept {
+        Some(kept) => kept.reserve(1),
+        None => Ok(()),
+    }
+}
+
+/// Keeps a key behind the others, where keys are kept.
+fn keep(kept: &mut Option<Vec<SampleKey>>, key: SampleKey)
+    requires { HasRoomForKey kept.old }
+    ensures { (keys : List AnyKey) → AreKept kept.old keys → AreKept kept.new (keys ++ key ∷ []) }
+{
+    match kept {
+        Some(kept) => kept.push_reserved(key),
+        None => {}
+    }
+}
+
+impl KeyedValues {
+    /// No samples. They take no memory. `keeps` says that a page will be made.
+    pub fn new(alloc: Global, keeps: bool) -> KeyedValues
+        ensures { result ≡ [] }
+    {
+        KeyedValues {
+            seen: SeenKeys::new(alloc),
+            kept: keeps.then_some(Vec::new(alloc)),
+            values: Vec::new(alloc),
+        }
+    }
+
+    /// Adds a sample, and answers whether its key is new.
+    pub fn insert(&mut self, key: SampleKey, value: Number) -> Result<bool, Memory>
+        ensures added { IfOk result (λ added. added ≡ not (is_key_of key self.old)) }
+        ensures samples { IfOk result (λ added. self.new ≡ (if added then self.old ++ (key, value) ∷ [] else self.old)) }
+    {
+        make_room(&mut self.kept)?;
+        self.values.reserve(1)?;
+        let added = self.seen.insert(&key)?;
+        if added {
+            keep(&mut self.kept, key);
+            self.values.push_reserved(value);
+        }
+        Ok(added)
+    }
+
+    /// The samples one after the other.
+    pub fn into_entries(self) -> KeyedEntries
+        ensures { result ≡ self }
+    {
+        let KeyedValues { seen, kept, values } = self;
+        let keys = match kept {
+            Some(kept) => KeySource::Kept(kept.into_iter()),
+            None => KeySource::Packed(seen.into_keys()),
+        };
+        KeyedEntries {
+            keys,
+            values: values.into_iter(),
+        }
+    }
+}
+
+/// Where keys come from.
+#[derive(Drop)]
+enum KeySource {
+    Kept(IntoIter<SampleKey>),
+    Packed(Keys),
+}
+
+/// Passes over so many items.
+fn pass_over<T: Drop>(items: &mut IntoIter<T>, count: u32)
+    ensures { into_iter_items items.new ≡ drop count (into_iter_items items.old) }
+{
+    for _ in 0..count {
+        let _item = items.next();
+    }
+}
+
+/// Samples that are still to come, each as its key and its value.
+#[derive(Drop)]
+pub struct KeyedEntries {
+    keys: KeySource,
+    values: IntoIter<Number>,
+}
+
+impl Model for KeyedEntries {
+    ghost use Rattle.std.specs.Prelude as spec;
+    ghost use Rattle.std.specs.List.{zip};
+    ghost use Rattle.std.specs.Vec.Iter.{into_iter_items};
+    ghost use Rattle.packed_keys.specs.declared.sample_key.SampleKey.{SampleKey as Key};
+    ghost use Rattle.exact_decimal.specs.declared.number.Number.{Number as OneNumber};
+    ghost use Rattle.family_rules.specs.KeyedValues.{keys_to_come};
+
+    ghost Value = { spec.List (Key × OneNumber) };
+
+    ghost view = { λ e. zip (keys_to_come e.keys) (into_iter_items e.values) };
+}
+
+/// The next key, where there is one.
+#[inline(always)]
+fn next_key(keys: &mut KeySource, alloc: Global) -> Result<Option<SampleKey>, Memory>
+    ensures { IfOk result (λ next. IsNext next (keys_to_come keys.old) (keys_to_come keys.new)) }
+{
+    match keys {
+        KeySource::Kept(keys) => Ok(keys.next()),
+        KeySource::Packed(keys) => keys.next(alloc),
+    }
+}
+
+/// Passes over so many keys.
+fn pass_over_keys(keys: &mut KeySource, count: u32)
+    ensures { keys_to_come keys.new ≡ drop count (keys_to_come keys.old) }
+{
+    match keys {
+        KeySource::Kept(keys) => pass_over(keys, count),
+        KeySource::Packed(keys) => keys.pass_over(count as usize),
+    }
+}
+
+impl KeyedEntries {
+    /// The next sample, where there is one.
+    #[inline(always)]
+    pub fn next(&mut self, alloc: Global) -> Result<Option<(SampleKey, Number)>, Memory>
+        ensures { IfOk result (λ next. IsNext next self.old self.new) }
+    {
+        let Some(value) = self.values.next() else {
+            return Ok(None);
+        };
+        let next = next_key(&mut self.keys, alloc)?;
+        match next {
+            Some(key) => Ok(Some((key, value))),
+            None => Ok(None),
+        }
+    }
+
+    /// Passes over so many samples.
+    pub fn pass_over(&mut self, count: u32)
+        ensures { self.new ≡ drop count self.old }
+    {
+        pass_over_keys(&mut self.keys, count);
+        pass_over(&mut self.values, count);
+    }
+}
