@@ -3,4 +3,9 @@ pub mod Edges
 pub mod InMemory
 pub mod Targets
 pub mod Talks
+pub mod Keeping
 pub mod Plans
+pub mod Doors
+pub mod Worlds
+pub mod MemoryWorlds
+pub mod WorldMaking

@@ -1,6 +1,6 @@
 -- Wires in memory: what their type keeps of the talks that they made.
 -- The bridge's own.
-use Rattle.std.specs.Prelude.{◌≡◌, ◌≢◌, ℕ, ◌+◌, ◌-◌, ◌<◌, ◌≤◌, ◌⊎◌, ◌↔◌, Bool, List, [], ◌∷◌, ◌++◌, length, take, drop, slice_get, Contains, Option, Some, None, ⊤}
+use Rattle.std.specs.Prelude.{◌≡◌, ◌≢◌, ℕ, ◌+◌, ◌-◌, ◌^◌, ◌≤◌, ◌⊎◌, min, List, [], ◌∷◌, ◌++◌, length, take, drop, slice_get, Contains, Option, Some, None, ⊤}
 use Rattle.bridge_ports.specs.declared.talk.End.{End}
 use Rattle.bridge_ports.specs.declared.talk.End.TheVariants.{ConnectFailed, WriteFailed, ReadFailed, Ended, Left}
 use Rattle.bridge_ports.specs.declared.talk.Talk.{Talk}
@@ -9,7 +9,9 @@ use Rattle.bridge_ports.specs.declared.talk.MemoryReply.{MemoryReply}
 use Rattle.bridge_ports.specs.declared.talk.Stage.{Stage}
 use Rattle.bridge_ports.specs.declared.talk.Stage.TheVariants as stages
 use Rattle.bridge_ports.specs.declared.kept.Kept.{Kept}
-use Rattle.bridge_ports.specs.Talks.{Plan, reply_of, Spoken, nothing_said, Told, WireState}
+use Rattle.bridge_ports.specs.InMemory.{one_more}
+use Rattle.bridge_ports.specs.Keeping.{KeptState}
+use Rattle.bridge_ports.specs.Talks.{Plan, reply_of, Spoken, nothing_said, talk_of, WireState}
 
 -- a wire in memory: its place and plan, its counts of faults, of calls and of calls of `ready`, the call of `ready` that answers want of memory, what it allows, how far it is, and its talks, the last first
 pub record MemoryState : Type 0 where
@@ -106,11 +108,39 @@ GoesOn stages.Idle reply now = ⊤
 GoesOn stages.Begun reply now = (now.at ≡ reply.at) × (now.sent ≡ []) × (now.got ≡ [])
 GoesOn stages.Connected reply now = Follows reply now.at now.sent now.got × (reply.end ≢ ConnectFailed)
 
+-- the talks that were made and the one under way are those that the plan gives
+pub record FollowsPlan (plan : Plan) (talks : List Talk) (stage : Stage) (now : Spoken) : Type 0 where
+  pub some_bytes : 1 ≤ plan.most
+  pub past : AreTalksOf plan talks
+  pub present : GoesOn stage (reply_of plan (length talks)) now
+
 -- what the type of a wire in memory keeps
-pub record IsOfPlan (m : MemoryState) : Type 0 where
-  pub some_bytes : 1 ≤ m.plan.most
-  pub past : AreTalksOf m.plan m.talks
-  pub present : GoesOn m.stage (reply_now m) m.now
+abbrev pub IsOfPlan : MemoryState → Type 0
+IsOfPlan m = FollowsPlan m.plan m.talks m.stage m.now
+
+-- the talk under way may end in this way: the call that ends it was made at its place and fails, or the peer has no byte more, or it is left
+abbrev pub MayEnd : End → MemoryState → Type 0
+MayEnd ConnectFailed m = (m.stage ≡ stages.Begun) × Fails ConnectFailed m m.calls
+MayEnd WriteFailed m = (m.stage ≡ stages.Connected) × Fails WriteFailed m m.calls
+MayEnd ReadFailed m = (m.stage ≡ stages.Connected) × Fails ReadFailed m m.calls
+MayEnd Ended m = (m.stage ≡ stages.Connected) × ((reply_now m).end ≢ ReadFailed) × (unread_bytes m ≡ [])
+MayEnd Left m = m.stage ≢ stages.Idle
+
+-- the wire once the talk under way ended in this way
+abbrev pub talk_ended : End → MemoryState → MemoryState
+talk_ended end m = record m { talks = talk_of end m.now ∷ m.talks; stage = stages.Idle; now = nothing_said }
+
+-- the wire once a call failed, which ends the talk in this way
+abbrev pub call_failed : End → MemoryState → MemoryState
+call_failed end m = record (talk_ended end m) { faults = one_more m.faults }
+
+-- one more call was counted
+abbrev pub call_counted : MemoryState → MemoryState
+call_counted m = record m { calls = one_more m.calls }
+
+-- the number of the next call of `ready`, which stands still at the last value of a u32
+abbrev pub next_ready : ℕ → ℕ
+next_ready calls = min (calls + 1) (2 ^ 32 - 1)
 
 -- the finished talk of this number, counted from 1
 abbrev pub talk_at : List Talk → ℕ → Option Talk
@@ -120,7 +150,7 @@ talk_at talks number = slice_get talks (length talks - number)
 
 -- the talk that so many talks went before, as it is kept: its reply is not copied
 abbrev pub kept_talk : Plan → ℕ → Kept → Talk
-kept_talk plan earlier k = record { at = (reply_of plan earlier).at; sent = k.sent.items; got = take k.read (reply_of plan earlier).got; end = k.end }
+kept_talk plan earlier k = record { at = (reply_of plan earlier).at; sent = k.sent; got = take k.read (reply_of plan earlier).got; end = k.end }
 
 -- behind these talks, those that are kept in their order
 abbrev pub kept_talks : Plan → List Talk → List Kept → List Talk
@@ -136,18 +166,28 @@ abbrev pub kept_now : Plan → ℕ → ℕ → List ℕ → ℕ → Spoken
 kept_now plan earlier at sent read = record { at = at; sent = sent; got = take read (reply_of plan earlier).got }
 
 -- what is seen of the fields of a wire in memory
-abbrev pub memory_state : Place → Plan → ℕ → ℕ → ℕ → Option ℕ → ℕ → ℕ → Stage → ℕ → List Kept → ℕ → List ℕ → ℕ → MemoryState
-memory_state place plan faults calls readies lean allowed room stage left kept at sent read = record {
+abbrev pub memory_state : Place → Plan → ℕ → ℕ → ℕ → Option ℕ → KeptState → MemoryState
+memory_state place plan faults calls readies lean t = record {
   place = place;
   plan = plan;
   faults = faults;
   calls = calls;
   readies = readies;
   lean = lean;
-  allowed = allowed;
-  room = room;
-  stage = stage;
-  left = left;
-  talks = kept_talks plan [] kept;
-  now = kept_now plan (length (kept_talks plan [] kept)) at sent read;
+  allowed = t.allowed;
+  room = t.room;
+  stage = t.stage;
+  left = t.left;
+  talks = kept_talks plan [] t.kept;
+  now = kept_now plan (length t.kept) t.at t.sent t.read;
 }
+
+-- the kept talks follow the plan, and no more was read than the reply under way has
+pub record KeepsPlan (plan : Plan) (t : KeptState) : Type 0 where
+  pub follows : FollowsPlan plan (kept_talks plan [] t.kept) t.stage (kept_now plan (length t.kept) t.at t.sent t.read)
+  pub within : t.read ≤ length (reply_of plan (length t.kept)).got
+
+-- how often `ready` was called, and which of its calls answers want of memory, stay
+pub record KeepsReadies (old new : MemoryState) : Type 0 where
+  pub readies : new.readies ≡ old.readies
+  pub lean : new.lean ≡ old.lean

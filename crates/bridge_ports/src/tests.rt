@@ -1,7 +1,10 @@
 //! What no clause says: that calls succeed, and how the adapters take a reader and a writer that
 //! fail in mid-stream.
 use crate::std_edge::{StdSink, StdSource};
-use crate::{Failed, MemorySink, MemorySource, Sink, Source, SureSource};
+use crate::{
+    Door, End, Failed, MemoryConn, MemoryDoor, MemoryReply, MemorySink, MemorySource, MemoryWire,
+    Place, Sink, Source, SureSource, Wire,
+};
 use label_sets::{Bytes, List};
 use std::alloc::{AllocError, Global};
 use std::io;
@@ -152,5 +155,112 @@ fn memory_gives_and_takes(rt: HostRuntime) -> Result<(), Fail> {
     assert_eq!(rt; sink.write(b"ef"), Err(Failed));
     assert_eq!(rt; sink.write(b""), Ok(0));
     assert_eq!(rt; sink.held(), b"abcd".as_slice());
+    Ok(())
+}
+
+/// A reply of these bytes at 7, and past it one at 9 that ends in a failed read.
+fn wire(alloc: Global, got: &[u8], failing: &[u64]) -> Result<MemoryWire, AllocError> {
+    let first = MemoryReply {
+        at: 7,
+        got: bytes(alloc, got)?,
+        end: End::Ended,
+    };
+    let after = MemoryReply {
+        at: 9,
+        got: bytes(alloc, b"ab")?,
+        end: End::ReadFailed,
+    };
+    let mut replies = Vec::new(alloc);
+    replies.push(first)?;
+    Ok(MemoryWire::new(
+        alloc,
+        Place {
+            number: 1,
+            post: false,
+        },
+        List::from_vec(replies)?,
+        Some(after),
+        2,
+        numbers(alloc, failing)?,
+    ))
+}
+
+#[test]
+fn memory_wire_answers_its_replies(rt: HostRuntime) -> Result<(), Fail> {
+    let alloc = rt.alloc();
+    let mut into = [0u8; 8];
+    let mut wire = wire(alloc, b"abc", &[])?;
+    assert_eq!(rt; wire.replies().len(), 1);
+    wire.ready(alloc, 2, 4)?;
+    assert_eq!(rt; wire.begin(100), 7);
+    assert_eq!(rt; wire.connect(), Ok(()));
+    assert_eq!(rt; wire.write(b"xyz"), Ok(3));
+    assert_eq!(rt; wire.read(&mut into), Ok(2));
+    assert_eq!(rt; wire.read(&mut into), Ok(1));
+    assert_eq!(rt; into.as_slice(), b"cb\0\0\0\0\0\0".as_slice());
+    assert_eq!(rt; wire.read(&mut into), Ok(0));
+    assert_eq!(rt; wire.finished(), 1);
+    assert_eq!(rt; wire.sent(1), b"xyz".as_slice());
+    assert_eq!(rt; wire.ended(1), End::Ended);
+
+    assert_eq!(rt; wire.begin(0), 9);
+    assert_eq!(rt; wire.connect(), Ok(()));
+    assert_eq!(rt; wire.read(&mut into), Ok(2));
+    assert_eq!(rt; wire.read(&mut into), Err(Failed));
+    assert_eq!(rt; wire.ended(2), End::ReadFailed);
+    wire.leave();
+    assert_eq!(rt; wire.finished(), 2);
+    Ok(())
+}
+
+#[test]
+fn memory_wire_fails_where_it_is_named_to(rt: HostRuntime) -> Result<(), Fail> {
+    let alloc = rt.alloc();
+    let mut into = [0u8; 8];
+    let ends = [End::ConnectFailed, End::WriteFailed, End::ReadFailed];
+    for call in 1..4u64 {
+        let mut wire = wire(alloc, b"abc", &[call])?;
+        wire.ready(alloc, 1, 4)?;
+        wire.begin(0);
+        let failed = wire.connect().is_err()
+            || wire.write(b"x").is_err()
+            || wire.read(&mut into).is_err();
+        assert!(rt; failed);
+        assert_eq!(rt; wire.finished(), 1);
+        assert_eq!(rt; wire.ended(1), ends[(call - 1) as usize]);
+    }
+    Ok(())
+}
+
+#[test]
+fn memory_wire_wants_memory_where_it_is_lean(rt: HostRuntime) -> Result<(), Fail> {
+    let alloc = rt.alloc();
+    let mut wire = wire(alloc, b"", &[])?;
+    wire.lean_at(2);
+    assert_eq!(rt; wire.ready(alloc, 1, 0), Ok(()));
+    assert_eq!(rt; wire.ready(alloc, 1, 0), Err(AllocError));
+    assert_eq!(rt; wire.ready(alloc, 1, 0), Ok(()));
+    wire.begin(0);
+    wire.leave();
+    assert_eq!(rt; wire.ended(1), End::Left);
+    Ok(())
+}
+
+#[test]
+fn memory_door_hands_out_its_connections(rt: HostRuntime) -> Result<(), Fail> {
+    let alloc = rt.alloc();
+    let mut into = [0u8; 4];
+    let source = MemorySource::new(bytes(alloc, b"abcd")?, numbers(alloc, &[2])?);
+    let sink = MemorySink::new(alloc, 4, numbers(alloc, &[])?)?;
+    let mut conns = Vec::new(alloc);
+    conns.push(MemoryConn::new(source, sink))?;
+    let mut door = MemoryDoor::new(conns);
+    let mut conn = door.accept()?;
+    assert_eq!(rt; conn.read(&mut into), Ok(4));
+    assert_eq!(rt; conn.read(&mut into), Err(Failed));
+    assert_eq!(rt; conn.write(b"ok"), Ok(2));
+    assert_eq!(rt; conn.held(), b"ok".as_slice());
+    door.close(conn);
+    assert!(rt; door.accept().is_err());
     Ok(())
 }

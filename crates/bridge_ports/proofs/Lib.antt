@@ -1,0 +1,3 @@
+mod PlanCases
+pub mod PlanLaws
+pub mod WorldCases
