@@ -1,14 +1,15 @@
-//! The head of a reply, read by `httparse` again for each piece until it is there.
-ghost use Rattle.std.specs.Prelude.{◌≡◌, ℕ, ◌+◌, ◌≤◌, ◌<◌, List, ◌++◌, length, take, drop, vec_len, min};
-ghost use Rattle.std.specs.Vec.{vec_capacity};
+//! The head of a reply, read by `httparse` from its first bytes until it is there.
+ghost use Rattle.std.specs.Prelude.{◌≡◌, ℕ, ◌≤◌, List, length, take};
+ghost use Rattle.httparse.specs.Spans.{ResponseOverflows};
 ghost use Rattle.httparse.specs.declared.spans.HeaderSpan.{HeaderSpan as AnySpan};
-ghost use Rattle.http_talk.specs.HeadFeeding.{IsParsed, IsHeadFed};
-ghost use Rattle.http_talk.specs.Heads.{HeadIs, unfinished, head_limit};
+ghost use Rattle.http_talk.specs.HeadFeeding.{IsParsed, IsHeadOf};
+ghost use Rattle.http_talk.specs.Heads.{Shows};
 
-use httparse::Status;
-use httparse::spans::{HeaderSpan, ResponseSpans, parse_response};
+use crate::seen::HeadSeen;
+use httparse::spans::{EMPTY_HEADER_SPAN, HeaderSpan, ResponseSpans, parse_response};
+use httparse::{Error, Status};
 
-/// What bytes hold of a head.
+/// What bytes say of a head.
 #[derive(Clone, Copy, Debug, PartialEq, Eq)]
 pub(crate) enum Head {
     More,
@@ -17,52 +18,49 @@ pub(crate) enum Head {
 }
 
 /// The most bytes of a head.
-const MOST_HEAD: usize = 16_384;
+pub(crate) const MOST_HEAD: usize = 16_384;
 
-/// The head at the front of these bytes. There is room for every field that so many bytes can hold.
-pub(crate) fn parse_head(bytes: &[u8], spans: &mut [HeaderSpan]) -> Head
+/// The most fields of a head.
+pub(crate) const MOST_FIELDS: usize = 64;
+
+/// What these bytes say of a head.
+fn parse_head(bytes: &[u8], spans: &mut [HeaderSpan]) -> Head
     requires short { length bytes.now ≤ 16384 }
-    requires room { 8192 ≤ length spans.old }
+    requires room { length spans.old ≡ 64 }
     ensures { IsParsed bytes.now spans.new result }
 {
     match parse_response(bytes, spans) {
         Ok(Status::Complete(head)) => Head::Found(head),
         Ok(Status::Partial) => Head::More,
+        Err(Error::TooManyHeaders) => parse_long_head(bytes),
         Err(_) => Head::Bad,
     }
 }
 
-/// HasKept the first bytes of these and a piece, as many as a head may have.
-fn keep_front(kept: &mut Vec<u8>, piece: &[u8])
-    requires room { 16384 ≤ vec_capacity kept.old }
-    requires short { length kept.old.items < 16384 }
-    ensures { kept.new.items ≡ take 16384 (kept.old.items ++ piece.now) }
+/// The same where a head at the front has more than 64 fields. The table has room for every field that
+/// so many bytes can hold.
+fn parse_long_head(bytes: &[u8]) -> Head
+    requires short { length bytes.now ≤ 16384 }
+    requires many { ResponseOverflows 64 bytes.now }
+    ensures { (spans : List AnySpan) → IsParsed bytes.now spans result }
 {
-    let count = (MOST_HEAD - kept.len()).min(piece.len());
-    kept.extend_from_slice(&piece[..count]).unwrap();
+    let mut spans = [EMPTY_HEADER_SPAN; 8_192];
+    match parse_response(bytes, &mut spans) {
+        Ok(Status::Complete(_)) => Head::Bad,
+        Ok(Status::Partial) => Head::More,
+        Err(_) => Head::Bad,
+    }
 }
 
-/// The head at the front of what is kept.
-fn parse_kept(kept: &Vec<u8>, spans: &mut [HeaderSpan]) -> Head
-    requires short { length kept.now.items ≤ 16384 }
-    requires room { 8192 ≤ length spans.old }
-    ensures { IsParsed kept.now.items spans.new result }
+/// What the bytes got say of a head, by the first of them, as many as a head may have.
+pub(crate) fn head_of(front: &[u8], spans: &mut [HeaderSpan]) -> Head
+    requires short { length front.now ≤ 16384 }
+    requires room { length spans.old ≡ 64 }
+    ensures { (got : List ℕ) → front.now ≡ take 16384 got → IsHeadOf got front.now spans.new result }
 {
-    parse_head(kept.as_slice(), spans)
-}
-
-/// Goes on with a head of which the bytes before hold none yet. `kept` has room for as many bytes as a head
-/// may have, and keeps the first ones.
-pub(crate) fn feed_head(kept: &mut Vec<u8>, piece: &[u8], spans: &mut [HeaderSpan]) -> Head
-    requires room { 16384 ≤ vec_capacity kept.old }
-    requires fields { 8192 ≤ length spans.old }
-    requires before { HeadIs kept.old.items unfinished }
-    ensures { IsHeadFed (kept.old.items ++ piece.now) kept.new.items spans.new result }
-{
-    keep_front(kept, piece);
-    match parse_kept(kept, spans) {
+    match parse_head(front, spans) {
         Head::More => {
-            if kept.len() == MOST_HEAD {
+            if front.len() == MOST_HEAD {
                 Head::Bad
             } else {
                 Head::More
@@ -70,5 +68,18 @@ pub(crate) fn feed_head(kept: &mut Vec<u8>, piece: &[u8], spans: &mut [HeaderSpa
         }
         Head::Bad => Head::Bad,
         Head::Found(head) => Head::Found(head),
+    }
+}
+
+/// What the bytes at the front of a post's reply hold. It takes no memory.
+pub fn status_of(head: &[u8]) -> HeadSeen
+    ensures { Shows head.now result }
+{
+    let front = &head[..head.len().min(MOST_HEAD)];
+    let mut spans = [EMPTY_HEADER_SPAN; MOST_FIELDS];
+    match head_of(front, &mut spans) {
+        Head::More => HeadSeen::More,
+        Head::Bad => HeadSeen::Bad,
+        Head::Found(found) => HeadSeen::Status(found.code),
     }
 }

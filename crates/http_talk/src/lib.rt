@@ -7,6 +7,9 @@ mod head;
 mod part;
 pub mod reply_laws;
 mod seen;
+mod texts;
 
 pub use fault::{Body, Progress, ReplyFault};
+pub use head::status_of;
 pub use seen::HeadSeen;
+pub use texts::{get_text, post_text};
