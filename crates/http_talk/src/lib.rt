@@ -2,12 +2,15 @@
 #![tactic(auto)]
 
 mod chunk_place;
+mod chunk_reader;
 mod fault;
 mod head;
+mod head_facts;
 mod part;
 pub mod reply_laws;
 mod seen;
 mod texts;
+mod words;
 
 pub use fault::{Body, Progress, ReplyFault};
 pub use head::status_of;
