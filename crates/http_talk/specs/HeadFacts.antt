@@ -1,6 +1,6 @@
 -- What the fields of a head say of its body, gathered field by field.
 -- RFC 9110, sections 8.3, 8.4 and 8.6; RFC 9112, section 6.1.
-use Rattle.std.specs.Prelude.{◌≡◌, ℕ, Bool, true, false, not, ◌&&◌, ◌||◌, ◌==◌, List, ◌∷◌, [], length, fold, codes, Option, Some, None, Result, Ok, Err, if◌then◌else◌}
+use Rattle.std.specs.Prelude.{◌≡◌, ℕ, ◌<◌, Bool, true, false, not, ◌&&◌, ◌||◌, ◌==◌, List, ◌∷◌, [], length, fold, codes, Option, Some, None, Result, Ok, Err, if◌then◌else◌, ⊤}
 use Rattle.std.specs.Str.Parse.{digits_value}
 use Rattle.httparse.specs.Grammar.{ResponseHead}
 use Rattle.page_model.specs.declared.format.Format.{Format}
@@ -19,6 +19,7 @@ use Rattle.http_talk.specs.declared.fault.ReplyFault.TheVariants as faults
 use Rattle.page_model.specs.declared.format.Format.TheVariants.{Text}
 use Rattle.http_talk.specs.declared.chunk_place.ChunkPlace.TheVariants.{Digits}
 use Rattle.http_talk.specs.Heads.{is_word, is_length, media_type, format_named, format_by, format_of, values_of, has_content_coding, has_transfer_coding, is_only_chunked, are_bad_lengths, framing_by, framing_of, is_long, head_cause, Framing, in_chunks, to_the_end, of_length}
+use Rattle.http_talk.specs.ChunkFeeding.{IsChunkPlace}
 use Rattle.http_talk.specs.Replies.{cause_of}
 
 -- no field was looked at
@@ -95,6 +96,13 @@ pub record AreFactsOf (f : HeadFacts) (h : ResponseHead) : Type 0 where
   pub lengths : AreLengths f.lengths (values_of (codes "content-length") h)
 
 -- ---- how a body begins
+
+-- what is read behind a head
+abbrev pub IsFirstPart : Part → Type 0
+IsFirstPart parts.Head = ⊥
+IsFirstPart (parts.Sized n) = 0 < n
+IsFirstPart (parts.Chunked place) = IsChunkPlace place
+IsFirstPart part = ⊤
 
 -- a length counts and is refused
 abbrev pub has_bad_lengths : ResponseHead → Bool

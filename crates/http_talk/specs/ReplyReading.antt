@@ -11,7 +11,11 @@ use Rattle.http_talk.specs.declared.fault.Body.{Body}
 use Rattle.http_talk.specs.declared.fault.ReplyFault.{ReplyFault}
 use Rattle.http_talk.specs.declared.fault.ReplyFault.TheVariants as faults
 use Rattle.page_model.specs.declared.event.Cause.{Cause}
-use Rattle.http_talk.specs.Heads.{unfinished, found, HeadIs, head_cause, format_of, framing_of, Framing, in_chunks, to_the_end, of_length}
+use Rattle.httparse.specs.declared.spans.HeaderSpan.{HeaderSpan}
+use Rattle.httparse.specs.declared.spans.ResponseSpans.{ResponseSpans}
+use Rattle.http_talk.specs.HeadFeeding.{IsHeadAt}
+use Rattle.http_talk.specs.ChunkFeeding.{IsChunkPlace}
+use Rattle.http_talk.specs.Heads.{head_limit, unfinished, found, HeadIs, head_cause, format_of, framing_of, Framing, in_chunks, to_the_end, of_length}
 use Rattle.http_talk.specs.Chunks.{Chunks, no_chunks, with_bytes}
 use Rattle.http_talk.specs.Chunks as chunks
 use Rattle.http_talk.specs.Replies.{Judged, waits, goes_on, decided, refused, whole, IsJudged, HasVerdict, is_decided, cause_of}
@@ -45,6 +49,14 @@ HasKept (parts.Chunked place) most fed format kept got =
     × (chunks.is_certain most (record { place = place; held = kept; got = got }) ≡ false)
 HasKept parts.Whole most fed format kept got = HasVerdict most fed (whole format kept)
 
+-- the numbers of what a reader keeps are within the limits
+abbrev pub IsSoundPart : Part → ℕ → List ℕ → Type 0
+IsSoundPart parts.Head most kept = length kept ≤ 16384
+IsSoundPart (parts.Sized n) most kept = length kept < n
+IsSoundPart parts.Open most kept = length kept ≤ most
+IsSoundPart (parts.Chunked place) most kept = IsChunkPlace place
+IsSoundPart parts.Whole most kept = ⊤
+
 -- a reader was fed these bytes and refused nothing
 pub record Stands (fed : List ℕ) (r : Reader) : Type 0 where
   pub working : r.stopped ≡ None
@@ -76,6 +88,16 @@ pub record IsTaken (fed : List ℕ) (new : Reader) (progress : Progress) : Type 
 abbrev pub FeedAnswer : List ℕ → Reader → Result Progress ReplyFault → Type 0
 FeedAnswer fed new (Ok progress) = IsTaken fed new progress
 FeedAnswer fed new (Err fault) = IsRefusal new.most fed fault
+
+-- bytes were taken
+pub record TakesBytes (old new : Reader) (piece : List ℕ) (result : Result Progress ReplyFault) : Type 0 where
+  pub same : new.most ≡ old.most
+  pub working : new.stopped ≡ old.stopped
+  pub answer : (fed : List ℕ) → Stands fed old → FeedAnswer (fed ++ piece) new result
+
+-- behind the head that is found in what is kept, the body was begun
+abbrev pub BeginsBody : Reader → List HeaderSpan → ResponseSpans → ResponseHead → List ℕ → Reader → Result Progress ReplyFault → Type 0
+BeginsBody old spans parsed h piece new result = IsHeadAt old.kept spans parsed h → old.stopped ≡ None → length old.kept ≤ head_limit → FeedAnswer (old.kept ++ piece) new result
 
 -- what the end gives: the body of a reply that is whole or goes to the end, or that it came too soon; want of memory is free
 abbrev pub FinishAnswer : ℕ → List ℕ → Result Body ReplyFault → Type 0

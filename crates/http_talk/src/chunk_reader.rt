@@ -4,6 +4,8 @@ ghost use Rattle.http_talk.specs.declared.chunk_place.ChunkPlace.TheVariants.{By
 ghost use Rattle.http_talk.specs.Chunks.{with_byte, with_bytes, is_body_end, is_wrong, is_too_much, is_certain};
 
 use crate::chunk_place::ChunkPlace;
+use crate::fault::{Progress, ReplyFault};
+use crate::part::Part;
 use label_sets::Memory;
 use std::marker::Model;
 
@@ -11,9 +13,9 @@ use std::marker::Model;
 /// the reply came in all.
 #[derive(Drop)]
 pub(crate) struct ChunkReader {
-    pub(crate) place: ChunkPlace,
-    pub(crate) held: Vec<u8>,
-    pub(crate) got: u64,
+    place: ChunkPlace,
+    held: Vec<u8>,
+    got: u64,
 }
 
 impl Model for ChunkReader {
@@ -49,8 +51,60 @@ fn total_limit(most: u32) -> u64
 }
 
 impl ChunkReader {
+    ghost use Rattle.http_talk.specs.ChunkFeeding.{IsChunkPlace, IsChunkAnswer, part_behind};
+    ghost use Rattle.http_talk.specs.ReplyReading.{IsSoundPart};
+
+    /// A body of which these bytes are kept.
+    pub(crate) fn at(place: ChunkPlace, held: Vec<u8>, got: u64) -> ChunkReader
+        requires { IsChunkPlace place }
+        ensures { result ≡ record { place = place; held = held.items; got = got } }
+    {
+        ChunkReader { place, held, got }
+    }
+
+    /// How many bytes of the reply came in all.
+    pub(crate) fn got(&self) -> u64
+        ensures { result ≡ self.now.got }
+    {
+        self.got
+    }
+
+    /// What is read next.
+    pub(crate) fn part(&self) -> Part
+        ensures part { result ≡ part_behind self.now.place }
+        ensures sound { (most : ℕ) (kept : List ℕ) → IsSoundPart result most kept }
+    {
+        match self.place {
+            ChunkPlace::Whole => Part::Whole,
+            place => Part::Chunked { place },
+        }
+    }
+
+    /// What the chunks hold so far.
+    pub(crate) fn into_held(self) -> Vec<u8>
+        ensures { result.items ≡ self.held }
+    {
+        self.held
+    }
+
+    /// What is certain of the body. Whole goes before too many bytes, and that before a wrong byte.
+    pub(crate) fn progress(&self, most: u32) -> Result<Progress, ReplyFault>
+        ensures { IsChunkAnswer most self.now result }
+    {
+        if is_body_end(self.place) {
+            return Ok(Progress::Whole);
+        }
+        if self.is_too_much(most) {
+            return Err(ReplyFault::TooLong);
+        }
+        if is_wrong(self.place) {
+            return Err(ReplyFault::Chunk);
+        }
+        Ok(Progress::More)
+    }
+
     /// Whether too many bytes came.
-    pub(crate) fn is_too_much(&self, most: u32) -> bool
+    fn is_too_much(&self, most: u32) -> bool
         ensures { result ≡ is_too_much most self.now }
     {
         self.held.len() > most as usize || self.got > total_limit(most)

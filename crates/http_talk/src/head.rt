@@ -2,7 +2,7 @@
 ghost use Rattle.std.specs.Prelude.{◌≡◌, ℕ, ◌≤◌, List, length, take};
 ghost use Rattle.httparse.specs.Spans.{ResponseOverflows};
 ghost use Rattle.httparse.specs.declared.spans.HeaderSpan.{HeaderSpan as AnySpan};
-ghost use Rattle.http_talk.specs.HeadFeeding.{IsParsed, IsHeadOf};
+ghost use Rattle.http_talk.specs.HeadFeeding.{IsParsed, IsFoundWithin, IsHeadOf};
 ghost use Rattle.http_talk.specs.Heads.{Shows};
 
 use crate::seen::HeadSeen;
@@ -56,7 +56,8 @@ fn parse_long_head(bytes: &[u8]) -> Head
 pub(crate) fn head_of(front: &[u8], spans: &mut [HeaderSpan]) -> Head
     requires short { length front.now ≤ 16384 }
     requires room { length spans.old ≡ 64 }
-    ensures { (got : List ℕ) → front.now ≡ take 16384 got → IsHeadOf got front.now spans.new result }
+    ensures within { IsFoundWithin front.now spans.new result }
+    ensures head { (got : List ℕ) → front.now ≡ take 16384 got → IsHeadOf got front.now spans.new result }
 {
     match parse_head(front, spans) {
         Head::More => {

@@ -1,7 +1,7 @@
 //! What the fields of a head say of its body (RFC 9110, sections 8.3, 8.4 and 8.6; RFC 9112, section 6.1).
-ghost use Rattle.std.specs.Prelude.{◌≡◌, ◌≤◌, ℕ, List, All, false, map, length, codes, if◌then◌else◌};
-ghost use Rattle.httparse.specs.Spans.{IsHeaderWithin, header_bytes};
-ghost use Rattle.http_talk.specs.HeadFacts.{no_facts, with_coding, with_transfer, media_by, with_media, with_number, with_length, with_field, facts_by, IsMedia, AreLengths, AreFactsOf, IsSized, IsFramed, IsStart};
+ghost use Rattle.std.specs.Prelude.{◌≡◌, ◌≤◌, ℕ, List, false, map, take, length, IfOk, codes, if◌then◌else◌};
+ghost use Rattle.httparse.specs.Spans.{IsResponseWithin, header_bytes};
+ghost use Rattle.http_talk.specs.HeadFacts.{no_facts, with_coding, with_transfer, media_by, with_media, with_number, with_length, with_field, facts_by, IsMedia, AreLengths, AreFactsOf, IsSized, IsFramed, IsStart, IsFirstPart};
 ghost use Rattle.httparse.specs.Grammar.{ResponseHead as AnyHead, status_code};
 ghost use Rattle.http_talk.specs.Heads.{is_word, format_named, format_by, has_other_coding};
 
@@ -9,7 +9,7 @@ use crate::chunk_place::ChunkPlace;
 use crate::fault::ReplyFault;
 use crate::part::{Part, Start};
 use crate::words::{is_word, length_of, media_type};
-use httparse::spans::HeaderSpan;
+use httparse::spans::{HeaderSpan, ResponseSpans};
 use page_model::Format;
 
 /// What the fields say of transfer codings.
@@ -124,7 +124,8 @@ impl Media {
 impl Lengths {
     /// What is read first of a body that does not come in chunks.
     fn part(self, most: u32) -> Result<Part, ReplyFault>
-        ensures { (values : List (List ℕ)) → AreLengths self values → IsSized most values result }
+        ensures part { (values : List (List ℕ)) → AreLengths self values → IsSized most values result }
+        ensures first { IfOk result IsFirstPart }
     {
         match self {
             Lengths::Absent => Ok(Part::Open),
@@ -195,12 +196,12 @@ impl HeadFacts {
     }
 
     /// What the fields of a head say.
-    pub(crate) fn of(bytes: &[u8], spans: &[HeaderSpan]) -> HeadFacts
-        requires { All (IsHeaderWithin (length bytes.now)) spans.now }
-        ensures { result ≡ facts_by (map (header_bytes bytes.now) spans.now) }
+    pub(crate) fn of(bytes: &[u8], spans: &[HeaderSpan], head: &ResponseSpans) -> HeadFacts
+        requires { IsResponseWithin bytes.now spans.now head.now }
+        ensures { result ≡ facts_by (map (header_bytes bytes.now) (take head.now.headers spans.now)) }
     {
         let mut facts = HeadFacts::none();
-        for span in spans {
+        for span in &spans[..head.headers] {
             facts = facts.and(span.name.of(bytes), span.value.of(bytes));
         }
         facts
@@ -215,7 +216,8 @@ impl HeadFacts {
 
     /// What is read first of the body, where it comes in no other coding.
     fn part(&self, most: u32) -> Result<Part, ReplyFault>
-        ensures { (h : AnyHead) → AreFactsOf self.now h → has_other_coding h ≡ false → IsFramed most h result }
+        ensures part { (h : AnyHead) → AreFactsOf self.now h → has_other_coding h ≡ false → IsFramed most h result }
+        ensures first { IfOk result IsFirstPart }
     {
         match self.transfer {
             Transfer::Absent => self.lengths.part(most),
@@ -227,7 +229,8 @@ impl HeadFacts {
 
     /// How the body begins behind a head of this status, where it may have at most `most` bytes.
     pub(crate) fn start(&self, code: u16, most: u32) -> Result<Start, ReplyFault>
-        ensures { (h : AnyHead) → AreFactsOf self.now h → length h.fields ≤ 64 → code ≡ status_code h → IsStart most h result }
+        ensures start { (h : AnyHead) → AreFactsOf self.now h → length h.fields ≤ 64 → code ≡ status_code h → IsStart most h result }
+        ensures first { IfOk result (λ start. IsFirstPart start.part) }
     {
         if code != 200 {
             return Err(ReplyFault::Status(code));

@@ -7,6 +7,7 @@ mod fault;
 mod head;
 mod head_facts;
 mod part;
+mod reply;
 pub mod reply_laws;
 mod seen;
 mod texts;
@@ -14,5 +15,6 @@ mod words;
 
 pub use fault::{Body, Progress, ReplyFault};
 pub use head::status_of;
+pub use reply::Reply;
 pub use seen::HeadSeen;
 pub use texts::{get_text, post_text};
