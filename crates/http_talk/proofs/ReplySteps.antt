@@ -38,11 +38,14 @@ reader most part format kept got stopped = record { most = most; part = part; fo
 
 -- ---- what is known behind a head that is taken
 
+found_settled : (h : ResponseHead) (rest : List ℕ) → found h rest ≢ unfinished
+found_settled h rest same = cc same
+
 abbrev body_on : (most : ℕ) (fed piece : List ℕ) (format : Format) (framing : Framing) → HasBody most fed format framing → HasBody most (fed ++ piece) format framing
 body_on most fed piece format framing b = record {
   head = b.head;
   rest = b.rest ++ piece;
-  head_is = head_goes_on fed piece (found b.head b.rest) b.head_is (λ same. cc same);
+  head_is = head_goes_on fed piece (found b.head b.rest) b.head_is (found_settled b.head b.rest);
   taken = b.taken;
   format_is = b.format_is;
   framing_is = b.framing_is;
