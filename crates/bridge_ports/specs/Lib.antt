@@ -1,3 +1,11 @@
 pub mod Causes
 pub mod Edges
 pub mod InMemory
+pub mod Targets
+pub mod Talks
+pub mod Keeping
+pub mod Plans
+pub mod Doors
+pub mod Worlds
+pub mod MemoryWorlds
+pub mod WorldMaking

@@ -3,16 +3,36 @@
 //! library's readers and writers.
 #![tactic(auto)]
 
+mod copy_front;
+mod door;
+mod kept;
+mod memory_door;
 mod memory_sink;
 mod memory_source;
+mod memory_wire;
+mod memory_world;
+mod settings;
 mod sink;
 mod source;
 pub mod std_edge;
+mod talk;
+mod target;
+mod wire;
+mod world;
 
+pub use door::Door;
+pub use memory_door::{MemoryConn, MemoryDoor};
 pub use memory_sink::MemorySink;
 pub use memory_source::{MemorySource, SureSource};
+pub use memory_wire::MemoryWire;
+pub use memory_world::{MemoryFile, MemoryListen, MemoryPair, Shelved};
+pub use settings::Settings;
 pub use sink::Sink;
 pub use source::Source;
+pub use talk::{Address, End, MemoryReply, Place, Stage, Talk};
+pub use target::Target;
+pub use wire::Wire;
+pub use world::World;
 
 /// A call on the outside failed; its count of faults tells so.
 #[derive(Clone, Copy, Debug, PartialEq, Eq)]

@@ -60,6 +60,13 @@ impl MemorySink {
     {
         self.bytes.as_slice()
     }
+
+    /// How many writes failed.
+    pub fn faults(&self) -> u64
+        ensures { result ≡ self.now.faults }
+    {
+        self.faults
+    }
 }
 
 impl Sink for MemorySink {

@@ -5,6 +5,7 @@ ghost use Rattle.std.specs.Io.KnownBytes.{ReadConsumes};
 ghost use Rattle.bridge_ports.specs.Causes.{HasCause};
 ghost use Rattle.bridge_ports.specs.InMemory.{one_more, most_at_once};
 
+use crate::copy_front::copy_front;
 use crate::{Failed, Source};
 use label_sets::{Bytes, List};
 use std::marker::Model;
@@ -93,6 +94,13 @@ impl MemorySource {
             failing,
         }
     }
+
+    /// How many reads failed.
+    pub fn faults(&self) -> u64
+        ensures { result ≡ self.now.faults }
+    {
+        self.faults
+    }
 }
 
 impl Source for MemorySource {
@@ -123,14 +131,4 @@ impl Source for MemorySource {
         }
         self.bytes.read(into)
     }
-}
-
-// Copies as much of the front of `from` as fits `into` and a u32 counts.
-fn copy_front(from: &[u8], into: &mut [u8]) -> u32
-    ensures count { result ≡ min (min (length from.now) (length into.old)) most_at_once }
-    ensures copied { take result into.new ≡ take result from.now }
-{
-    let count = from.len().min(into.len()).min(u32::MAX as usize);
-    into[..count].copy_from_slice(&from[..count]);
-    count as u32
 }

@@ -1,0 +1,4 @@
+pub mod Laws
+mod PlanCases
+pub mod PlanLaws
+pub mod WorldCases

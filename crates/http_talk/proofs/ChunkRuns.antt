@@ -1,0 +1,121 @@
+-- Steps over the bytes of a body in chunks.
+use Rattle.std.proofs.Common.{◌≡◌, ℕ, ◌+◌, ◌-◌, ◌*◌, ◌^◌, ◌≤◌, ◌<◌, Bool, true, false, List, [], ◌∷◌, ◌++◌, length, take, drop, refl, sym, ap, ◌∙◌, arith, append_assoc, append-nil, subst}
+use Rattle.std.specs.Prelude.{◌≢◌, ◌||◌, zero, suc, nat_lt, if◌then◌else◌}
+use Rattle.std.proofs.Math.Nat.{pow-le-pow_right}
+use Rattle.std.proofs.lemmas.Grind.{pow_more}
+use Rattle.std.proofs.lemmas.Bool.{lt-ltb, le-ltb, ltb-true, ltb-false}
+use Rattle.std.proofs.lemmas.List.{length-append, length-drop, length-take, take_all, take-append-drop}
+use Rattle.std.proofs.lemmas.Grind.{common_steps}
+use Rattle.http_talk.proofs.GoesOn.{with_bytes-append}
+use Rattle.http_talk.specs.declared.chunk_place.ChunkPlace.{ChunkPlace}
+use Rattle.http_talk.specs.declared.chunk_place.ChunkPlace.TheVariants.{Digits, Blanks, Extension, SizeEnd, Bytes, BytesEnd, BytesFeed, Trailer, TrailerEnd, Whole, Wrong}
+use Rattle.http_talk.specs.Chunks.{Chunks, place_after, held_after, with_byte, with_bytes, is_certain, is_body_end, is_wrong}
+use Rattle.http_talk.specs.ChunkFeeding.{IsChunkPlace, behind_bytes}
+
+-- one more digit fits
+pub hex_room : (count size digit : ℕ) → count < 8 → size < 16 ^ count → digit < 16 → (size * 16 + digit < 16 ^ (count + 1)) × (size * 16 + digit < 2 ^ 32)
+hex_room count size digit few small hex =
+    let more : 16 ^ (count + 1) ≡ 16 ^ count * 16 = pow_more 16 count in
+    let most : 16 ^ (count + 1) ≤ 16 ^ 8 = pow-le-pow_right {n = 16} (omega arith) {i = count + 1} {j = 8} (omega (arith, few)) in
+    (omega (arith, more, small, hex), omega (arith, more, most, small, hex))
+
+-- where a chunk goes on and nothing is too much, nothing is certain
+uncertain : (most left got : ℕ) (held : List ℕ) → length held ≤ most → got ≤ 8 * most + 65536
+    → is_certain most (record { place = Bytes left; held = held; got = got }) ≡ false
+uncertain most left got held few short = rw (le-ltb most (length held) few, le-ltb (8 * most + 65536) got short) refl
+
+same_chunks : (p q : ChunkPlace) (xs ys : List ℕ) (m n : ℕ) → p ≡ q → xs ≡ ys → m ≡ n
+    → (let a : Chunks = record { place = p; held = xs; got = m } in a) ≡ (let b : Chunks = record { place = q; held = ys; got = n } in b)
+same_chunks p q xs ys m n e f g = cc (e, f, g)
+
+behind_step : (left count : ℕ) → 1 < left → behind_bytes (left - 1) count ≡ behind_bytes left (suc count)
+behind_step left count some =
+    elim (nat_lt count (left - 1)) as (λ t. nat_lt count (left - 1) ≡ t → (if t then Bytes (left - 1 - count) else BytesEnd) ≡ behind_bytes left (suc count)) [
+      | true ↦ λ yes. rw (lt-ltb (suc count) left (omega (arith, some, ltb-true count (left - 1) yes))) (bytes_of _ _ (omega arith))
+      | false ↦ λ no. rw (le-ltb (suc count) left (omega (arith, some, ltb-false count (left - 1) no))) refl
+    ] refl
+  where
+    bytes_of : (m n : ℕ) → m ≡ n → Bytes m ≡ Bytes n
+    bytes_of m n e = ap Bytes e
+
+-- some bytes of a chunk at once
+pub run : (piece : List ℕ) (count most left got : ℕ) (held : List ℕ) → 0 < left → count ≤ left → count ≤ length piece → length held + count ≤ most + 1 → got + count ≤ 8 * most + 65537
+    → with_bytes most (record { place = Bytes left; held = held; got = got }) (take count piece) ≡ record { place = behind_bytes left count; held = held ++ take count piece; got = got + count }
+unfolding place_after
+run piece zero most left got held some few in_piece fits short =
+    let place : Bytes left ≡ behind_bytes left 0 = rw (lt-ltb 0 left some) (let e : left ≡ left - 0 = omega arith in ap Bytes e) in
+    let count : got ≡ got + 0 = omega arith in
+    same_chunks _ _ _ _ _ _ place (sym (append-nil held)) count
+run [] (suc count) most left got held some few in_piece fits short = absurd (omega (arith, in_piece))
+run (b ∷ piece) (suc zero) most left got held some few in_piece fits short = rw (uncertain most left got held (omega (arith, fits)) (omega (arith, short))) refl
+run (b ∷ piece) (suc (suc count)) most left got held some few in_piece fits short =
+    let many : 1 < left = omega (arith, few) in
+    let rest = run piece (suc count) most (left - 1) (got + 1) (held ++ b ∷ []) (omega (arith, many)) (omega (arith, few)) (omega (arith, in_piece))
+    (omega (arith, fits, length-append held (b ∷ []))) (omega (arith, short)) in
+    let taken : got + 1 + suc count ≡ got + suc (suc count) = omega arith in
+    rw (uncertain most left got held (omega (arith, fits)) (omega (arith, short)), lt-ltb 1 left many)
+    (rest ∙ same_chunks _ _ _ _ _ _ (behind_step left (suc count) many) (append_assoc held (b ∷ []) (take (suc count) piece)) taken)
+
+-- a byte that is none of a chunk's changes what the chunks hold by nothing
+pub held_so : (p : ChunkPlace) (held : List ℕ) (b : ℕ) → ((left : ℕ) → p ≢ Bytes left) → held_after p held b ≡ held
+held_so (Digits count size) held b other = refl
+held_so (Blanks line size) held b other = refl
+held_so (Extension line size) held b other = refl
+held_so (SizeEnd size) held b other = refl
+held_so (Bytes left) held b other = absurd (other left refl)
+held_so BytesEnd held b other = refl
+held_so BytesFeed held b other = refl
+held_so (Trailer before line) held b other = refl
+held_so (TrailerEnd before line) held b other = refl
+held_so Whole held b other = refl
+held_so Wrong held b other = refl
+
+-- the bytes from a place on, once some of them were taken
+pub bytes_on : (most : ℕ) (c d : Chunks) (piece : List ℕ) (at count : ℕ) → at ≤ length piece → d ≡ with_bytes most c (take count (take (length piece - at) (drop at piece)))
+    → with_bytes most d (drop (at + count) piece) ≡ with_bytes most c (drop at piece)
+bytes_on most c d piece at count within is =
+    let rest : take (length piece - at) (drop at piece) ≡ drop at piece = take_all (length piece - at) (drop at piece) (omega (arith, length-drop at piece)) in
+    let taken : d ≡ with_bytes most c (take count (drop at piece)) = is ∙ ap (λ r. with_bytes most c (take count r)) rest in
+    ap (λ e. with_bytes most e (drop (at + count) piece)) taken
+    ∙ ap (λ r. with_bytes most (with_bytes most c (take count (drop at piece))) r) (drop_drop piece at count)
+    ∙ sym (with_bytes-append most c (take count (drop at piece)) (drop count (drop at piece)))
+    ∙ ap (λ r. with_bytes most c r) (take-append-drop count (drop at piece))
+  where
+    drop_drop : (piece : List ℕ) (at count : ℕ) → drop (at + count) piece ≡ drop count (drop at piece)
+    drop_drop piece at count = grind (arith, common_steps)
+
+-- one byte where nothing is certain
+pub one_byte : (most : ℕ) (c : Chunks) (b : ℕ) → is_certain most c ≡ false → with_bytes most c (b ∷ []) ≡ with_byte c b
+one_byte most c b going = rw going refl
+
+-- where nothing is certain, there is room for a byte more
+pub going_bounds : (most : ℕ) (place : ChunkPlace) (held : List ℕ) (got : ℕ) (c : Chunks) → record { place = place; held = held; got = got } ≡ c → is_certain most c ≡ false
+    → (length held ≤ most) × (got ≤ 8 * most + 65536)
+going_bounds most place held got c is going =
+    let parts = tests (is_body_end place) (nat_lt most (length held)) (nat_lt (8 * most + 65536) got) (is_wrong place) (subst (λ d. is_certain most d ≡ false) (sym is) going) in
+    (ltb-false most (length held) parts.0, ltb-false (8 * most + 65536) got parts.1)
+  where
+    tests : (a b d w : Bool) → (a || (b || d) || w) ≡ false → (b ≡ false) × (d ≡ false)
+    tests true b d w e = absurd (cc e)
+    tests false true d w e = absurd (cc e)
+    tests false false true w e = absurd (cc e)
+    tests false false false w e = (refl, refl)
+
+-- a chunk that goes on has a byte left
+pub left_some : (place : ChunkPlace) (held : List ℕ) (got : ℕ) (c : Chunks) (left : ℕ) → record { place = place; held = held; got = got } ≡ c → c.place ≡ Bytes left → IsChunkPlace place → 0 < left
+left_some place held got c left is at sound = subst IsChunkPlace (ap (λ (d : Chunks). d.place) is ∙ at) sound
+
+-- a run of the bytes of a chunk, by what the reader keeps
+pub run_of : (most left count : ℕ) (place : ChunkPlace) (held : List ℕ) (got : ℕ) (c : Chunks) (piece after : List ℕ) (behind : ChunkPlace) → record { place = place; held = held; got = got } ≡ c → c.place ≡ Bytes left
+    → 0 < left → length held ≤ most → got ≤ 8 * most + 65536 → count ≤ left → count ≤ length piece → length held + count ≤ most + 1 → got + count ≤ 8 * most + 65537
+    → behind ≡ behind_bytes left count → after ≡ held ++ take count piece
+    → record { place = behind; held = after; got = got + count } ≡ with_bytes most c (take count piece)
+run_of most left count place held got c piece after behind is at some few short in_left in_piece fits total so more =
+    let here : c ≡ record { place = Bytes left; held = held; got = got } = sym is ∙ same_chunks place (Bytes left) held held got got (ap (λ (d : Chunks). d.place) is ∙ at) refl refl in
+    same_chunks behind (behind_bytes left count) after (held ++ take count piece) (got + count) (got + count) so more refl
+    ∙ sym (run piece count most left got held some in_left in_piece fits total)
+    ∙ ap (λ d. with_bytes most d (take count piece)) (sym here)
+
+-- what is taken of the rest of a piece is within the piece
+pub short_rest : (piece : List ℕ) (at count : ℕ) → at ≤ length piece → count ≤ length (take (length piece - at) (drop at piece)) → at + count ≤ length piece
+short_rest piece at count within few = omega (arith, within, few, length-take (length piece - at) (drop at piece), length-drop at piece)

@@ -1,0 +1,86 @@
+//! The head of a reply, read by `httparse` from its first bytes until it is there.
+ghost use Rattle.std.specs.Prelude.{◌≡◌, ℕ, ◌≤◌, List, length, take};
+ghost use Rattle.httparse.specs.Spans.{ResponseOverflows};
+ghost use Rattle.httparse.specs.declared.spans.HeaderSpan.{HeaderSpan as AnySpan};
+ghost use Rattle.http_talk.specs.HeadFeeding.{IsParsed, IsFoundWithin, IsHeadOf};
+ghost use Rattle.http_talk.specs.Heads.{Shows};
+
+use crate::seen::HeadSeen;
+use httparse::spans::{EMPTY_HEADER_SPAN, HeaderSpan, ResponseSpans, parse_response};
+use httparse::{Error, Status};
+
+/// What bytes say of a head.
+#[derive(Clone, Copy, Debug, PartialEq, Eq)]
+pub(crate) enum Head {
+    More,
+    Bad,
+    Found(ResponseSpans),
+}
+
+/// The most bytes of a head.
+pub(crate) const MOST_HEAD: usize = 16_384;
+
+/// The most fields of a head.
+pub(crate) const MOST_FIELDS: usize = 64;
+
+/// What these bytes say of a head.
+fn parse_head(bytes: &[u8], spans: &mut [HeaderSpan]) -> Head
+    requires short { length bytes.now ≤ 16384 }
+    requires room { length spans.old ≡ 64 }
+    ensures { IsParsed bytes.now spans.new result }
+{
+    match parse_response(bytes, spans) {
+        Ok(Status::Complete(head)) => Head::Found(head),
+        Ok(Status::Partial) => Head::More,
+        Err(Error::TooManyHeaders) => parse_long_head(bytes),
+        Err(_) => Head::Bad,
+    }
+}
+
+/// The same where a head at the front has more than 64 fields. The table has room for every field that
+/// so many bytes can hold.
+fn parse_long_head(bytes: &[u8]) -> Head
+    requires short { length bytes.now ≤ 16384 }
+    requires many { ResponseOverflows 64 bytes.now }
+    ensures { (spans : List AnySpan) → IsParsed bytes.now spans result }
+{
+    let mut spans = [EMPTY_HEADER_SPAN; 8_192];
+    match parse_response(bytes, &mut spans) {
+        Ok(Status::Complete(_)) => Head::Bad,
+        Ok(Status::Partial) => Head::More,
+        Err(_) => Head::Bad,
+    }
+}
+
+/// What the bytes got say of a head, by the first of them, as many as a head may have.
+pub(crate) fn head_of(front: &[u8], spans: &mut [HeaderSpan]) -> Head
+    requires short { length front.now ≤ 16384 }
+    requires room { length spans.old ≡ 64 }
+    ensures within { IsFoundWithin front.now spans.new result }
+    ensures head { (got : List ℕ) → front.now ≡ take 16384 got → IsHeadOf got front.now spans.new result }
+{
+    match parse_head(front, spans) {
+        Head::More => {
+            if front.len() == MOST_HEAD {
+                Head::Bad
+            } else {
+                Head::More
+            }
+        }
+        Head::Bad => Head::Bad,
+        Head::Found(head) => Head::Found(head),
+    }
+}
+
+/// What the bytes at the front of a post's reply hold. It takes no memory.
+pub fn status_of(head: &[u8]) -> HeadSeen
+    ensures { Shows head.now result }
+{
+    let front = &head[..head.len().min(MOST_HEAD)];
+    let mut spans = [EMPTY_HEADER_SPAN; MOST_FIELDS];
+    match head_of(front, &mut spans) {
+        Head::More => HeadSeen::More,
+        Head::Bad => HeadSeen::Bad,
+        Head::Found(found) => HeadSeen::Status(found.code),
+    }
+}

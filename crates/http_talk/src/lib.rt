@@ -1,0 +1,22 @@
+//! HTTP as a client speaks it: the texts of requests, and what the bytes of a reply come to.
+#![tactic(auto)]
+
+mod chunk_place;
+mod chunk_reader;
+mod fault;
+mod head;
+mod head_facts;
+mod part;
+mod reply;
+pub mod reply_laws;
+mod seen;
+#[cfg(test)]
+mod tests;
+mod texts;
+mod words;
+
+pub use fault::{Body, Progress, ReplyFault};
+pub use head::status_of;
+pub use reply::Reply;
+pub use seen::HeadSeen;
+pub use texts::{get_text, post_text};
