@@ -1,0 +1,4 @@
+//! The series of a page that the next page lacks.
+#![tactic(auto)]
+
+pub mod gone_laws;

@@ -1,0 +1,5 @@
+mod Cases
+pub mod FewRows
+pub mod Laws
+pub mod Nothing
+pub mod RowLaws
