@@ -1,6 +1,6 @@
 -- Packed keys of series, and their places in a list.
-use Rattle.std.proofs.Common.{◌≡◌, ℕ, zero, suc, Bool, true, false, not, ◌||◌, List, [], ◌∷◌, ◌++◌, map, Option, Some, None, is_some, option_map, refl, sym, ap, subst, ◌∙◌, ◌==◌, arith, append_assoc}
-use Rattle.std.specs.Prelude.{IfSome, MatchOption, slice_get, Result, Ok, Err, OnOk}
+use Rattle.std.proofs.Common.{◌≡◌, ℕ, zero, suc, Bool, true, false, ◌||◌, List, [], ◌∷◌, ◌++◌, Option, Some, None, option_map, refl, sym, ap, subst, ◌∙◌, ◌==◌, arith, append_assoc}
+use Rattle.std.specs.Prelude.{MatchOption, slice_get, Result, Ok, Err, OnOk}
 use Rattle.std.specs.List.{list_any, IsDistinct, AllByRecursion}
 use Rattle.std.specs.Str.{bytes_eq}
 use Rattle.std.specs.Cmp.Lexicographic.{bytes_decides}
@@ -9,7 +9,7 @@ use Rattle.std.proofs.lemmas.List.{map-append}
 use Rattle.std.proofs.lemmas.List.Folds.{list_any-append}
 use Rattle.std.proofs.lemmas.Option.{slice_get-map, same_Some}
 use Rattle.label_sets.specs.declared.series_key.SeriesKey.{SeriesKey}
-use Rattle.label_sets.specs.Keys.{kind_place, kind_eq, key_eq}
+use Rattle.label_sets.specs.Keys.{kind_place, key_eq}
 use Rattle.label_sets.proofs.Laws.{kind_decides, key_decides, same_tests}
 use Rattle.byte_table.proofs.Laws.{among}
 use Rattle.packed_keys.specs.Packing.{part_bytes, labels_bytes, part_at, labels_in, series_bytes}

@@ -1,4 +1,4 @@
-use Rattle.std.proofs.Common.{subst, ap, ◌∙◌, sym, ◌≡◌, Some, slice_get, List}
+use Rattle.std.proofs.Common.{ap, ◌∙◌, sym, ◌≡◌, Some, slice_get, List}
 use Rattle.std.proofs.lemmas.Bool.{OnTrue_at}
 use Rattle.label_sets.specs.declared.series_key.SeriesKey.{SeriesKey}
 use Rattle.packed_keys.proofs.Series.{next_place}
