@@ -1,0 +1,5 @@
+pub mod Steps
+pub mod WordLaws
+pub mod LineLaws
+pub mod Finding
+pub mod Laws

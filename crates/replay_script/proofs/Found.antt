@@ -1,0 +1,180 @@
+-- A part that may stand at a place is the one that is read there.
+use Rattle.std.proofs.Common.{◌≡◌, ◌≢◌, ℕ, zero, suc, ◌+◌, ◌*◌, ◌^◌, ◌<◌, ◌≤◌, Bool, true, false, cond, not, ◌&&◌, ◌||◌, ◌==◌, List, [], ◌∷◌, ◌++◌, length, get_or, take, drop, Option, Some, None, refl, sym, ap, subst, ◌∙◌, arith, append_assoc, bytes_eq, codes, nat_le, nat_lt, nat_eq, slice_index}
+use Rattle.std.specs.Fmt.{decimal}
+use Rattle.std.specs.List.{list_all, starts_with}
+use Rattle.std.proofs.lemmas.Bool.{and_parts, and_from, ltb-true, lt-ltb, true≢false}
+use Rattle.std.proofs.lemmas.List.{take_at, drop_at, drop-drop, get_or_at}
+use Rattle.std.proofs.lemmas.List.Folds.{list_all-append}
+use Rattle.page_model.specs.declared.format.Format.{Format}
+use Rattle.page_model.specs.declared.format.Format.TheVariants as formats
+use Rattle.plain_words.specs.Places.{is_visible, is_visible_word, is_port}
+use Rattle.plain_words.specs.HeadLines.{line_of}
+use Rattle.plain_words.proofs.Laws.{number_found, place_found, in_range, port_small, decimal_visible, are_visible, words_found}
+use Rattle.replay_script.specs.declared.header.HeaderLine.{HeaderLine}
+use Rattle.replay_script.specs.declared.header.HeaderLine.TheVariants.{Keep, Tries, Limit, MaxPage, Cut, Rounds}
+use Rattle.replay_script.specs.HeaderLines.{row_of, is_in_row}
+use Rattle.replay_script.specs.ScriptParts.{format_word, TargetLine, Part, opening, header, target, page, scrape, post, record_words, part_words, part_text}
+use Rattle.replay_script.specs.ScriptRules.{may_follow, is_next_line, is_target_line, is_record, has_target}
+use Rattle.replay_script.specs.ScriptContents.{targets_of}
+use Rattle.replay_script.specs.ScriptReading.{most_number, body_at, header_line_in, format_in, header_in, target_in, page_at, target_or_page, part_with, part_at}
+
+-- ---- what a part that may follow is made of
+
+-- the words and numbers of a part are right, whatever stands before it
+unfoldable pub is_well_formed : Part → Bool
+is_well_formed opening = true
+is_well_formed (header line n) = is_in_row (row_of line) n
+is_well_formed (target t) = is_target_line t
+is_well_formed (page at format body) = is_record at body
+is_well_formed (scrape at ending bytes) = false
+is_well_formed (post at ending bytes) = false
+
+-- ---- the body behind a head line
+
+-- a body that is there is found
+body_found : (bytes more : List ℕ) → body_at (length bytes) ((bytes ++ 10 ∷ []) ++ more) ≡ Some (bytes, more)
+unfolding body_at
+body_found bytes more =
+    let text : (bytes ++ 10 ∷ []) ++ more ≡ bytes ++ 10 ∷ more = append_assoc bytes (10 ∷ []) more in
+    let long : nat_lt (length bytes) (length (bytes ++ 10 ∷ more)) ≡ true = lt-ltb (length bytes) (length (bytes ++ 10 ∷ more)) (omega (arith, Rattle.std.proofs.Common.length-append bytes (10 ∷ more))) in
+    let feed : slice_index (bytes ++ 10 ∷ more) (length bytes) ≡ 10 = get_or_at bytes 10 more 0 (length bytes) refl in
+    let front : take (length bytes) (bytes ++ 10 ∷ more) ≡ bytes = take_at bytes (10 ∷ more) (length bytes) refl in
+    let rest : drop (length bytes + 1) (bytes ++ 10 ∷ more) ≡ more = sym (drop-drop 1 (length bytes) (bytes ++ 10 ∷ more)) ∙ ap (drop 1) (drop_at bytes (10 ∷ more) (length bytes) refl) in
+    rw (text, long, feed, front, rest) refl
+
+-- ---- words
+
+-- the words of a header line are visible
+header_visible : (line : HeaderLine) (n : ℕ) → n < 2 ^ 64 → are_visible (part_words (header line n)) ≡ true
+unfolding part_words row_of
+header_visible Keep n small = rw (decimal_visible n small) refl
+header_visible Tries n small = rw (decimal_visible n small) refl
+header_visible Limit n small = rw (decimal_visible n small) refl
+header_visible MaxPage n small = rw (decimal_visible n small) refl
+header_visible Cut n small = rw (decimal_visible n small) refl
+header_visible Rounds n small = rw (decimal_visible n small) refl
+
+-- a header line's number is small
+header_small : (line : HeaderLine) (n : ℕ) → is_in_row (row_of line) n ≡ true → n < 2 ^ 64
+unfolding row_of
+header_small Keep n e = omega (arith, (in_range 0 4 n e).1)
+header_small Tries n e = omega (arith, (in_range 1 8 n e).1)
+header_small Limit n e = omega (arith, (in_range 1 200000 n e).1)
+header_small MaxPage n e = omega (arith, (in_range 1024 67108864 n e).1)
+header_small Cut n e = omega (arith, (in_range 1 65536 n e).1)
+header_small Rounds n e = omega (arith, (in_range 1 1000000 n e).1)
+
+-- a header line is read as itself
+header_found : (line : HeaderLine) (n : ℕ) → n < 2 ^ 64 → header_in (row_of line).word (decimal n) ≡ Some (header line n)
+unfolding row_of header_in header_line_in
+header_found Keep n small = rw (number_found most_number n (omega (arith, small)) small) refl
+header_found Tries n small = rw (number_found most_number n (omega (arith, small)) small) refl
+header_found Limit n small = rw (number_found most_number n (omega (arith, small)) small) refl
+header_found MaxPage n small = rw (number_found most_number n (omega (arith, small)) small) refl
+header_found Cut n small = rw (number_found most_number n (omega (arith, small)) small) refl
+header_found Rounds n small = rw (number_found most_number n (omega (arith, small)) small) refl
+
+-- ---- target lines
+
+-- the characters of a visible word
+word_visible : (most : ℕ) (w : List ℕ) → is_visible_word most w ≡ true → list_all is_visible w ≡ true
+word_visible most w e = (and_parts (nat_le 1 (length w) && nat_le (length w) most) (list_all is_visible w) e).1
+
+-- the words of a target line
+pub record TargetWords (t : TargetLine) : Type 0 where
+  pub job : is_visible_word 256 t.job ≡ true
+  pub host : is_visible_word 256 t.host ≡ true
+  pub port : is_port t.port ≡ true
+  pub path : is_visible_word 256 t.path ≡ true
+
+pub target_words : (t : TargetLine) → is_target_line t ≡ true → TargetWords t
+target_words t e =
+    let a = and_parts (is_visible_word 256 t.job && is_visible_word 256 t.host && is_port t.port && is_visible_word 256 t.path) (starts_with nat_eq t.path (codes "/")) e in
+    let b = and_parts (is_visible_word 256 t.job && is_visible_word 256 t.host && is_port t.port) (is_visible_word 256 t.path) a.0 in
+    let c = and_parts (is_visible_word 256 t.job && is_visible_word 256 t.host) (is_port t.port) b.0 in
+    let d = and_parts (is_visible_word 256 t.job) (is_visible_word 256 t.host) c.0 in
+    record { job = d.0; host = d.1; port = c.1; path = b.1 }
+
+target_visible : (t : TargetLine) → TargetWords t → are_visible (part_words (target t)) ≡ true
+unfolding part_words
+target_visible t w =
+    let place : list_all is_visible (t.host ++ 58 ∷ decimal t.port) ≡ true =
+    list_all-append is_visible t.host (58 ∷ decimal t.port) ∙ and_from (list_all is_visible t.host) (list_all is_visible (58 ∷ decimal t.port)) (word_visible 256 t.host w.host) (decimal_visible t.port (port_small t.port w.port)) in
+    rw (word_visible 256 t.job w.job, place, word_visible 256 t.path w.path) refl
+
+target_found : (t : TargetLine) → TargetWords t → target_in t.job (t.host ++ (codes ":" ++ decimal t.port)) t.path ≡ Some (target t)
+unfolding target_in
+target_found t w = rw (place_found 256 t.host t.port w.host w.port) refl
+
+-- ---- records
+
+-- the numbers of a record are small
+record_small : (at : ℕ) (bytes : List ℕ) → is_record at bytes ≡ true → (at < 2 ^ 64) × (length bytes < 2 ^ 64)
+record_small at bytes e =
+    let both = and_parts (nat_lt at (2 ^ 64)) (nat_lt (length bytes) (2 ^ 32)) e in
+    let len : length bytes < 2 ^ 32 = ltb-true (length bytes) (2 ^ 32) both.1 in
+    (ltb-true at (2 ^ 64) both.0, omega (arith, len))
+
+-- the words of a record are visible where its first and third are
+record_visible : (sort form : List ℕ) (at : ℕ) (bytes : List ℕ) → list_all is_visible sort ≡ true → list_all is_visible form ≡ true → is_record at bytes ≡ true
+    → are_visible (record_words sort at form bytes) ≡ true
+record_visible sort form at bytes one three e =
+    let small = record_small at bytes e in rw (one, decimal_visible at small.0, three, decimal_visible (length bytes) small.1) refl
+
+-- a format is read as itself
+format_found : (format : Format) → format_in (format_word format) ≡ Some format
+unfolding format_in
+format_found formats.Text = refl
+format_found formats.OpenMetrics = refl
+
+-- a record of a page is read as itself
+page_found : (at : ℕ) (format : Format) (bytes more : List ℕ) → is_record at bytes ≡ true
+    → page_at (decimal at) (format_word format) (decimal (length bytes)) ((bytes ++ 10 ∷ []) ++ more) ≡ Some (page at format bytes, more)
+unfolding page_at
+page_found at format bytes more e =
+    let small = record_small at bytes e in
+    let time = number_found most_number at (omega (arith, small.0)) small.0 in
+    let count = number_found most_number (length bytes) (omega (arith, small.1)) small.1 in
+    rw (time, format_found format, count, body_found bytes more) refl
+
+format_visible : (format : Format) → list_all is_visible (format_word format) ≡ true
+format_visible formats.Text = refl
+format_visible formats.OpenMetrics = refl
+
+-- ---- parts
+
+-- a line with words and what stands behind it is read as the words say
+line_found : (w : List ℕ) (ws : List (List ℕ)) (body more : List ℕ) (p : Part) → are_visible (w ∷ ws) ≡ true → part_with (w ∷ ws) (body ++ more) ≡ Some (p, more)
+    → part_at ((line_of (w ∷ ws) ++ body) ++ more) ≡ Some (p, more)
+unfolding part_at
+line_found w ws body more p all is =
+    let text : (line_of (w ∷ ws) ++ body) ++ more ≡ line_of (w ∷ ws) ++ (body ++ more) = append_assoc (line_of (w ∷ ws)) body more in
+    rw (text, words_found w ws (body ++ more) all) is
+
+-- a part with right words is read as itself
+pub part_found : (p : Part) (more : List ℕ) → is_well_formed p ≡ true → part_at (part_text p ++ more) ≡ Some (p, more)
+unfolding is_well_formed part_words part_with header_in target_or_page
+part_found opening more e = line_found (codes "bridge-script") (codes "1" ∷ []) [] more opening refl refl
+part_found (header line n) more e =
+    let small = header_small line n e in
+    line_found (row_of line).word (decimal n ∷ []) [] more (header line n) (header_visible line n small) (rw (header_found line n small) refl)
+part_found (target t) more e =
+    let w = target_words t e in
+    line_found (codes "target") (t.job ∷ (t.host ++ (codes ":" ++ decimal t.port)) ∷ t.path ∷ []) [] more (target t) (target_visible t w) (rw (target_found t w) refl)
+part_found (page at format bytes) more e =
+    line_found (codes "page") (decimal at ∷ format_word format ∷ decimal (length bytes) ∷ []) (bytes ++ 10 ∷ []) more (page at format bytes)
+    (record_visible (codes "page") (format_word format) at bytes refl (format_visible format) e)
+    (page_found at format bytes more e)
+part_found (scrape at ending bytes) more e = absurd (true≢false (sym e))
+part_found (post at ending bytes) more e = absurd (true≢false (sym e))
+
+-- ---- a part that may follow has right words
+
+pub well_formed : (earlier : List Part) (p : Part) → may_follow earlier p ≡ true → is_well_formed p ≡ true
+unfolding may_follow is_well_formed
+well_formed earlier opening e = refl
+well_formed earlier (header line n) e = (and_parts (is_next_line line earlier) (is_in_row (row_of line) n) e).1
+well_formed earlier (target t) e = (and_parts _ (is_target_line t) (and_parts _ _ e).0).1
+well_formed earlier (page at format body) e = (and_parts (has_target (targets_of earlier)) (is_record at body) e).1
+well_formed earlier (scrape at ending bytes) e = e
+well_formed earlier (post at ending bytes) e = e

@@ -1,0 +1,10 @@
+pub mod Found
+pub mod Spelled
+pub mod Verdicts
+pub mod RightLaws
+pub mod ScriptTargets
+pub mod Kept
+pub mod Fronts
+pub mod ReadOn
+pub mod Laws
+mod Cases

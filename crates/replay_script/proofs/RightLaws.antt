@@ -1,0 +1,327 @@
+-- Every script keeps its ranges and counts.
+use Rattle.std.proofs.Common.{◌≡◌, ℕ, zero, suc, ◌<◌, ◌≤◌, Bool, true, false, not, ◌&&◌, List, [], ◌∷◌, ◌++◌, length, reverse, map, Option, Some, None, is_some, unwrap_or, codes, bytes_eq, refl, sym, ap, subst, ◌∙◌, arith, nat_lt, nat_eq}
+use Rattle.std.specs.List.{AllByRecursion, starts_with, IsDistinct, list_any}
+use Rattle.std.specs.Fmt.{decimal}
+use Rattle.std.specs.Option.{option_or}
+use Rattle.std.proofs.lemmas.Bool.{and_parts, true≢false, eqb-true, ltb-true, not-true}
+use Rattle.std.proofs.lemmas.Option.{same_Some, none-some}
+use Rattle.std.proofs.lemmas.List.{length-reverse}
+use Rattle.std.proofs.lemmas.List.Sorted.{IsPermutation-reverse}
+use Rattle.std.proofs.lemmas.Map.Keys.{IsDistinct-IsPermutation}
+use Rattle.std.proofs.lemmas.Slice.Eq.{bytes_eq-Decides}
+use mathlib.Core.List.{reverse-cons}
+use Rattle.page_model.specs.declared.format.Format.{Format}
+use Rattle.plain_words.proofs.Laws.{or_parts}
+use Rattle.label_sets.specs.Lists.{when_true}
+use Rattle.plain_words.specs.Places.{is_visible_word, is_port}
+use Rattle.replay_script.specs.declared.header.Header.{Header}
+use Rattle.replay_script.specs.declared.script.ScriptTarget.{ScriptTarget}
+use Rattle.replay_script.specs.declared.script.PageRecord.{PageRecord}
+use Rattle.bridge_ports.specs.Targets.{Scraped}
+use Rattle.replay_script.specs.declared.header.HeaderLine.{HeaderLine}
+use Rattle.replay_script.specs.declared.header.HeaderLine.TheVariants.{Keep, Tries, Limit, MaxPage, Cut, Rounds}
+use Rattle.replay_script.specs.HeaderLines.{place_of, row_of, is_in_row}
+use Rattle.replay_script.specs.ScriptParts.{TargetLine, Part, opening, header, target, page, scrape, post}
+use Rattle.replay_script.specs.ScriptContents.{number_at, written_number, header_number, header_of, target_of, new_target, with_scrape, targets_of, script_of}
+use Rattle.replay_script.specs.ScriptRules.{is_next_line, has_rounds, is_last_whole, is_target_line, has_target, same_names, is_named_before, most_targets, may_follow, may_end, AreInOrder}
+use Rattle.replay_script.proofs.ScriptTargets.{script_target}
+use Rattle.replay_script.specs.RightScripts.{IsRightHeader, IsRightTarget, IsRightScript, ScriptsAreRight}
+
+-- the record of a page
+abbrev page_of : ℕ → Format → List ℕ → PageRecord
+page_of at format body = record { at = at; format = format; body = body }
+
+-- ---- header lines
+
+-- the line of a place
+line_at : ℕ → HeaderLine
+line_at zero = Keep
+line_at (suc zero) = Keep
+line_at (suc (suc zero)) = Tries
+line_at (suc (suc (suc zero))) = Limit
+line_at (suc (suc (suc (suc zero)))) = MaxPage
+line_at (suc (suc (suc (suc (suc zero))))) = Cut
+line_at (suc (suc (suc (suc (suc (suc n)))))) = Rounds
+
+at_place : (line : HeaderLine) → line_at (place_of line) ≡ line
+unfolding line_at
+at_place Keep = refl
+at_place Tries = refl
+at_place Limit = refl
+at_place MaxPage = refl
+at_place Cut = refl
+at_place Rounds = refl
+
+-- a place is that of one line
+one_place : (a b : HeaderLine) → place_of a ≡ place_of b → a ≡ b
+one_place a b e = sym (at_place a) ∙ ap line_at e ∙ at_place b
+
+-- a number that stands among parts in order is in its range
+pub in_row : (line : HeaderLine) (parts : List Part) (n : ℕ) → AreInOrder parts → written_number parts line ≡ Some n → is_in_row (row_of line) n ≡ true
+unfolding may_follow
+in_row line [] n o e = absurd (none-some n e)
+in_row line (header other m ∷ earlier) n o e = go (nat_eq (place_of line) (place_of other)) refl (in_row line earlier n o.1)
+  where
+    go : (b : Bool) → nat_eq (place_of line) (place_of other) ≡ b → (written_number earlier line ≡ Some n → is_in_row (row_of line) n ≡ true) → is_in_row (row_of line) n ≡ true
+    go true same rest =
+        let first : Some m ≡ Some n = sym (ap (λ b. option_or (when_true b m) (written_number earlier line)) same) ∙ e in
+        let both = and_parts (is_next_line other earlier) (is_in_row (row_of other) m) o.0 in
+        ap (λ l. is_in_row (row_of l) n) (one_place line other (eqb-true (place_of line) (place_of other) same)) ∙ ap (is_in_row (row_of other)) (sym (same_Some m n first)) ∙ both.1
+    go false other_line rest = rest (sym (ap (λ b. option_or (when_true b m) (written_number earlier line)) other_line) ∙ e)
+in_row line (opening ∷ earlier) n o e = in_row line earlier n o.1 e
+in_row line (target t ∷ earlier) n o e = in_row line earlier n o.1 e
+in_row line (page at format body ∷ earlier) n o e = in_row line earlier n o.1 e
+in_row line (scrape at ending bytes ∷ earlier) n o e = absurd (true≢false (sym o.0))
+in_row line (post at ending bytes ∷ earlier) n o e = absurd (true≢false (sym o.0))
+
+-- a record under no target is none
+with_scrape_target : (reply : PageRecord) (ts : List ScriptTarget) → has_target (with_scrape reply ts) ≡ has_target ts
+with_scrape_target reply [] = refl
+with_scrape_target reply (t ∷ ts) = refl
+
+-- a part that is no header line changes no number
+or_some : (o p : Option ℕ) → is_some p ≡ true → is_some (option_or o p) ≡ true
+or_some (Some n) p e = refl
+or_some None p e = e
+
+-- above a target stand the rounds
+rounds_above : (parts : List Part) → AreInOrder parts → has_target (targets_of parts) ≡ true → has_rounds parts ≡ true
+unfolding may_follow
+rounds_above [] o e = absurd (true≢false (sym e))
+rounds_above (opening ∷ earlier) o e = rounds_above earlier o.1 e
+rounds_above (header other m ∷ earlier) o e = or_some (number_at Rounds (header other m)) (written_number earlier Rounds) (rounds_above earlier o.1 e)
+rounds_above (target t ∷ earlier) o e =
+    let a = and_parts (has_rounds earlier && is_last_whole (header_number earlier Rounds) (targets_of earlier) && nat_lt (length (targets_of earlier)) most_targets && is_target_line t) (not (is_named_before t (targets_of earlier))) o.0 in
+    let b = and_parts (has_rounds earlier && is_last_whole (header_number earlier Rounds) (targets_of earlier) && nat_lt (length (targets_of earlier)) most_targets) (is_target_line t) a.0 in
+    let c = and_parts (has_rounds earlier && is_last_whole (header_number earlier Rounds) (targets_of earlier)) (nat_lt (length (targets_of earlier)) most_targets) b.0 in
+    (and_parts (has_rounds earlier) (is_last_whole (header_number earlier Rounds) (targets_of earlier)) c.0).0
+rounds_above (page at format body ∷ earlier) o e = rounds_above earlier o.1 (sym (with_scrape_target (page_of at format body) (targets_of earlier)) ∙ e)
+rounds_above (scrape at ending bytes ∷ earlier) o e = absurd (true≢false (sym o.0))
+rounds_above (post at ending bytes ∷ earlier) o e = absurd (true≢false (sym o.0))
+
+-- the number of a line is in its range, where it stands there or has a default in range
+number_right : (line : HeaderLine) (parts : List Part) → AreInOrder parts → (written_number parts line ≡ None → is_in_row (row_of line) (unwrap_or (row_of line).default 0) ≡ true)
+    → is_in_row (row_of line) (header_number parts line) ≡ true
+number_right line parts o default = go (written_number parts line) refl
+  where
+    go : (found : Option ℕ) → written_number parts line ≡ found → is_in_row (row_of line) (header_number parts line) ≡ true
+    go (Some n) e = ap (λ f. is_in_row (row_of line) (unwrap_or f (unwrap_or (row_of line).default 0))) e ∙ in_row line parts n o e
+    go None e = ap (λ f. is_in_row (row_of line) (unwrap_or f (unwrap_or (row_of line).default 0))) e ∙ default e
+
+-- the header of parts that may end is right
+pub header_right : (parts : List Part) → AreInOrder parts → may_end parts ≡ true → IsRightHeader (header_of parts)
+unfolding header_of row_of may_end
+header_right parts o ends =
+    let some = rounds_above parts o (and_parts (has_target (targets_of parts)) (is_last_whole (header_number parts Rounds) (targets_of parts)) ends).0 in
+    record {
+      keep = number_right Keep parts o (λ _. refl);
+      tries = number_right Tries parts o (λ _. refl);
+      limit = number_right Limit parts o (λ _. refl);
+      max_page = number_right MaxPage parts o (λ _. refl);
+      cut = number_right Cut parts o (λ _. refl);
+      rounds = number_right Rounds parts o (λ none. absurd (true≢false (sym some ∙ ap is_some none)));
+    }
+
+-- ---- how many targets
+
+with_scrape_length : (reply : PageRecord) (ts : List ScriptTarget) → length (with_scrape reply ts) ≡ length ts
+with_scrape_length reply [] = refl
+with_scrape_length reply (t ∷ ts) = refl
+
+-- no more than there may be
+pub few_targets : (parts : List Part) → AreInOrder parts → length (targets_of parts) ≤ most_targets
+unfolding may_follow
+few_targets [] o = omega arith
+few_targets (opening ∷ earlier) o = few_targets earlier o.1
+few_targets (header line n ∷ earlier) o = few_targets earlier o.1
+few_targets (target t ∷ earlier) o =
+    let a = and_parts (has_rounds earlier && is_last_whole (header_number earlier Rounds) (targets_of earlier) && nat_lt (length (targets_of earlier)) most_targets && is_target_line t) (not (is_named_before t (targets_of earlier))) o.0 in
+    let b = and_parts (has_rounds earlier && is_last_whole (header_number earlier Rounds) (targets_of earlier) && nat_lt (length (targets_of earlier)) most_targets) (is_target_line t) a.0 in
+    let c = and_parts (has_rounds earlier && is_last_whole (header_number earlier Rounds) (targets_of earlier)) (nat_lt (length (targets_of earlier)) most_targets) b.0 in
+    let less : length (targets_of earlier) < most_targets = ltb-true (length (targets_of earlier)) most_targets c.1 in
+    omega (arith, less)
+few_targets (page at format body ∷ earlier) o = omega (arith, few_targets earlier o.1, with_scrape_length (page_of at format body) (targets_of earlier))
+few_targets (scrape at ending bytes ∷ earlier) o = absurd (true≢false (sym o.0))
+few_targets (post at ending bytes ∷ earlier) o = absurd (true≢false (sym o.0))
+
+-- ---- what each target keeps
+
+-- a target's words are right
+record IsSound (t : ScriptTarget) : Type 0 where
+  instance : t.target.instance ≡ t.target.address.host ++ (codes ":" ++ decimal t.target.address.port)
+  job : is_visible_word 256 t.target.job ≡ true
+  host : is_visible_word 256 t.target.address.host ≡ true
+  port : is_port t.target.address.port ≡ true
+  path : is_visible_word 256 t.target.address.path ≡ true
+
+-- no target stands above a header line
+no_target_yet : (line : HeaderLine) (earlier : List Part) → is_next_line line earlier ≡ true → AreInOrder earlier → targets_of earlier ≡ []
+unfolding may_follow
+no_target_yet line [] next o = refl
+no_target_yet line (opening ∷ []) next o = refl
+no_target_yet line (opening ∷ p ∷ earlier) next o = absurd (true≢false (sym o.0))
+no_target_yet line (header other m ∷ earlier) next o = no_target_yet other earlier (and_parts (is_next_line other earlier) (is_in_row (row_of other) m) o.0).0 o.1
+no_target_yet line (target t ∷ earlier) next o = absurd (true≢false (sym next))
+no_target_yet line (page at format body ∷ earlier) next o = absurd (true≢false (sym next))
+no_target_yet line (scrape at ending bytes ∷ earlier) next o = absurd (true≢false (sym next))
+no_target_yet line (post at ending bytes ∷ earlier) next o = absurd (true≢false (sym next))
+
+-- a new target is sound
+new_sound : (t : TargetLine) → is_target_line t ≡ true → IsSound (new_target t)
+new_sound t e =
+    let a = and_parts (is_visible_word 256 t.job && is_visible_word 256 t.host && is_port t.port && is_visible_word 256 t.path) (starts_with nat_eq t.path (codes "/")) e in
+    let b = and_parts (is_visible_word 256 t.job && is_visible_word 256 t.host && is_port t.port) (is_visible_word 256 t.path) a.0 in
+    let c = and_parts (is_visible_word 256 t.job && is_visible_word 256 t.host) (is_port t.port) b.0 in
+    let d = and_parts (is_visible_word 256 t.job) (is_visible_word 256 t.host) c.0 in
+    record { instance = refl; job = d.0; host = d.1; port = c.1; path = b.1 }
+
+sound_scrape : (reply : PageRecord) (ts : List ScriptTarget) → AllByRecursion IsSound ts → AllByRecursion IsSound (with_scrape reply ts)
+sound_scrape reply [] all = tt
+sound_scrape reply (t ∷ ts) all = let h = all.0 in (record { instance = h.instance; job = h.job; host = h.host; port = h.port; path = h.path }, all.1)
+
+-- the parts of what a target line needs
+record TargetNeeds (earlier : List Part) (t : TargetLine) : Type 0 where
+  rounds : has_rounds earlier ≡ true
+  whole : is_last_whole (header_number earlier Rounds) (targets_of earlier) ≡ true
+  few : nat_lt (length (targets_of earlier)) most_targets ≡ true
+  words : is_target_line t ≡ true
+  new : not (is_named_before t (targets_of earlier)) ≡ true
+
+needs : (earlier : List Part) (t : TargetLine) → may_follow earlier (target t) ≡ true → TargetNeeds earlier t
+unfolding may_follow
+needs earlier t e =
+    let a = and_parts (has_rounds earlier && is_last_whole (header_number earlier Rounds) (targets_of earlier) && nat_lt (length (targets_of earlier)) most_targets && is_target_line t) (not (is_named_before t (targets_of earlier))) e in
+    let b = and_parts (has_rounds earlier && is_last_whole (header_number earlier Rounds) (targets_of earlier) && nat_lt (length (targets_of earlier)) most_targets) (is_target_line t) a.0 in
+    let c = and_parts (has_rounds earlier && is_last_whole (header_number earlier Rounds) (targets_of earlier)) (nat_lt (length (targets_of earlier)) most_targets) b.0 in
+    let d = and_parts (has_rounds earlier) (is_last_whole (header_number earlier Rounds) (targets_of earlier)) c.0 in
+    record { rounds = d.0; whole = d.1; few = c.1; words = b.1; new = a.1 }
+
+-- all targets are sound
+sound_targets : (parts : List Part) → AreInOrder parts → AllByRecursion IsSound (targets_of parts)
+unfolding may_follow
+sound_targets [] o = tt
+sound_targets (opening ∷ earlier) o = sound_targets earlier o.1
+sound_targets (header line n ∷ earlier) o =
+    let none = no_target_yet line earlier (and_parts (is_next_line line earlier) (is_in_row (row_of line) n) o.0).0 o.1 in
+    subst (AllByRecursion IsSound) (sym none) tt
+sound_targets (target t ∷ earlier) o = (new_sound t (needs earlier t o.0).words, sound_targets earlier o.1)
+sound_targets (page at format body ∷ earlier) o = sound_scrape (page_of at format body) (targets_of earlier) (sound_targets earlier o.1)
+sound_targets (scrape at ending bytes ∷ earlier) o = absurd (true≢false (sym o.0))
+sound_targets (post at ending bytes ∷ earlier) o = absurd (true≢false (sym o.0))
+
+-- a target with one scrape for each round
+abbrev IsWhole : ℕ → ScriptTarget → Type 0
+IsWhole rounds t = length t.scrapes ≡ rounds
+
+-- all but the last
+abbrev closed_targets : List ScriptTarget → List ScriptTarget
+closed_targets [] = []
+closed_targets (last ∷ others) = others
+
+-- where the last target is whole too, all are
+all_whole : (rounds : ℕ) (ts : List ScriptTarget) → is_last_whole rounds ts ≡ true → AllByRecursion (IsWhole rounds) (closed_targets ts) → AllByRecursion (IsWhole rounds) ts
+all_whole rounds [] last others = tt
+all_whole rounds (t ∷ ts) last others = (eqb-true (length t.scrapes) rounds last, others)
+
+closed_scrape : (rounds : ℕ) (reply : PageRecord) (ts : List ScriptTarget) → AllByRecursion (IsWhole rounds) (closed_targets ts) → AllByRecursion (IsWhole rounds) (closed_targets (with_scrape reply ts))
+closed_scrape rounds reply [] all = tt
+closed_scrape rounds reply (t ∷ ts) all = all
+
+-- all targets but the last are whole
+closed_whole : (parts : List Part) → AreInOrder parts → AllByRecursion (IsWhole (header_number parts Rounds)) (closed_targets (targets_of parts))
+unfolding may_follow
+closed_whole [] o = tt
+closed_whole (opening ∷ earlier) o = closed_whole earlier o.1
+closed_whole (header line n ∷ earlier) o =
+    let none = no_target_yet line earlier (and_parts (is_next_line line earlier) (is_in_row (row_of line) n) o.0).0 o.1 in
+    subst (λ ts. AllByRecursion (IsWhole (header_number (header line n ∷ earlier) Rounds)) (closed_targets ts)) (sym none) tt
+closed_whole (target t ∷ earlier) o = all_whole (header_number earlier Rounds) (targets_of earlier) (needs earlier t o.0).whole (closed_whole earlier o.1)
+closed_whole (page at format body ∷ earlier) o = closed_scrape (header_number earlier Rounds) (page_of at format body) (targets_of earlier) (closed_whole earlier o.1)
+closed_whole (scrape at ending bytes ∷ earlier) o = absurd (true≢false (sym o.0))
+closed_whole (post at ending bytes ∷ earlier) o = absurd (true≢false (sym o.0))
+
+-- sound and whole targets are right
+right_targets : (h : Header) (ts : List ScriptTarget) → AllByRecursion IsSound ts → AllByRecursion (IsWhole h.rounds) ts → AllByRecursion (IsRightTarget h) ts
+right_targets h [] sound whole = tt
+right_targets h (t ∷ ts) sound whole =
+    let s = sound.0 in (record { scraped = script_target (t.target) s.instance s.job s.host s.port; job = s.job; host = s.host; port = s.port; path = s.path; scrapes = whole.0 }, right_targets h ts sound.1 whole.1)
+
+-- what holds of all holds of them the other way round
+all_append : {A : Type 0} (P : A → Type 0) (xs ys : List A) → AllByRecursion P xs → AllByRecursion P ys → AllByRecursion P (xs ++ ys)
+all_append P [] ys a b = b
+all_append P (x ∷ xs) ys a b = (a.0, all_append P xs ys a.1 b)
+
+all_reverse : {A : Type 0} (P : A → Type 0) (xs : List A) → AllByRecursion P xs → AllByRecursion P (reverse xs)
+all_reverse P [] all = tt
+all_reverse P (x ∷ xs) all = subst (AllByRecursion P) (sym (reverse-cons x xs)) (all_append P (reverse xs) (x ∷ []) (all_reverse P xs all.1) (all.0, tt))
+
+-- ---- names
+
+-- the target of a script's target
+abbrev target_in : ScriptTarget → Scraped
+target_in t = t.target
+
+bytes_flip : (a b : List ℕ) → bytes_eq a b ≡ bytes_eq b a
+bytes_flip a b = go (bytes_eq a b) (bytes_eq b a) refl refl
+  where
+    go : (x y : Bool) → bytes_eq a b ≡ x → bytes_eq b a ≡ y → bytes_eq a b ≡ bytes_eq b a
+    go true y e f = e ∙ sym ((bytes_eq-Decides b a).1 (sym ((bytes_eq-Decides a b).0 e)))
+    go false true e f = (bytes_eq-Decides a b).1 (sym ((bytes_eq-Decides b a).0 f)) ∙ sym f
+    go false false e f = e ∙ sym f
+
+names_flip : (a b : Scraped) → same_names a b ≡ same_names b a
+names_flip a b = ap (λ x. x && bytes_eq a.instance b.instance) (bytes_flip a.job b.job) ∙ ap (λ x. bytes_eq b.job a.job && x) (bytes_flip a.instance b.instance)
+
+-- none of the targets has the new one's names
+none_named : (new : Scraped) (ts : List ScriptTarget) → list_any (λ (other : ScriptTarget). same_names new other.target) ts ≡ false → AllByRecursion (λ y. same_names new y ≡ false) (map target_in ts)
+none_named new [] e = tt
+none_named new (t ∷ ts) e = let both = or_parts (same_names new t.target) (list_any (λ (other : ScriptTarget). same_names new other.target) ts) e in (both.0, none_named new ts both.1)
+
+scrape_names : (reply : PageRecord) (ts : List ScriptTarget) → map target_in (with_scrape reply ts) ≡ map target_in ts
+scrape_names reply [] = refl
+scrape_names reply (t ∷ ts) = refl
+
+-- no two targets have one job and one instance
+distinct_names : (parts : List Part) → AreInOrder parts → IsDistinct same_names (map target_in (targets_of parts))
+unfolding IsDistinct may_follow
+distinct_names [] o = tt
+distinct_names (opening ∷ earlier) o = distinct_names earlier o.1
+distinct_names (header line n ∷ earlier) o = distinct_names earlier o.1
+distinct_names (target t ∷ earlier) o = (none_named (target_of t) (targets_of earlier) (not-true _ (needs earlier t o.0).new), distinct_names earlier o.1)
+distinct_names (page at format body ∷ earlier) o = subst (IsDistinct same_names) (sym (scrape_names (page_of at format body) (targets_of earlier))) (distinct_names earlier o.1)
+distinct_names (scrape at ending bytes ∷ earlier) o = absurd (true≢false (sym o.0))
+distinct_names (post at ending bytes ∷ earlier) o = absurd (true≢false (sym o.0))
+
+map_append : (xs ys : List ScriptTarget) → map target_in (xs ++ ys) ≡ map target_in xs ++ map target_in ys
+map_append [] ys = refl
+map_append (x ∷ xs) ys = ap (λ t. target_in x ∷ t) (map_append xs ys)
+
+map_reverse : (xs : List ScriptTarget) → map target_in (reverse xs) ≡ reverse (map target_in xs)
+map_reverse [] = refl
+map_reverse (x ∷ xs) = ap (map target_in) (reverse-cons x xs) ∙ map_append (reverse xs) (x ∷ []) ∙ ap (λ t. t ++ target_in x ∷ []) (map_reverse xs) ∙ sym (reverse-cons (target_in x) (map target_in xs))
+
+-- ---- scripts
+
+-- some target is one at least
+some_length : (ts : List ScriptTarget) → has_target ts ≡ true → 1 ≤ length ts
+some_length [] e = absurd (true≢false (sym e))
+some_length (t ∷ ts) e = omega arith
+
+-- what parts say is right where a script may end behind them
+right_of_parts : (parts : List Part) → AreInOrder parts → may_end parts ≡ true → IsRightScript (script_of parts)
+unfolding header_of may_end
+right_of_parts parts o ends =
+    let both = and_parts (has_target (targets_of parts)) (is_last_whole (header_number parts Rounds) (targets_of parts)) ends in
+    let whole = all_whole (header_number parts Rounds) (targets_of parts) both.1 (closed_whole parts o) in
+    let names = IsDistinct-IsPermutation same_names names_flip (map target_in (targets_of parts)) (reverse (map target_in (targets_of parts))) (IsPermutation-reverse (map target_in (targets_of parts))) (distinct_names parts o) in
+    record {
+      header = header_right parts o ends;
+      some_target = omega (arith, some_length (targets_of parts) both.0, length-reverse (targets_of parts));
+      few_targets = omega (arith, few_targets parts o, length-reverse (targets_of parts));
+      targets = all_reverse (IsRightTarget (header_of parts)) (targets_of parts) (right_targets (header_of parts) (targets_of parts) (sound_targets parts o) whole);
+      names = subst (IsDistinct same_names) (sym (map_reverse (targets_of parts))) names;
+    }
+
+-- every script is right
+pub scripts_are_right : ScriptsAreRight
+scripts_are_right bytes script is = subst IsRightScript (sym is.says) (right_of_parts is.parts is.in_order is.ends)

@@ -1,0 +1,9 @@
+pub mod HeaderLines
+pub mod ScriptParts
+pub mod ScriptContents
+pub mod ScriptRules
+pub mod Scripts
+pub mod LineWords
+pub mod ScriptReading
+pub mod Progresses
+pub mod RightScripts

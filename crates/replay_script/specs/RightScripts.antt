@@ -1,0 +1,42 @@
+-- What every script keeps: the conditions of those who follow its targets.
+-- The bridge's own.
+use Rattle.std.specs.Prelude.{◌≡◌, ℕ, ◌≤◌, IsTrue, List, length, map}
+use Rattle.std.specs.List.{AllByRecursion, IsDistinct}
+use Rattle.std.specs.Int.{is_in_range}
+use Rattle.plain_words.specs.Places.{is_visible_word, is_port}
+use Rattle.bridge_ports.specs.Targets.{IsScraped}
+use Rattle.replay_script.specs.declared.header.Header.{Header}
+use Rattle.replay_script.specs.declared.script.ScriptTarget.{ScriptTarget}
+use Rattle.replay_script.specs.declared.script.Script.{Script}
+use Rattle.replay_script.specs.ScriptRules.{same_names, most_targets}
+use Rattle.replay_script.specs.Scripts.{IsScript}
+
+-- the numbers of a header are in their ranges
+pub record IsRightHeader (h : Header) : Type 0 where
+  pub keep : IsTrue (is_in_range 0 4 h.keep)
+  pub tries : IsTrue (is_in_range 1 8 h.tries)
+  pub limit : IsTrue (is_in_range 1 200000 h.limit)
+  pub max_page : IsTrue (is_in_range 1024 67108864 h.max_page)
+  pub cut : IsTrue (is_in_range 1 65536 h.cut)
+  pub rounds : IsTrue (is_in_range 1 1000000 h.rounds)
+
+-- a target of a script: what its type keeps, its words, and one scrape for each round
+pub record IsRightTarget (h : Header) (t : ScriptTarget) : Type 0 where
+  pub scraped : IsScraped t.target
+  pub job : IsTrue (is_visible_word 256 t.target.job)
+  pub host : IsTrue (is_visible_word 256 t.target.address.host)
+  pub port : IsTrue (is_port t.target.address.port)
+  pub path : IsTrue (is_visible_word 256 t.target.address.path)
+  pub scrapes : length t.scrapes ≡ h.rounds
+
+-- a right script: some targets, but not too many, no two with one job and one instance
+pub record IsRightScript (s : Script) : Type 0 where
+  pub header : IsRightHeader s.header
+  pub some_target : 1 ≤ length s.targets
+  pub few_targets : length s.targets ≤ most_targets
+  pub targets : AllByRecursion (IsRightTarget s.header) s.targets
+  pub names : IsDistinct same_names (map (λ (t : ScriptTarget). t.target) s.targets)
+
+-- every script is right
+abbrev pub ScriptsAreRight : Type 0
+ScriptsAreRight = (bytes : List ℕ) (script : Script) → IsScript bytes script → IsRightScript script

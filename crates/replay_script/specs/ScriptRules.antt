@@ -1,0 +1,76 @@
+-- Which part may stand behind which, and where a script may end.
+-- The bridge's own.
+use Rattle.std.specs.Prelude.{◌≡◌, ℕ, ◌^◌, Bool, true, false, not, ◌&&◌, ◌==◌, List, [], ◌∷◌, length, bytes_eq, is_some, nat_lt, nat_eq, codes, ⊤}
+use Rattle.std.specs.List.{list_any, starts_with}
+use Rattle.plain_words.specs.Places.{is_visible_word, is_port}
+use Rattle.bridge_ports.specs.Targets.{Scraped}
+use Rattle.replay_script.specs.declared.script.ScriptTarget.{ScriptTarget}
+use Rattle.replay_script.specs.declared.header.HeaderLine.{HeaderLine}
+use Rattle.replay_script.specs.declared.header.HeaderLine.TheVariants.{Rounds}
+use Rattle.replay_script.specs.HeaderLines.{place_of, row_of, is_in_row}
+use Rattle.replay_script.specs.ScriptParts.{TargetLine, Part, opening, header, target, page, scrape, post}
+use Rattle.replay_script.specs.ScriptContents.{header_number, written_number, target_of, targets_of}
+
+-- a header line stands behind the opening line or an earlier line of the header
+abbrev pub is_next_line : HeaderLine → List Part → Bool
+is_next_line line (opening ∷ earlier) = true
+is_next_line line (header other n ∷ earlier) = nat_lt (place_of other) (place_of line)
+is_next_line line _ = false
+
+-- the header is whole
+abbrev pub has_rounds : List Part → Bool
+has_rounds earlier = is_some (written_number earlier Rounds)
+
+-- the target has just one scrape for each round
+abbrev pub has_all_scrapes : ℕ → ScriptTarget → Bool
+has_all_scrapes rounds t = length t.scrapes == rounds
+
+-- the last target, where there is one, has all its scrapes
+abbrev pub is_last_whole : ℕ → List ScriptTarget → Bool
+is_last_whole rounds [] = true
+is_last_whole rounds (last ∷ others) = has_all_scrapes rounds last
+
+-- the words of a target line: a job, a place, and a path that begins with a slash
+abbrev pub is_target_line : TargetLine → Bool
+is_target_line t = is_visible_word 256 t.job && is_visible_word 256 t.host && is_port t.port && is_visible_word 256 t.path && starts_with nat_eq t.path (codes "/")
+
+-- two targets have one job and one instance
+abbrev pub same_names : Scraped → Scraped → Bool
+same_names a b = bytes_eq a.job b.job && bytes_eq a.instance b.instance
+
+-- some target has this job and this instance
+abbrev pub is_named_before : TargetLine → List ScriptTarget → Bool
+is_named_before t targets = list_any (λ (other : ScriptTarget). same_names (target_of t) other.target) targets
+
+-- a record's time and length are in their ranges
+abbrev pub is_record : ℕ → List ℕ → Bool
+is_record at bytes = nat_lt at (2 ^ 64) && nat_lt (length bytes) (2 ^ 32)
+
+-- some target stands above
+abbrev pub has_target : List ScriptTarget → Bool
+has_target [] = false
+has_target (last ∷ others) = true
+
+-- the most targets of a script
+abbrev pub most_targets : ℕ
+most_targets = 1
+
+-- the part may stand behind the earlier ones, of which the last comes first; records `scrape` and `post` never
+unfoldable pub may_follow : List Part → Part → Bool
+may_follow [] opening = true
+may_follow (p ∷ earlier) opening = false
+may_follow earlier (header line n) = is_next_line line earlier && is_in_row (row_of line) n
+may_follow earlier (target t) = has_rounds earlier && is_last_whole (header_number earlier Rounds) (targets_of earlier)
+    && nat_lt (length (targets_of earlier)) most_targets && is_target_line t && not (is_named_before t (targets_of earlier))
+may_follow earlier (page at format body) = has_target (targets_of earlier) && is_record at body
+may_follow earlier (scrape at ending bytes) = false
+may_follow earlier (post at ending bytes) = false
+
+-- a script may end behind these parts
+unfoldable pub may_end : List Part → Bool
+may_end earlier = has_target (targets_of earlier) && is_last_whole (header_number earlier Rounds) (targets_of earlier)
+
+-- each part may stand behind those before it
+abbrev pub AreInOrder : List Part → Type 0
+AreInOrder [] = ⊤
+AreInOrder (p ∷ earlier) = (may_follow earlier p ≡ true) × AreInOrder earlier

@@ -1,0 +1,34 @@
+//! The reader of scripts.
+ghost use Rattle.std.specs.Prelude.{◌≡◌, IfOk, IfErr};
+ghost use Rattle.replay_script.specs.Scripts.{IsScript};
+ghost use Rattle.replay_script.specs.Progresses.{IsFaultOf};
+
+use crate::counting::line_at;
+use crate::fault::ScriptFault;
+use crate::parts::part_at;
+use crate::progress::Progress;
+use crate::script::Script;
+use std::alloc::Global;
+
+/// The script of these bytes, or its first fault. Each record's bytes are copied once.
+pub fn read(alloc: Global, bytes: &[u8]) -> Result<Script, ScriptFault>
+    ensures script { IfOk result (IsScript bytes.now) }
+    ensures fault { IfErr result (IsFaultOf bytes.now) }
+{
+    let mut progress = Progress::new(alloc);
+    let mut rest = bytes;
+    while !rest.is_empty() {
+        let front = match part_at(rest) {
+            Some(front) => front,
+            None => return Err(ScriptFault::Line(line_at(bytes, rest))),
+        };
+        if !progress.take(alloc, &front.part)? {
+            return Err(ScriptFault::Line(line_at(bytes, rest)));
+        }
+        rest = front.rest;
+    }
+    match progress.finish(alloc)? {
+        Some(script) => Ok(script),
+        None => Err(ScriptFault::Line(line_at(bytes, rest))),
+    }
+}

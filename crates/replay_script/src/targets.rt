@@ -1,0 +1,54 @@
+//! The target of a target line.
+ghost use Rattle.std.specs.Prelude.{◌≡◌, ◌++◌, true, codes, IfOk};
+ghost use Rattle.std.specs.Fmt.{decimal};
+ghost use Rattle.replay_script.specs.ScriptRules as rules;
+ghost use Rattle.replay_script.specs.ScriptContents.{target_of};
+ghost use Rattle.replay_script.specs.Progresses.{words_found_as};
+
+use crate::parts::TargetWords;
+use bridge_ports::{Address, Target};
+use label_sets::{Bytes, Text};
+use plain_words::is_visible_word;
+use std::alloc::{AllocError, Global};
+
+/// The most bytes of a job, of a host and of a path.
+const MOST_WORD_BYTES: usize = 256;
+
+/// Whether the words are those of a target: a job, a host with a port, and a path that begins with a slash.
+pub(crate) fn is_target_line(words: &TargetWords<'_>) -> bool
+    ensures { result ≡ rules.is_target_line (words_found_as words.now) }
+{
+    is_visible_word(MOST_WORD_BYTES, words.job)
+        && is_visible_word(MOST_WORD_BYTES, words.host)
+        && words.port >= 1
+        && is_visible_word(MOST_WORD_BYTES, words.path)
+        && words.path.starts_with(b"/")
+}
+
+/// Host, colon and port.
+fn instance_of(alloc: Global, host: &[u8], port: u16) -> Result<Vec<u8>, AllocError>
+    ensures { IfOk result (λ text. text.items ≡ host.now ++ (codes ":" ++ decimal port)) }
+{
+    let mut digits = itoa::Buffer::new();
+    let mut text = Vec::new(alloc);
+    text.extend_from_slice(host)?;
+    text.extend_from_slice(b":")?;
+    text.extend_from_slice(digits.format(port).as_bytes())?;
+    Ok(text)
+}
+
+/// The target of a target line.
+pub(crate) fn target(alloc: Global, words: &TargetWords<'_>) -> Result<Target, AllocError>
+    requires { rules.is_target_line (words_found_as words.now) ≡ true }
+    ensures { IfOk result (λ t. t ≡ target_of (words_found_as words.now)) }
+{
+    let job = Text::from_utf8(alloc, words.job)?;
+    let instance = instance_of(alloc, words.host, words.port)?;
+    let instance = Text::from_utf8(alloc, instance.as_slice())?;
+    let address = Address {
+        host: Bytes::from_slice(alloc, words.host)?,
+        port: words.port,
+        path: Bytes::from_slice(alloc, words.path)?,
+    };
+    Ok(Target::new(job, instance, address, false))
+}

@@ -1,0 +1,61 @@
+use crate::{ScriptFault, read, scripts_are_right};
+use std::alloc::Global;
+
+const FALLS: &[u8] =
+    b"bridge-script 1\nkeep 1\nlimit 7\nrounds 2\ntarget j h:1 /metrics\npage 10 text 4\nx 1\n\npage 20 openmetrics 6\n# EOF\n\n";
+
+fn line(alloc: Global, script: &[u8]) -> Option<u64> {
+    match read(alloc, script) {
+        Err(ScriptFault::Line(line)) => Some(line),
+        _ => None,
+    }
+}
+
+#[test]
+fn one_script(rt: HostRuntime) {
+    let script = read(rt.alloc(), FALLS).expect(&rt, "a script");
+    assert_eq!(rt; script.header.keep, 1);
+    assert_eq!(rt; script.header.limit, 7);
+    assert_eq!(rt; script.header.rounds, 2);
+    assert_eq!(rt; script.targets.len(), 1);
+    let target = &script.targets.as_slice()[0];
+    assert!(rt; target.target.instance().as_bytes() == b"h:1".as_slice());
+    assert_eq!(rt; target.scrapes.len(), 2);
+    assert_eq!(rt; target.scrapes.as_slice()[1].at, 20);
+    assert!(rt; target.scrapes.as_slice()[1].body.as_slice() == b"# EOF\n".as_slice());
+    scripts_are_right();
+}
+
+#[test]
+fn refused_lines(rt: HostRuntime) {
+    let alloc = rt.alloc();
+    assert_eq!(rt; line(alloc, b""), Some(1));
+    assert_eq!(rt;
+        line(
+            alloc,
+            b"bridge-script 1\nrounds 1\ntarget j h:1 /m\npage 1 text 2\nx\n"
+        ),
+        Some(4)
+    );
+    assert_eq!(rt;
+        line(
+            alloc,
+            b"bridge-script 1\nrounds 1\ntarget j h:1 /m\nscrape 1 connect 0\n\n"
+        ),
+        Some(4)
+    );
+    assert_eq!(rt;
+        line(
+            alloc,
+            b"bridge-script 1\nrounds 1\ntarget j h:1 /m\npage 1 text 1\n\n\n"
+        ),
+        None
+    );
+    assert_eq!(rt;
+        line(
+            alloc,
+            b"bridge-script 1\nrounds 1\ntarget j h:1 /m\npage 1 text 1\n\n\ntarget k h:2 /m\n"
+        ),
+        Some(7)
+    );
+}
