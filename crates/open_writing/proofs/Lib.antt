@@ -1,0 +1,8 @@
+pub mod Escapes
+pub mod LineCounts
+pub mod Places
+pub mod Parts
+pub mod Lasts
+mod WriteCases
+mod FormCases
+mod WritableCase

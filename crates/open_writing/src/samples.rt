@@ -1,0 +1,75 @@
+//! Samples, each on a line of its own (OpenMetrics 1.0, "ABNF", sample).
+
+ghost use Rattle.std.specs.Prelude.{◌≡◌, ◌++◌, ◌∷◌, fold};
+ghost use Rattle.exact_decimal.specs.Literals.{number_text};
+ghost use Rattle.page_model.specs.SuffixNames.{suffix_bytes};
+ghost use Rattle.open_writing.specs.Pieces.{label_of, sample_line, samples_text};
+ghost use Rattle.open_writing.specs.Writing.{bare_sample, number_sample};
+
+use crate::labels::{Gap, emit_labels};
+use exact_decimal::Number;
+use label_sets::{LabelSet, Name};
+use page_model::Suffix;
+use text_emitter::Emitter;
+
+/// The name of samples: that of their family, and a suffix.
+#[derive(Clone, Copy)]
+pub(crate) struct SampleName<'a> {
+    pub(crate) family: &'a Name,
+    pub(crate) suffix: Suffix,
+}
+
+/// Emits a sample.
+#[tactic(auto, unfolding(crate::specs::Pieces::sample_line, crate::specs::Writing::sample_text))]
+pub(crate) fn emit_sample<E: Emitter>(
+    out: &mut E,
+    name: &SampleName<'_>,
+    labels: &LabelSet,
+    number: &Number,
+)
+    ensures { out.new ≡ fold E.push out.old
+        (sample_line (bare_sample (name.now.family.now ++ suffix_bytes name.now.suffix) labels.now number.now)) }
+{
+    out.put(name.family.as_bytes());
+    out.put(name.suffix.as_str().as_bytes());
+    emit_labels(out, labels.labels());
+    out.put(b" ");
+    out.put_open_number(number);
+    out.put(b"\n");
+}
+
+/// Emits the sample of a number, where there is one.
+#[tactic(auto, unfolding(crate::specs::Pieces::samples_text))]
+pub(crate) fn emit_option<E: Emitter>(
+    out: &mut E,
+    name: &SampleName<'_>,
+    labels: &LabelSet,
+    number: &Option<Number>,
+)
+    ensures { out.new ≡ fold E.push out.old
+        (samples_text (number_sample (name.now.family.now ++ suffix_bytes name.now.suffix) labels.now number.now)) }
+{
+    if let Some(number) = number {
+        emit_sample(out, name, labels, number);
+    }
+}
+
+/// Emits a sample that has one label more, whose value is a number.
+#[tactic(auto, unfolding(crate::specs::Pieces::sample_line, crate::specs::Writing::sample_text))]
+pub(crate) fn emit_placed<E: Emitter>(
+    out: &mut E,
+    name: &SampleName<'_>,
+    gap: &Gap<'_>,
+    place: &Number,
+    number: &Number,
+)
+    ensures { out.new ≡ fold E.push out.old (sample_line (bare_sample (name.now.family.now ++ suffix_bytes name.now.suffix)
+        (gap.now.front.now ++ label_of gap.now.name.now (number_text place.now) ∷ gap.now.back.now) number.now)) }
+{
+    out.put(name.family.as_bytes());
+    out.put(name.suffix.as_str().as_bytes());
+    gap.emit(out, place);
+    out.put(b" ");
+    out.put_open_number(number);
+    out.put(b"\n");
+}
