@@ -3,16 +3,25 @@
 //! library's readers and writers.
 #![tactic(auto)]
 
+mod kept;
 mod memory_sink;
 mod memory_source;
+mod settings;
 mod sink;
 mod source;
 pub mod std_edge;
+mod talk;
+mod target;
+mod wire;
 
 pub use memory_sink::MemorySink;
 pub use memory_source::{MemorySource, SureSource};
+pub use settings::Settings;
 pub use sink::Sink;
 pub use source::Source;
+pub use talk::{Address, End, MemoryReply, Place, Stage, Talk};
+pub use target::Target;
+pub use wire::Wire;
 
 /// A call on the outside failed; its count of faults tells so.
 #[derive(Clone, Copy, Debug, PartialEq, Eq)]
