@@ -2,3 +2,10 @@
 #![tactic(auto)]
 
 pub mod gone_laws;
+mod keys;
+mod series_gone;
+
+pub use series_gone::vanished;
+
+#[cfg(test)]
+mod tests;

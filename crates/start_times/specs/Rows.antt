@@ -61,6 +61,10 @@ pub record Tracks (t : Tracking) (k : Tracked) (past : List Scrape) : Type 0 whe
   pub rows : (key : SeriesKey) → lookup (key_eq key) k.rows ≡ kept_row t key past
   pub once : IsDistinct key_eq (map (λ e. e.0) k.rows)
 
+-- the start that is kept of a series
+abbrev pub kept_start : List (SeriesKey × Row) → SeriesKey → Option ℕ
+kept_start rows key = option_map (λ (row : Row). row.start) (lookup (key_eq key) rows)
+
 -- how many readings a page has
 abbrev pub reading_count : Page → ℕ
 reading_count page = length (all_readings page)

@@ -2,9 +2,16 @@
 //! history.
 #![tactic(auto)]
 
+mod entries;
+mod falls;
 mod row;
+mod sighting;
 pub mod start_laws;
 mod tracker;
+mod values;
 
 pub use row::{Last, Row, Starts};
 pub use tracker::Tracker;
+
+#[cfg(test)]
+mod tests;
