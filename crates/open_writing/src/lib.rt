@@ -27,7 +27,7 @@ pub fn write(page: &Page, out: &mut Vec<u8>) -> Result<(), Memory>
     ensures ok { OnOk result (out.new.items ≡ out.old.items ++ written_text page.now) }
     ensures err { OnErr result (out.new.items ≡ out.old.items) }
 {
-    text_emitter::write(&FamiliesText(&page.families), out)
+    text_emitter::write(&FamiliesText(page.families()), out)
 }
 
 /// The page of families, with as many samples as [`write`] writes sample lines for them.

@@ -22,7 +22,7 @@ pub(crate) fn keys_of(alloc: Global, page: &Page) -> Result<List<SeriesKey>, Mem
     ensures { IfOk result (λ keys. keys ≡ presence.keys_of page.now) }
 {
     let mut keys = Vec::new(alloc);
-    for family in page.families.as_slice() {
+    for family in page.families().as_slice() {
         put_keys(&mut keys, family.readings.as_slice())?;
     }
     List::from_vec(keys)

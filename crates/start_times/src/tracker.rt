@@ -74,7 +74,7 @@ impl Tracker {
     {
         let mut places = SeriesPlaces::of(alloc, self.keys.copy()?);
         let mut seen = nothing(alloc, self.rows.len())?;
-        let families = page.families.as_slice();
+        let families = page.families().as_slice();
         see_families(alloc, moment, &self.rows, &mut places, &mut seen, families)?;
         let found = seen.found.as_slice();
         keep_others(self.keep, &self.keys, &self.rows, found, &mut seen.entries)?;
