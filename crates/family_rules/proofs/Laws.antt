@@ -1,2 +1,3 @@
 -- What other crates may use of this crate's proofs.
-pub use Rattle.family_rules.proofs.Values.{IsPlain, IsQuantiles, IsValueOf, HaveValuesOf, HasRisingBuckets, page_values}
+pub use Rattle.family_rules.proofs.Values.{IsPlain, IsQuantiles, HaveValuesOf, HasRisingBuckets}
+pub use Rattle.family_rules.proofs.RightValues.{HaveKindValues, right_values}

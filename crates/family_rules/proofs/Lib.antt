@@ -16,4 +16,5 @@ pub mod Built
 pub mod Complete
 pub mod Values
 pub mod PageOfLines
+pub mod RightValues
 pub mod Laws

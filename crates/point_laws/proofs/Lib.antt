@@ -1,2 +1,1 @@
-mod TextPages
 mod PointLaws

@@ -1,5 +1,5 @@
--- Each reading of a text page that has no fault becomes a point.
-use Rattle.std.proofs.Common.{◌≡◌, ℕ, suc, Bool, true, false, ◌&&◌, List, [], ◌∷◌, length, map, filter_map, reverse, Option, Some, None, option_map, is_some, refl, sym, ap, subst, ◌∙◌, All}
+-- Each reading of a right page becomes a point, but for those of gauge histograms.
+use Rattle.std.proofs.Common.{◌≡◌, ℕ, suc, true, false, ◌&&◌, List, [], ◌∷◌, length, map, filter_map, Option, Some, None, option_map, is_some, refl, ap, ◌∙◌}
 use Rattle.std.specs.Prelude.{nat_le}
 use Rattle.std.specs.List.{last_or, cons_option, AllByRecursion}
 use Rattle.std.specs.Option.{option_map_or}
@@ -11,33 +11,23 @@ use Rattle.label_sets.specs.Lists.{some_passes}
 use Rattle.exact_decimal.specs.declared.number.Number.{Number}
 use Rattle.exact_decimal.specs.declared.number.Number.TheVariants.{Finite, Up, Down, NotANumber}
 use Rattle.exact_decimal.specs.Order.{less, is_finite}
-use Rattle.page_lines.specs.Lines.{lines_of, ends_clean}
-use Rattle.page_model.specs.declared.format.Format.{Format}
-use Rattle.page_model.specs.declared.format.Format.TheVariants.{Text}
-use Rattle.page_model.specs.declared.item.Item.{Item}
 use Rattle.page_model.specs.declared.page.Bucket.{Bucket}
 use Rattle.page_model.specs.declared.page.Reading.{Reading}
 use Rattle.page_model.specs.declared.page.Family.{Family}
 use Rattle.page_model.specs.declared.page.Page.{Page}
 use Rattle.page_model.specs.declared.page.Value.{Value}
 use Rattle.page_model.specs.declared.page.Value.TheVariants as values
-use Rattle.page_model.specs.Written.{Setting}
-use Rattle.page_model.specs.Owners.{Owned, owned_lines}
 use Rattle.page_model.specs.Rules.{is_bound, is_up}
-use Rattle.page_model.specs.Faults.{Line, end_fault}
-use Rattle.page_model.specs.Readings.{family_of, families_of, page_of}
-use Rattle.page_model.specs.Pages.{AreLines, AreFaultless, items_of}
-use Rattle.page_model.proofs.Laws.{kind_of_page}
+use Rattle.page_model.specs.Pages.{IsRightPage}
 use Rattle.sample_groups.proofs.Laws.{AreRising, RiseToUp}
-use Rattle.family_rules.proofs.Laws.{IsPlain, IsQuantiles, HasRisingBuckets, HaveValuesOf, page_values}
+use Rattle.family_rules.proofs.Laws.{IsPlain, IsQuantiles, HasRisingBuckets, HaveValuesOf, HaveKindValues, right_values}
 use Rattle.histogram_layout.specs.Layouts.{may_follow, are_cumulative}
 use Rattle.otlp_tree.specs.declared.tree.Metric.{Metric}
 use Rattle.otlp_tree.specs.declared.tree.Shape.{Shape}
 use Rattle.otlp_tree.specs.declared.tree.Shape.TheVariants as shapes
 use Rattle.target_core.specs.Points.{start_at, point_of, number_in, cumulative_layout, histogram_in, summary_in, number_point, histogram_point, summary_point}
 use Rattle.target_core.specs.Trees.{some_of, shape_of, metric_of}
-use Rattle.point_laws.specs.PageLaws.{points_in, points_of_family, TextPagesLoseNothing}
-use Rattle.point_laws.proofs.TextPages.{has_word, IsSpelled, spelled_items, family_has_word, free_lines}
+use Rattle.point_laws.specs.PageLaws.{points_in, points_of_family, points_due, EachReadingHasAPoint}
 
 -- ---- buckets that rise to `+Inf` are cumulative
 
@@ -85,15 +75,6 @@ summary_is (values.Plain n) h = absurd h
 summary_is (values.Buckets buckets sum) h = absurd h
 summary_is (values.Quantiles list count sum) h = refl
 
--- ---- the kinds and the items of a page
-
-page_words : (st : Setting) (earlier : List Item) → AllByRecursion IsSpelled earlier → AreFaultless st earlier → (family : List ℕ) → has_word (family_of st (reverse (owned_lines st.format earlier)) family).kind ≡ true
-unfolding family_of
-page_words st earlier spelled free family = ap has_word (kind_of_page st earlier family free) ∙ family_has_word st.format earlier family spelled
-
-spelled_of : (f : Format) → f ≡ Text → (pieces : List (List ℕ)) (ls : List Line) → AreLines f pieces ls → AllByRecursion IsSpelled (items_of f ls)
-spelled_of f text pieces ls are = subst (λ g. AllByRecursion IsSpelled (items_of g ls)) (sym text) (spelled_items pieces ls [] (subst (λ g. AreLines g pieces ls) text are) tt)
-
 -- ---- the points of readings
 
 -- each of the readings has a value of this function
@@ -137,21 +118,25 @@ module _ (moment : ℕ) where
   summary_points [] h = tt
   summary_points (r ∷ rs) h = (map_some _ (summary_in r.value) (summary_is r.value h.0), summary_points rs h.1)
 
-  kind_points : (kind : Kind) (r : Reading) (rs : List Reading) → has_word kind ≡ true → HaveValuesOf kind (r ∷ rs) → option_map_or points_in (shape_of kind (map (point_of moment) (r ∷ rs))) 0 ≡ suc (length rs)
+  kind_points : (kind : Kind) (r : Reading) (rs : List Reading) → HaveValuesOf kind (r ∷ rs) → option_map_or points_in (shape_of kind (map (point_of moment) (r ∷ rs))) 0 ≡ points_due kind (suc (length rs))
   unfolding shape_of
-  kind_points Counter r rs word have = shape_points (point_of moment) number_point (λ ps. shapes.Sum ps true) (λ ps. refl) r rs (number_points (r ∷ rs) have)
-  kind_points Gauge r rs word have = shape_points (point_of moment) number_point shapes.Gauge (λ ps. refl) r rs (number_points (r ∷ rs) have)
-  kind_points Unknown r rs word have = shape_points (point_of moment) number_point shapes.Gauge (λ ps. refl) r rs (number_points (r ∷ rs) have)
-  kind_points Histogram r rs word have = shape_points (point_of moment) histogram_point shapes.Histogram (λ ps. refl) r rs (histogram_points (r ∷ rs) have)
-  kind_points Summary r rs word have = shape_points (point_of moment) summary_point shapes.Summary (λ ps. refl) r rs (summary_points (r ∷ rs) have)
-  kind_points GaugeHistogram r rs word have = absurd cc
-  kind_points StateSet r rs word have = absurd cc
-  kind_points Info r rs word have = absurd cc
+  kind_points Counter r rs have = shape_points (point_of moment) number_point (λ ps. shapes.Sum ps true) (λ ps. refl) r rs (number_points (r ∷ rs) have)
+  kind_points Gauge r rs have = shape_points (point_of moment) number_point shapes.Gauge (λ ps. refl) r rs (number_points (r ∷ rs) have)
+  kind_points Unknown r rs have = shape_points (point_of moment) number_point shapes.Gauge (λ ps. refl) r rs (number_points (r ∷ rs) have)
+  kind_points Histogram r rs have = shape_points (point_of moment) histogram_point shapes.Histogram (λ ps. refl) r rs (histogram_points (r ∷ rs) have)
+  kind_points Summary r rs have = shape_points (point_of moment) summary_point shapes.Summary (λ ps. refl) r rs (summary_points (r ∷ rs) have)
+  kind_points GaugeHistogram r rs have = refl
+  kind_points StateSet r rs have = shape_points (point_of moment) number_point (λ ps. shapes.Sum ps false) (λ ps. refl) r rs (number_points (r ∷ rs) have)
+  kind_points Info r rs have = shape_points (point_of moment) number_point (λ ps. shapes.Sum ps false) (λ ps. refl) r rs (number_points (r ∷ rs) have)
+
+  none_due : (kind : Kind) → 0 ≡ points_due kind 0
+  none_due GaugeHistogram = refl
+  none_due _ = refl
 
   -- the metric of readings has each of their points
-  metric_points : (kind : Kind) (help : List ℕ) (rs : List Reading) → has_word kind ≡ true → HaveValuesOf kind rs → option_map_or (λ (m : Metric). points_in m.shape) (metric_of moment kind help rs) 0 ≡ length rs
-  metric_points kind help [] word have = refl
-  metric_points kind help (r ∷ rs) word have = by (shape_of kind (map (point_of moment) (r ∷ rs))) ∙ kind_points kind r rs word have
+  metric_points : (kind : Kind) (help : List ℕ) (rs : List Reading) → HaveValuesOf kind rs → option_map_or (λ (m : Metric). points_in m.shape) (metric_of moment kind help rs) 0 ≡ points_due kind (length rs)
+  metric_points kind help [] have = none_due kind
+  metric_points kind help (r ∷ rs) have = by (shape_of kind (map (point_of moment) (r ∷ rs))) ∙ kind_points kind r rs have
     where
       by : (o : Option Shape) → option_map_or (λ (m : Metric). points_in m.shape) (option_map (λ shape. record { name = r.key.name; description = help; unit = r.key.unit; shape = shape }) o) 0 ≡ option_map_or points_in o 0
       by None = refl
@@ -159,26 +144,11 @@ module _ (moment : ℕ) where
 
   -- ---- the points of a page
 
-  families_points : (st : Setting) (lines : List Owned) (names : List (List ℕ)) → ((family : List ℕ) → has_word (family_of st lines family).kind ≡ true)
-      → ((family : List ℕ) → HaveValuesOf (family_of st lines family).kind (family_of st lines family).readings)
-      → AllByRecursion (λ (f : Family). points_of_family moment f ≡ length f.readings) (map (family_of st lines) names)
-  families_points st lines [] words have = tt
-  families_points st lines (name ∷ names) words have =
-      let f : Family = family_of st lines name in
-      (metric_points f.kind f.help f.readings (words name) (have name), families_points st lines names words have)
+  families_points : (fs : List Family) → HaveKindValues fs → AllByRecursion (λ (f : Family). points_of_family moment f ≡ points_due f.kind (length f.readings)) fs
+  families_points [] have = tt
+  families_points (f ∷ fs) have = (metric_points f.kind f.help f.readings have.0, families_points fs have.1)
 
-  page_points : (st : Setting) (earlier : List Item) (clean : Bool) → st.format ≡ Text → AllByRecursion IsSpelled earlier → AreFaultless st earlier → end_fault st earlier clean ≡ None
-      → All (λ (f : Family). points_of_family moment f ≡ length f.readings) (page_of st earlier).families
-  unfolding page_of
-  page_points st earlier clean text spelled free none =
-      let lines : List Owned = reverse (owned_lines st.format earlier) in
-      All-from_recursion (λ (f : Family). points_of_family moment f ≡ length f.readings) (map (family_of st lines) (families_of lines))
-      (families_points st lines (families_of lines) (page_words st earlier spelled free) (page_values st earlier clean free none))
-
-pub text_pages_lose_nothing : TextPagesLoseNothing
-text_pages_lose_nothing st bytes page text is = λ moment.
-    let items : List Item = items_of st.format is.lines in
-    let spelled : AllByRecursion IsSpelled items = spelled_of st.format text (lines_of bytes) is.lines is.are_lines in
-    let free = free_lines is.lines st [] 1 (ends_clean bytes) is.without_fault tt in
-    subst (λ (p : Page). All (λ (f : Family). points_of_family moment f ≡ length f.readings) p.families) (sym is.page_is)
-    (page_points moment st items (ends_clean bytes) text spelled free.0 free.1)
+-- each reading of a right page has a point
+pub right_pages_lose_nothing : (page : Page) → IsRightPage page → EachReadingHasAPoint page
+right_pages_lose_nothing page right = λ moment.
+    All-from_recursion (λ (f : Family). points_of_family moment f ≡ points_due f.kind (length f.readings)) page.families (families_points moment page.families (right_values page right))

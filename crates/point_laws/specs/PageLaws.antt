@@ -1,12 +1,11 @@
 -- Laws of what a page comes to. Each is proved, and a call of the crate stands for it.
 -- OpenTelemetry, "Prometheus and OpenMetrics Compatibility", "Prometheus Metric points to OTLP". That no reading is left out is the bridge's own.
-use Rattle.std.specs.Prelude.{◌≡◌, ℕ, List, length, All}
+use Rattle.std.specs.Prelude.{◌≡◌, ℕ, length, All}
 use Rattle.std.specs.Option.{option_map_or}
-use Rattle.page_model.specs.declared.format.Format.TheVariants.{Text}
+use Rattle.label_sets.specs.declared.kind.Kind.{Kind}
+use Rattle.label_sets.specs.declared.kind.Kind.TheVariants.{GaugeHistogram}
 use Rattle.page_model.specs.declared.page.Family.{Family}
 use Rattle.page_model.specs.declared.page.Page.{Page}
-use Rattle.page_model.specs.Written.{Setting}
-use Rattle.page_model.specs.Pages.{IsPageOf}
 use Rattle.otlp_tree.specs.declared.tree.Metric.{Metric}
 use Rattle.otlp_tree.specs.declared.tree.Shape.{Shape}
 use Rattle.otlp_tree.specs.declared.tree.Shape.TheVariants as shapes
@@ -23,10 +22,11 @@ points_in (shapes.Summary points) = length points
 abbrev pub points_of_family : ℕ → Family → ℕ
 points_of_family moment f = option_map_or (λ (m : Metric). points_in m.shape) (family_metric moment f) 0
 
--- whenever the page is scraped, each family's metric has as many points as the family has readings
-abbrev pub EachReadingHasAPoint : Page → Type 0
-EachReadingHasAPoint page = (moment : ℕ) → All (λ (f : Family). points_of_family moment f ≡ length f.readings) page.families
+-- how many points so many readings of a kind are to have: gauge histograms have none
+abbrev pub points_due : Kind → ℕ → ℕ
+points_due GaugeHistogram readings = 0
+points_due _ readings = readings
 
--- no reading of a text page that has no fault is left out: each family's metric has a point for each of its readings
-abbrev pub TextPagesLoseNothing : Type 0
-TextPagesLoseNothing = (st : Setting) (bytes : List ℕ) (page : Page) → st.format ≡ Text → IsPageOf st bytes page → EachReadingHasAPoint page
+-- whenever the page is scraped, each family's metric has as many points as the family has readings, but for gauge histograms
+abbrev pub EachReadingHasAPoint : Page → Type 0
+EachReadingHasAPoint page = (moment : ℕ) → All (λ (f : Family). points_of_family moment f ≡ points_due f.kind (length f.readings)) page.families

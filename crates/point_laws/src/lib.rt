@@ -1,11 +1,14 @@
-//! That the tree of a page loses none of its readings: a law of the definitions, carried by a call that
-//! does nothing.
+//! That the tree of a page loses none of its readings: a law of pages, carried by a call that changes nothing.
 #![tactic(auto)]
 
-ghost use Rattle.point_laws.specs.PageLaws.{TextPagesLoseNothing};
+ghost use Rattle.point_laws.specs.PageLaws.{EachReadingHasAPoint};
 
-/// Each reading of a text page that has no fault becomes a point: no histogram of such a page is left
-/// out for its buckets, and no value for its kind.
-pub fn points_of_pages()
-    ensures { TextPagesLoseNothing }
-{}
+use page_model::Page;
+
+/// Each reading of a page becomes a point, but for those of gauge histograms: no histogram is left out for its
+/// buckets, and no value for its kind. The families are asked for since they tell that the page is right.
+pub fn points_of_pages(page: &Page)
+    ensures { EachReadingHasAPoint page.now }
+{
+    let _families = page.families();
+}
