@@ -6,4 +6,5 @@ pub mod Laws
 pub mod Nothing
 pub mod RowLaws
 pub mod Sights
+pub mod Stays
 pub mod Zips

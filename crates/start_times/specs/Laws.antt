@@ -1,11 +1,12 @@
 -- Laws of starts and rows. Each is proved, and a call of the crate stands for it.
 -- The bridge's own.
-use Rattle.std.specs.Prelude.{◌≡◌, ℕ, ◌+◌, ◌*◌, ◌≤◌, true, false, List, [], ◌∷◌, length, take, unwrap_or, Some, option_and_then}
+use Rattle.std.specs.Prelude.{◌≡◌, ℕ, ◌+◌, ◌*◌, ◌≤◌, true, false, List, [], ◌∷◌, ◌++◌, length, take, unwrap_or, Some, option_and_then}
+use Rattle.std.specs.List.{AllByRecursion}
 use Rattle.label_sets.specs.declared.series_key.SeriesKey.{SeriesKey}
 use Rattle.page_model.specs.declared.page.Reading.{Reading}
 use Rattle.page_model.specs.Presence.{reading_at, is_present}
 use Rattle.start_times.specs.Scrapes.{Scrape}
-use Rattle.start_times.specs.Starts.{Tracking, has_start, start_time, created_at}
+use Rattle.start_times.specs.Starts.{Tracking, has_start, start_time, differs, created_at}
 use Rattle.start_times.specs.Rows.{Tracked, Tracks, row_of, kept_row, start_beside, older_row, most_readings}
 
 -- a row is all that a start needs of a past
@@ -29,3 +30,16 @@ StartWithoutPast = (t : Tracking) (moment : ℕ) (r : Reading) → start_time t 
 -- the rows are at most `keep + 1` times the most readings of a page
 abbrev pub RowsAreFew : Type 0
 RowsAreFew = (t : Tracking) (k : Tracked) (past : List Scrape) → Tracks t k past → length k.rows ≤ (t.keep + 1) * most_readings (take (t.keep + 1) past)
+
+-- no scrape of a past is later than a moment
+abbrev pub IsNotLater : ℕ → List Scrape → Type 0
+IsNotLater moment past = AllByRecursion (λ (s : Scrape). s.moment ≤ moment) past
+
+-- a start is never later than its point
+abbrev pub StartIsNotLater : Type 0
+StartIsNotLater = (t : Tracking) (moment : ℕ) (r : Reading) (past : List Scrape) → IsNotLater moment past → start_time t moment r past ≤ moment
+
+-- between two breaks all points of a series have one start: where no more than `keep` scrapes missed it and it differs in nothing from its reading before, it has the start of that one
+abbrev pub StartStays : Type 0
+StartStays = (t : Tracking) (moment : ℕ) (r old : Reading) (misses : List Scrape) (before : Scrape) (earlier : List Scrape) → AllByRecursion (λ (s : Scrape). is_present r.key s.page ≡ false) misses → length misses ≤ t.keep
+    → reading_at r.key before.page ≡ Some old → differs before.moment old moment r ≡ false → start_time t moment r (misses ++ before ∷ earlier) ≡ start_time t before.moment old earlier

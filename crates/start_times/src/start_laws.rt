@@ -5,6 +5,8 @@ ghost use Rattle.start_times.specs.Laws.{
   RowOfSight,
   RowOfMiss,
   StartWithoutPast,
+  StartIsNotLater,
+  StartStays,
   RowsAreFew,
 };
 
@@ -18,6 +20,16 @@ pub fn rows_stand_for_pasts()
 /// Without a past a series began when it was created, else with the scrape.
 pub fn start_without_past()
     ensures { StartWithoutPast }
+{}
+
+/// A start is never later than its point, where no earlier scrape is.
+pub fn start_is_not_later()
+    ensures { StartIsNotLater }
+{}
+
+/// Between two breaks all points of a series have one start.
+pub fn start_stays()
+    ensures { StartStays }
 {}
 
 /// The rows are at most `keep + 1` times the most readings of a page.
