@@ -59,14 +59,9 @@ pub(crate) fn head_of(front: &[u8], spans: &mut [HeaderSpan]) -> Head
     ensures within { IsFoundWithin front.now spans.new result }
     ensures head { (got : List ℕ) → front.now ≡ take 16384 got → IsHeadOf got front.now spans.new result }
 {
+    let full = front.len() == MOST_HEAD;
     match parse_head(front, spans) {
-        Head::More => {
-            if front.len() == MOST_HEAD {
-                Head::Bad
-            } else {
-                Head::More
-            }
-        }
+        Head::More => { if full { Head::Bad } else { Head::More } }
         Head::Bad => Head::Bad,
         Head::Found(head) => Head::Found(head),
     }
