@@ -21,7 +21,8 @@ use Rattle.http_talk.specs.declared.fault.Progress.{Progress}
 use Rattle.http_talk.specs.declared.fault.Progress.TheVariants as progresses
 use Rattle.http_talk.specs.declared.fault.ReplyFault.{ReplyFault}
 use Rattle.http_talk.specs.declared.fault.ReplyFault.TheVariants as faults
-use Rattle.http_talk.specs.Heads.{HeadRead, unfinished, missing, found, HeadIs, head_cause, format_of, framing_of, Framing, in_chunks, to_the_end, of_length}
+use Rattle.http_talk.specs.declared.seen.HeadSeen.TheVariants as seen
+use Rattle.http_talk.specs.Heads.{Shows, HeadRead, unfinished, missing, found, HeadIs, head_cause, format_of, framing_of, Framing, in_chunks, to_the_end, of_length}
 use Rattle.http_talk.specs.Chunks.{Chunks, no_chunks, with_bytes, is_certain, is_body_end, is_too_much, is_wrong}
 use Rattle.http_talk.specs.ChunkFeeding.{part_behind, IsChunkAnswer}
 use Rattle.http_talk.specs.HeadFacts.{IsHeadFault, IsStart, first_part, IsFirstPart}
@@ -413,6 +414,9 @@ takes_from r s new piece result is x = subst (λ q. TakesBytes q new piece resul
 pub nothing_fed : HeadIs [] unfinished
 unfolding httparse_on_literals
 nothing_fed = under_way [] 72 (codes "TTP/1.1 200\n\n") (record { blank = []; minor = 1; digits = codes "200"; reason = None; line_end = lf; fields = []; last = lf }) refl refl refl
+
+pub nothing_shown : Shows [] seen.More
+nothing_shown = record { head = unfinished; head_is = nothing_fed; what_is = refl }
 
 pub new_stands : (most : ℕ) (format : Format) (kept : List ℕ) (got : ℕ) → kept ≡ [] → Stands [] (reader most parts.Head format kept got None)
 new_stands most format kept got none = record { working = refl; keeps = (none, nothing_fed) }
