@@ -21,7 +21,7 @@ use Rattle.exact_decimal.specs.declared.number.Number.TheVariants.{Finite, Up, D
 use Rattle.exact_decimal.specs.Decimals.{decimal_cmp}
 use Rattle.exact_decimal.specs.Numbers.{number_of}
 use Rattle.exact_decimal.specs.Order.{less, same}
-use Rattle.exact_decimal.proofs.NumberOrder.{same_itself, less_trans}
+use Rattle.exact_decimal.proofs.Laws.{same_itself, less_trans}
 use Rattle.page_model.specs.declared.format.Format.TheVariants.{OpenMetrics}
 use Rattle.page_model.specs.declared.format.Treatment.TheVariants as treatments
 use Rattle.page_model.specs.declared.item.Sample.{Sample}

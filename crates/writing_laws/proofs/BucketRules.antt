@@ -10,7 +10,7 @@ use Rattle.label_sets.specs.declared.label_set.LabelSet.{LabelSet}
 use Rattle.label_sets.specs.Labels.{has_name}
 use Rattle.exact_decimal.specs.Numbers.{number_of}
 use Rattle.exact_decimal.specs.Order.{less}
-use Rattle.exact_decimal.proofs.NumberOrder.{whole_less}
+use Rattle.exact_decimal.proofs.Laws.{whole_less, whole_back}
 use Rattle.page_model.specs.declared.format.Format.TheVariants.{OpenMetrics}
 use Rattle.page_model.specs.declared.item.Sample.{Sample}
 use Rattle.page_model.specs.declared.page.Bucket.{Bucket}
@@ -20,7 +20,6 @@ use Rattle.page_model.specs.Rules.{has_suffix, is_bucket, is_count, is_whole, is
 use Rattle.open_writing.specs.Writing.{bucket_sample}
 use Rattle.open_writing.specs.Forms.{IsFormedNumber, is_next_bucket}
 use Rattle.writing_laws.proofs.GroupedSamples.{AreOf, AreOfOthers, own_buckets, written_threshold}
-use Rattle.writing_laws.proofs.WholeCounts.{whole_back}
 
 -- what stands behind the family's name is the suffix
 pub suffix_read : (family suffix : List ℕ) → suffix_of family (family ++ suffix) ≡ suffix

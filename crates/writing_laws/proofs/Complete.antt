@@ -14,7 +14,7 @@ use Rattle.exact_decimal.specs.declared.number.Number.{Number}
 use Rattle.exact_decimal.specs.declared.number.Number.TheVariants.{Finite, Up, Down, NotANumber}
 use Rattle.exact_decimal.specs.Numbers.{number_of}
 use Rattle.exact_decimal.specs.Order.{less, same}
-use Rattle.exact_decimal.proofs.NumberOrder.{same_itself}
+use Rattle.exact_decimal.proofs.Laws.{same_itself}
 use Rattle.page_model.specs.declared.format.Format.TheVariants.{OpenMetrics}
 use Rattle.page_model.specs.declared.format.Treatment.TheVariants as treatments
 use Rattle.page_model.specs.declared.item.Sample.{Sample}

@@ -8,7 +8,7 @@ use Rattle.std.specs.Str.{bytes_eq, is_utf8}
 use Rattle.std.specs.Cmp.Lexicographic.{bytes_decides}
 use Rattle.std.proofs.lemmas.Map.Text.{is_eq-slice_cmp}
 use Rattle.std.proofs.Math.Seq.{drop-append_seam}
-use Rattle.label_sets.proofs.Laws.{same_tests}
+use Rattle.label_sets.proofs.Laws.{same_tests, sorted_itself, sorted_ascending, distinct_before}
 use Rattle.std.proofs.lemmas.Bool.{and_parts, and_from, or_right, not-true}
 use Rattle.std.proofs.lemmas.Bool.Decides.{nat_tests}
 use Rattle.std.proofs.lemmas.List.{append-nil}
@@ -24,7 +24,6 @@ use Rattle.label_sets.specs.Names.{is_metric_name, is_metric_start, is_metric_ch
 use Rattle.label_sets.specs.Labels.{name_before, label_inserted, has_name, without_label}
 use Rattle.label_sets.specs.Sets.{by_name, IsLabelSet}
 use Rattle.label_sets.specs.Building.{same_name}
-use Rattle.label_sets.proofs.Order.{sorted_itself, sorted_ascending, distinct_before}
 use Rattle.exact_decimal.specs.declared.number.Number.{Number}
 use Rattle.exact_decimal.specs.declared.number.Number.TheVariants.{Finite}
 use Rattle.exact_decimal.specs.Tokens.{unsigned, has_minus, mantissa, whole_part, fraction_part, has_exponent, exponent_part, is_digits, is_real, is_infinity, is_nan_token, is_number_token}
@@ -32,7 +31,7 @@ use Rattle.exact_decimal.specs.Decimals.{IsNormal}
 use Rattle.exact_decimal.specs.Numbers.{number_of, number_or_nan}
 use Rattle.exact_decimal.specs.Order.{same, is_finite}
 use Rattle.exact_decimal.specs.Literals.{number_text}
-use Rattle.exact_decimal.proofs.Answered.{whole_value}
+use Rattle.exact_decimal.proofs.Laws.{whole_value}
 use Rattle.page_model.specs.declared.format.Format.TheVariants.{OpenMetrics}
 use Rattle.page_model.specs.declared.format.Treatment.TheVariants as treatments
 use Rattle.page_model.specs.declared.item.Sample.{Sample}

@@ -14,7 +14,7 @@ use Rattle.page_model.specs.declared.item.Sample.{Sample}
 use Rattle.page_model.specs.declared.page.Bucket.{Bucket}
 use Rattle.page_model.specs.Written.{Setting}
 use Rattle.page_model.specs.Rules.{is_open_metrics, is_bucket, sample_group, in_one_group, threshold, is_interleaved, buckets_of_group}
-use Rattle.page_model.proofs.Groups.{label_sets_decide}
+use Rattle.page_model.proofs.Laws.{label_sets_decide}
 use Rattle.open_writing.specs.Writing.{bucket_sample}
 use Rattle.open_writing.specs.Forms.{IsFormedNumber}
 use Rattle.writing_laws.proofs.Spelled.{number_text_read}

@@ -7,7 +7,6 @@ pub mod Blocks
 pub mod FamilyBlocks
 pub mod GroupedSamples
 pub mod BucketRules
-pub mod WholeCounts
 pub mod BlocksBack
 pub mod ReadingsBack
 pub mod ValuesBack

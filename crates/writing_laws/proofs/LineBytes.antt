@@ -14,7 +14,7 @@ use Rattle.label_sets.specs.Names.{is_metric_name, is_metric_start, is_metric_ch
 use Rattle.exact_decimal.specs.declared.number.Number.{Number}
 use Rattle.exact_decimal.specs.Tokens.{is_token_char}
 use Rattle.exact_decimal.specs.Literals.{number_text}
-use Rattle.exact_decimal.proofs.TokenChars.{token_passes}
+use Rattle.exact_decimal.proofs.Laws.{token_passes}
 use Rattle.page_lines.specs.Lines.{is_line_feed}
 use Rattle.page_model.specs.OpenItems.{kind_word}
 use Rattle.open_writing.specs.Writing.{escaped_char, escaped}

@@ -12,8 +12,7 @@ use Rattle.label_sets.specs.declared.label.Label.{Label}
 use Rattle.label_sets.specs.Names.{is_label_name}
 use Rattle.label_sets.specs.Labels.{has_value, label_set, labels_sorted, has_distinct_names}
 use Rattle.label_sets.specs.Sets.{IsLabelSet}
-use Rattle.label_sets.proofs.Order.{sorted_itself, distinct_before}
-use Rattle.label_sets.proofs.Repeats.{repeated_at-distinct}
+use Rattle.label_sets.proofs.Laws.{sorted_itself, distinct_before, repeated_at-distinct}
 use Rattle.exact_decimal.specs.declared.number.Number.{Number}
 use Rattle.exact_decimal.specs.Numbers.{number, number_or_nan, is_out_of_range}
 use Rattle.exact_decimal.specs.Literals.{number_text}

@@ -10,7 +10,7 @@ use Rattle.page_model.specs.declared.item.Sample.{Sample}
 use Rattle.page_model.specs.declared.page.Reading.{Reading}
 use Rattle.page_model.specs.Written.{Setting}
 use Rattle.page_model.specs.Readings.{reading_labels}
-use Rattle.page_model.proofs.Groups.{label_sets_decide}
+use Rattle.page_model.proofs.Laws.{label_sets_decide}
 
 -- the samples of one reading, of which there is one at least: they share these labels
 pub record Part : Type 0 where

@@ -14,8 +14,7 @@ use Rattle.exact_decimal.specs.declared.number.NumberFault.TheVariants as faults
 use Rattle.exact_decimal.specs.Tokens.{unsigned, has_minus, mantissa, whole_part, fraction_part, has_exponent, exponent_part, is_digits, is_real, is_infinity, is_nan_token, is_number_token}
 use Rattle.exact_decimal.specs.Numbers.{number_read}
 use Rattle.exact_decimal.specs.Literals.{number_text}
-use Rattle.exact_decimal.proofs.ReadBack.{read_back}
-use Rattle.exact_decimal.proofs.Answered.{not_a_number}
+use Rattle.exact_decimal.proofs.Laws.{read_back, not_a_number}
 use Rattle.page_model.specs.declared.item.Item.{Item}
 use Rattle.page_model.specs.declared.item.Item.TheVariants as items
 use Rattle.page_model.specs.declared.item.Sample.{Sample}

@@ -13,7 +13,7 @@ use Rattle.page_model.specs.Written.{Setting, open_setting, item_of}
 use Rattle.page_model.specs.Faults.{Line, Fault, own_fault, item_fault, line_fault, end_fault, lines_fault, with_line, with_lines, fault_from, fault_of}
 use Rattle.page_model.specs.Readings.{page_of}
 use Rattle.page_model.specs.Pages.{AreLines, items_of, IsItemOfLine, AreFaultless, IsPageOf}
-use Rattle.page_model.proofs.Prefixes.{fault_from-append}
+use Rattle.page_model.proofs.Laws.{fault_from-append}
 use Rattle.open_writing.specs.Writing.{item_text, line_text}
 use Rattle.writing_laws.proofs.Spelled.{IsWritableItem}
 use Rattle.writing_laws.proofs.LineRules.{HasText, HasLabelSet, written_line}

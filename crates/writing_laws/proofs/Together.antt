@@ -6,7 +6,7 @@ use Rattle.std.proofs.lemmas.Bool.{and_parts, not-true}
 use Rattle.label_sets.specs.declared.label_set.LabelSet.{LabelSet}
 use Rattle.label_sets.specs.Lists.{rest_while}
 use Rattle.label_sets.specs.Labels.{label_sets_eq}
-use Rattle.page_model.proofs.Groups.{label_sets_decide}
+use Rattle.page_model.proofs.Laws.{label_sets_decide}
 use Rattle.open_writing.specs.Forms.{stand_together}
 use Rattle.writing_laws.proofs.Turned.{turn, Each, all-map, turn-mapped, each-mapped, each-append, map-append}
 use Rattle.writing_laws.proofs.Fair.{or_none}

@@ -23,7 +23,7 @@ use Rattle.open_writing.specs.Writing.{bare_sample, number_sample, with_number, 
 use Rattle.open_writing.specs.Forms.{IsFormedNumber}
 use Rattle.writing_laws.proofs.GroupedSamples.{written_threshold}
 use Rattle.writing_laws.proofs.BucketRules.{suffix_read}
-use Rattle.writing_laws.proofs.WholeCounts.{whole_back}
+use Rattle.exact_decimal.proofs.Laws.{whole_back}
 
 -- the suffix of a written sample
 pub suffix_is : (family suffix other : List ℕ) (labels : LabelSet) (n : Number) → has_suffix family other (bare_sample (family ++ suffix) labels n) ≡ bytes_eq suffix other

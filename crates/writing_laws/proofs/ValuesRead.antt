@@ -27,7 +27,7 @@ use Rattle.page_model.specs.Readings.{value_with, either_value, buckets_of, plac
 use Rattle.open_writing.specs.Writing.{bare_sample, number_sample, with_number, bucket_sample, quantile_sample, total_samples, observations, value_samples}
 use Rattle.open_writing.specs.Forms.{IsFormedNumber, is_plain_value, is_u64_option, is_some_summary, IsFormedValue, IsFormedTime}
 use Rattle.writing_laws.proofs.Turned.{any-front}
-use Rattle.writing_laws.proofs.WholeCounts.{whole_back}
+use Rattle.exact_decimal.proofs.Laws.{whole_back}
 use Rattle.writing_laws.proofs.ValuesBack.{suffix_is, no_suffix, Lacks, not_found, none_kept, lacks_append, behind_back, before_back, number_lacks, counter_back, buckets_lack, AreFormed, buckets_back, skip, assoc, histogram_back, filter_append, either_none}
 use Rattle.writing_laws.proofs.Fair.{IsFairBucket, IsFairQuantile, fair_of, written_place}
 
