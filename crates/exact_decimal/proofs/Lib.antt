@@ -6,6 +6,7 @@ pub mod Values
 pub mod Runs
 pub mod Parts
 pub mod WholeNumbers
+pub mod WholeCounts
 pub mod SignedWholes
 pub mod Reading
 pub mod Answered

@@ -16,7 +16,7 @@ use Rattle.exact_decimal.specs.Decimals.{IsNormal}
 use Rattle.exact_decimal.specs.Literals.{sign_text, pointed, plain_text, difference_text, exponent_text, is_plain, size_text, decimal_text, number_text}
 use Rattle.exact_decimal.specs.Numbers.{number_of}
 use Rattle.exact_decimal.specs.Tokens.{one_form, without_leading_zeros, trailing_zeros, without_trailing_zeros, significant_digits}
-use Rattle.exact_decimal.proofs.Answered.{whole_value}
+use Rattle.exact_decimal.proofs.Laws.{whole_value}
 use Rattle.page_model.specs.declared.format.Format.TheVariants.{OpenMetrics}
 use Rattle.page_model.specs.declared.format.Treatment.TheVariants.{Written}
 use Rattle.page_model.specs.declared.item.Item.{Item}

@@ -2,5 +2,4 @@ pub mod Writing
 pub mod FamilyKeys
 pub mod Forms
 pub mod OpenForms
-pub mod Laws
 pub mod Pieces

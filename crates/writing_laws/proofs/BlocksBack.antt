@@ -1,0 +1,142 @@
+-- Lines in blocks of distinct families: the families of a page, and what each of its lines says.
+use Rattle.std.proofs.Common.{◌≡◌, ℕ, Bool, true, false, not, cond, List, [], ◌∷◌, ◌++◌, map, filter, filter_map, Option, Some, None, refl, sym, ap, ◌∙◌}
+use Rattle.std.specs.Prelude.{⊤}
+use Rattle.std.specs.List.{flat_map, AllByRecursion, cons_option}
+use Rattle.std.specs.Str.{bytes_eq}
+use Rattle.std.specs.Cmp.Lexicographic.{bytes_decides}
+use Rattle.label_sets.specs.Lists.{first_of_each}
+use Rattle.page_model.specs.declared.item.Item.{Item}
+use Rattle.page_model.specs.Owners.{Owned, is_of}
+use Rattle.writing_laws.proofs.Blocks.{own, own_name}
+
+-- a family's name and its lines, of which there is one at least
+pub record Lines : Type 0 where
+  pub name : List ℕ
+  pub first : Item
+  pub others : List Item
+
+-- the lines of a family as the family owns them
+abbrev pub owned_of : Lines → List Owned
+owned_of b = own b.name (b.first ∷ b.others)
+
+-- the lines of families one behind the other
+abbrev pub lines_in : List Lines → List Owned
+lines_in bs = flat_map owned_of bs
+
+-- none of the families has this name
+abbrev pub Apart : List ℕ → List Lines → Type 0
+Apart name bs = AllByRecursion (λ (b : Lines). bytes_eq name b.name ≡ false) bs
+
+-- no two families have one name
+abbrev pub Distinct : List Lines → Type 0
+Distinct [] = ⊤
+Distinct (b ∷ bs) = Apart b.name bs × Distinct bs
+
+pub turned : (a b : List ℕ) → bytes_eq a b ≡ false → bytes_eq b a ≡ false
+turned a b e = go (bytes_eq b a) refl
+  where
+    go : (c : Bool) → bytes_eq b a ≡ c → bytes_eq b a ≡ false
+    go false f = f
+    go true f = absurd (let h : bytes_eq a b ≡ true = (bytes_decides a b).1 (sym ((bytes_decides b a).0 f)) in let g : false ≡ true = sym e ∙ h in cc)
+
+-- ---- names
+
+-- the names of lines
+abbrev names_of : List Owned → List (List ℕ)
+names_of os = map (λ (o : Owned). o.family) os
+
+filter_append : {A : Type 0} (p : A → Bool) (xs ys : List A) → filter p (xs ++ ys) ≡ filter p xs ++ filter p ys
+filter_append p [] ys = refl
+filter_append p (x ∷ xs) ys = by (p x) (filter_append p xs ys)
+  where
+    by : (b : Bool) → filter p (xs ++ ys) ≡ filter p xs ++ filter p ys → cond b (x ∷ filter p (xs ++ ys)) (filter p (xs ++ ys)) ≡ cond b (x ∷ filter p xs) (filter p xs) ++ filter p ys
+    by true ih = ap (λ zs. x ∷ zs) ih
+    by false ih = ih
+
+-- a name that is passed over twice is passed over once
+twice : (name : List ℕ) (ns : List (List ℕ)) → filter (λ n. not (bytes_eq name n)) (filter (λ n. not (bytes_eq name n)) ns) ≡ filter (λ n. not (bytes_eq name n)) ns
+twice name [] = refl
+twice name (n ∷ ns) = by (bytes_eq name n) refl (twice name ns)
+  where
+    by : (b : Bool) → bytes_eq name n ≡ b → filter (λ m. not (bytes_eq name m)) (filter (λ m. not (bytes_eq name m)) ns) ≡ filter (λ m. not (bytes_eq name m)) ns
+        → filter (λ m. not (bytes_eq name m)) (cond (not b) (n ∷ filter (λ m. not (bytes_eq name m)) ns) (filter (λ m. not (bytes_eq name m)) ns)) ≡ cond (not b) (n ∷ filter (λ m. not (bytes_eq name m)) ns) (filter (λ m. not (bytes_eq name m)) ns)
+    by true e ih = ih
+    by false e ih = rw e (ap (λ ms. n ∷ ms) ih)
+
+-- the names of one family's lines are one name, whatever follows
+one_name : (name : List ℕ) (first : Item) (others : List Item) (rest : List (List ℕ)) → first_of_each bytes_eq (names_of (own name (first ∷ others)) ++ rest) ≡ name ∷ filter (λ n. not (bytes_eq name n)) (first_of_each bytes_eq rest)
+one_name name first [] rest = refl
+one_name name first (item ∷ others) rest = ap (λ ns. name ∷ filter (λ n. not (bytes_eq name n)) ns) (one_name name item others rest)
+    ∙ ap (λ ns. name ∷ ns) (rw (own_name name) (twice name (first_of_each bytes_eq rest)))
+
+names_append : (os ps : List Owned) → names_of (os ++ ps) ≡ names_of os ++ names_of ps
+names_append [] ps = refl
+names_append (o ∷ os) ps = ap (λ ns. o.family ∷ ns) (names_append os ps)
+
+apart_kept : (name : List ℕ) (bs : List Lines) → Apart name bs → filter (λ n. not (bytes_eq name n)) (map (λ (b : Lines). b.name) bs) ≡ map (λ (b : Lines). b.name) bs
+apart_kept name [] a = refl
+apart_kept name (b ∷ bs) a = rw a.0 (ap (λ ns. b.name ∷ ns) (apart_kept name bs a.1))
+
+-- the families of the lines are those of the blocks
+pub names_back : (bs : List Lines) → Distinct bs → first_of_each bytes_eq (names_of (lines_in bs)) ≡ map (λ (b : Lines). b.name) bs
+names_back [] d = refl
+names_back (b ∷ bs) d =
+    ap (first_of_each bytes_eq) (names_append (owned_of b) (lines_in bs)) ∙ one_name b.name b.first b.others (names_of (lines_in bs))
+    ∙ ap (λ ns. b.name ∷ filter (λ n. not (bytes_eq b.name n)) ns) (names_back bs d.1) ∙ ap (λ ns. b.name ∷ ns) (apart_kept b.name bs d.0)
+
+-- ---- what the lines of one family say
+
+-- what a line says, where it is one of the family
+abbrev pub said_by : {B : Type 0} → List ℕ → (Item → Option B) → Owned → Option B
+said_by name h o = cond (is_of name o) (h o.item) None
+
+some_append : {A B : Type 0} (g : A → Option B) (xs ys : List A) → filter_map g (xs ++ ys) ≡ filter_map g xs ++ filter_map g ys
+some_append g [] ys = refl
+some_append g (x ∷ xs) ys = by (g x) (some_append g xs ys)
+  where
+    by : (o : Option _) → filter_map g (xs ++ ys) ≡ filter_map g xs ++ filter_map g ys → cons_option o (filter_map g (xs ++ ys)) ≡ cons_option o (filter_map g xs) ++ filter_map g ys
+    by None ih = ih
+    by (Some z) ih = ap (λ zs. z ∷ zs) ih
+
+own_said : {B : Type 0} (name : List ℕ) (h : Item → Option B) (is : List Item) → filter_map (said_by name h) (own name is) ≡ filter_map h is
+own_said name h [] = refl
+own_said name h (i ∷ is) = rw (own_name name) (ap (cons_option (h i)) (own_said name h is))
+
+other_said : {B : Type 0} (name other : List ℕ) (h : Item → Option B) (is : List Item) → bytes_eq other name ≡ false → filter_map (said_by name h) (own other is) ≡ []
+other_said name other h [] e = refl
+other_said name other h (i ∷ is) e = rw e (other_said name other h is e)
+
+none_said : {B : Type 0} (name : List ℕ) (h : Item → Option B) (bs : List Lines) → Apart name bs → filter_map (said_by name h) (lines_in bs) ≡ []
+none_said name h [] a = refl
+none_said name h (b ∷ bs) a = some_append (said_by name h) (owned_of b) (lines_in bs)
+    ∙ ap (λ zs. zs ++ filter_map (said_by name h) (lines_in bs)) (other_said name b.name h (b.first ∷ b.others) (turned name b.name a.0)) ∙ none_said name h bs a.1
+
+-- the block that stands among others
+pub record IsAmong (b : Lines) (bs : List Lines) : Type 0 where
+  pub before : List Lines
+  pub behind : List Lines
+  pub is : bs ≡ before ++ b ∷ behind
+  pub first : Apart b.name before
+  pub last : Apart b.name behind
+
+append_nil : {A : Type 0} (xs : List A) → xs ++ [] ≡ xs
+append_nil [] = refl
+append_nil (x ∷ xs) = ap (λ ys. x ∷ ys) (append_nil xs)
+
+lines_append : (bs cs : List Lines) → lines_in (bs ++ cs) ≡ lines_in bs ++ lines_in cs
+lines_append [] cs = refl
+lines_append (b ∷ bs) cs = ap (λ os. owned_of b ++ os) (lines_append bs cs) ∙ sym (assoc (owned_of b) (lines_in bs) (lines_in cs))
+  where
+    assoc : (xs ys zs : List Owned) → (xs ++ ys) ++ zs ≡ xs ++ (ys ++ zs)
+    assoc [] ys zs = refl
+    assoc (x ∷ xs) ys zs = ap (λ us. x ∷ us) (assoc xs ys zs)
+
+-- all that the lines of a page say of one family is what its own lines say
+pub said_back : {B : Type 0} (h : Item → Option B) (b : Lines) (bs : List Lines) → IsAmong b bs → filter_map (said_by b.name h) (lines_in bs) ≡ filter_map h (b.first ∷ b.others)
+said_back h b bs among =
+    ap (λ cs. filter_map (said_by b.name h) (lines_in cs)) among.is ∙ ap (filter_map (said_by b.name h)) (lines_append among.before (b ∷ among.behind))
+    ∙ some_append (said_by b.name h) (lines_in among.before) (lines_in (b ∷ among.behind))
+    ∙ ap (λ zs. zs ++ filter_map (said_by b.name h) (lines_in (b ∷ among.behind))) (none_said b.name h among.before among.first)
+    ∙ some_append (said_by b.name h) (owned_of b) (lines_in among.behind)
+    ∙ ap (λ zs. zs ++ filter_map (said_by b.name h) (lines_in among.behind)) (own_said b.name h (b.first ∷ b.others))
+    ∙ ap (λ zs. filter_map h (b.first ∷ b.others) ++ zs) (none_said b.name h among.behind among.last) ∙ append_nil (filter_map h (b.first ∷ b.others))

@@ -1,0 +1,285 @@
+-- Families that can be written can be written without some of their readings, and without some of the families.
+use Rattle.std.proofs.Common.{◌≡◌, ℕ, ◌≤◌, Bool, true, false, not, ◌||◌, List, [], ◌∷◌, ◌++◌, map, length, codes, None, refl, sym, ap, subst, ◌∙◌, inl, inr, ◌⊎◌, All}
+use Rattle.std.specs.Prelude.{IsTrue}
+use Rattle.std.specs.List.{list_any, list_all, flat_map, AllByRecursion, IsDistinct}
+use Rattle.std.specs.Str.{bytes_eq}
+use Rattle.std.proofs.Math.Numerals.{one-add}
+use Rattle.std.proofs.lemmas.Bool.{and_parts, and_from, not-true}
+use Rattle.std.proofs.lemmas.List.Elements.{All-from_recursion, recursion_from_All}
+use Rattle.label_sets.specs.declared.kind.Kind.{Kind}
+use Rattle.label_sets.specs.declared.label_set.LabelSet.{LabelSet}
+use Rattle.label_sets.specs.Lists.{rest_while}
+use Rattle.label_sets.specs.Labels.{label_sets_eq}
+use Rattle.page_model.specs.declared.format.Format.TheVariants.{OpenMetrics}
+use Rattle.page_model.specs.declared.format.Treatment.TheVariants as treatments
+use Rattle.page_model.specs.declared.item.Exemplar.{Exemplar}
+use Rattle.page_model.specs.declared.item.Item.{Item}
+use Rattle.page_model.specs.declared.item.Item.TheVariants as items
+use Rattle.page_model.specs.declared.item.Sample.{Sample}
+use Rattle.page_model.specs.declared.page.Reading.{Reading}
+use Rattle.page_model.specs.declared.page.Family.{Family}
+use Rattle.page_model.specs.Written.{label_limit, line_limit}
+use Rattle.page_model.specs.Readings.{key_name}
+use Rattle.label_sets.specs.Sets.{IsLabelSet}
+use Rattle.page_model.specs.Owners.{group_of}
+use Rattle.page_model.specs.Pages.{AreSomeOf, IsThinnerReading, IsThinnerFamily, AreThinnerFamilies}
+use Rattle.open_writing.specs.Writing.{number_sample, value_samples, reading_samples, item_unless_empty, family_samples, family_items, page_items, item_text}
+use Rattle.open_writing.specs.FamilyKeys.{family_key, clash}
+use Rattle.open_writing.specs.Forms.{IsFormedValue, IsFormedTime, is_text_label, is_own_label, IsFormedReading, IsFormedFamily, label_sets_of, stand_together}
+use Rattle.open_writing.specs.OpenForms.{IsBareReading}
+use Rattle.writing_laws.specs.WritingLaws.{ThinnerAreWritable, FewerAreWritable}
+use Rattle.writing_laws.proofs.Turned.{all-append, all-front, all-behind, map-append}
+
+-- ---- what some of a list keep
+
+-- what holds of all holds of some of them, as far as the relation carries it
+some_hold : {A : Type 0} (R : A → A → Type 0) (P : A → Type 0) → ((x y : A) → R x y → P x → P y) → (xs ys : List A) → AreSomeOf R xs ys → AllByRecursion P xs → AllByRecursion P ys
+some_hold R P carry [] [] s h = tt
+some_hold R P carry [] (y ∷ ys) s h = absurd s
+some_hold R P carry (x ∷ xs) [] s h = tt
+some_hold R P carry (x ∷ xs) (y ∷ ys) (inl s) h = (carry x y s.0 h.0, some_hold R P carry xs ys s.1 h.1)
+some_hold R P carry (x ∷ xs) (y ∷ ys) (inr s) h = some_hold R P carry xs (y ∷ ys) s h.1
+
+-- some of what they come to are some of what all come to
+some_mapped : {A B : Type 0} (R : A → A → Type 0) (f : A → B) → ((x y : A) → R x y → f y ≡ f x) → (xs ys : List A) → AreSomeOf R xs ys → AreSomeOf (λ a b. b ≡ a) (map f xs) (map f ys)
+some_mapped R f same [] [] s = tt
+some_mapped R f same [] (y ∷ ys) s = s
+some_mapped R f same (x ∷ xs) [] s = some_mapped R f same xs [] s
+some_mapped R f same (x ∷ xs) (y ∷ ys) (inl s) = inl (same x y s.0, some_mapped R f same xs ys s.1)
+some_mapped R f same (x ∷ xs) (y ∷ ys) (inr s) = inr (some_mapped R f same xs (y ∷ ys) s)
+
+some_all : {A : Type 0} (P : A → Type 0) (xs ys : List A) → AreSomeOf (λ a b. b ≡ a) xs ys → AllByRecursion P xs → AllByRecursion P ys
+some_all P xs ys s h = some_hold (λ a b. b ≡ a) P (λ x y e p. subst P (sym e) p) xs ys s h
+
+-- elements that differ still do
+some_distinct : {A : Type 0} (eq : A → A → Bool) (xs ys : List A) → AreSomeOf (λ a b. b ≡ a) xs ys → IsDistinct eq xs → IsDistinct eq ys
+unfolding IsDistinct
+some_distinct eq [] [] s d = tt
+some_distinct eq [] (y ∷ ys) s d = absurd s
+some_distinct eq (x ∷ xs) [] s d = tt
+some_distinct eq (x ∷ xs) (y ∷ ys) (inl s) d = (subst (λ z. AllByRecursion (λ w. eq z w ≡ false) ys) (sym s.0) (some_all (λ w. eq x w ≡ false) xs ys s.1 d.0), some_distinct eq xs ys s.1 d.1)
+some_distinct eq (x ∷ xs) (y ∷ ys) (inr s) d = some_distinct eq xs (y ∷ ys) s d.1
+
+-- ---- groups that stand together
+
+none_left : {A : Type 0} (p : A → Bool) (xs ys : List A) → AreSomeOf (λ a b. b ≡ a) xs ys → list_any p xs ≡ false → list_any p ys ≡ false
+none_left p [] [] s e = refl
+none_left p [] (y ∷ ys) s e = absurd s
+none_left p (x ∷ xs) [] s e = refl
+none_left p (x ∷ xs) (y ∷ ys) (inl s) e = go (p x) refl e (none_left p xs ys s.1)
+  where
+    go : (b : Bool) → p x ≡ b → (b || list_any p xs) ≡ false → (list_any p xs ≡ false → list_any p ys ≡ false) → list_any p (y ∷ ys) ≡ false
+    go true f k ih = absurd (let g : true ≡ false = k in cc)
+    go false f k ih = rw (ap p s.0 ∙ f) (ih k)
+none_left p (x ∷ xs) (y ∷ ys) (inr s) e = go (p x) e (none_left p xs (y ∷ ys) s)
+  where
+    go : (b : Bool) → (b || list_any p xs) ≡ false → (list_any p xs ≡ false → list_any p (y ∷ ys) ≡ false) → list_any p (y ∷ ys) ≡ false
+    go true k ih = absurd (let g : true ≡ false = k in cc)
+    go false k ih = ih k
+
+rest_passed : {A : Type 0} (p : A → Bool) (x : A) (xs : List A) → p x ≡ true → rest_while p (x ∷ xs) ≡ rest_while p xs
+rest_passed p x xs e = rw (e, one-add) refl
+
+rest_stopped : {A : Type 0} (p : A → Bool) (x : A) (xs : List A) → p x ≡ false → rest_while p (x ∷ xs) ≡ x ∷ xs
+rest_stopped p x xs e = rw e refl
+
+none_in_rest : {A : Type 0} (p : A → Bool) (xs : List A) → list_any p xs ≡ false → list_any p (rest_while p xs) ≡ false
+none_in_rest p [] e = refl
+none_in_rest p (x ∷ xs) e = go (p x) refl e
+  where
+    go : (b : Bool) → p x ≡ b → (b || list_any p xs) ≡ false → list_any p (rest_while p (x ∷ xs)) ≡ false
+    go true f k = absurd (let g : true ≡ false = k in cc)
+    go false f k = ap (list_any p) (rest_stopped p x xs f) ∙ rw f k
+
+-- where none passes behind the front that does, none does so among some of them
+rest_left : {A : Type 0} (p : A → Bool) (xs ys : List A) → AreSomeOf (λ a b. b ≡ a) xs ys → list_any p (rest_while p xs) ≡ false → list_any p (rest_while p ys) ≡ false
+rest_left p [] [] s e = refl
+rest_left p [] (y ∷ ys) s e = absurd s
+rest_left p (x ∷ xs) [] s e = refl
+rest_left p (x ∷ xs) (y ∷ ys) (inl s) e = go (p x) refl (rest_left p xs ys s.1)
+  where
+    go : (b : Bool) → p x ≡ b → (list_any p (rest_while p xs) ≡ false → list_any p (rest_while p ys) ≡ false) → list_any p (rest_while p (y ∷ ys)) ≡ false
+    go true f ih = ap (list_any p) (rest_passed p y ys (ap p s.0 ∙ f)) ∙ ih (ap (list_any p) (sym (rest_passed p x xs f)) ∙ e)
+    go false f ih = none_in_rest p (y ∷ ys) (none_left p (x ∷ xs) (y ∷ ys) (inl s) (ap (list_any p) (sym (rest_stopped p x xs f)) ∙ e))
+rest_left p (x ∷ xs) (y ∷ ys) (inr s) e = go (p x) refl (rest_left p xs (y ∷ ys) s)
+  where
+    go : (b : Bool) → p x ≡ b → (list_any p (rest_while p xs) ≡ false → list_any p (rest_while p (y ∷ ys)) ≡ false) → list_any p (rest_while p (y ∷ ys)) ≡ false
+    go true f ih = ih (ap (list_any p) (sym (rest_passed p x xs f)) ∙ e)
+    go false f ih = none_in_rest p (y ∷ ys) (none_left p (x ∷ xs) (y ∷ ys) (inr s) (ap (list_any p) (sym (rest_stopped p x xs f)) ∙ e))
+
+some_together : (gs hs : List LabelSet) → AreSomeOf (λ a b. b ≡ a) gs hs → stand_together gs ≡ true → stand_together hs ≡ true
+unfolding stand_together
+some_together [] [] s h = refl
+some_together [] (y ∷ ys) s h = absurd s
+some_together (g ∷ gs) [] s h = refl
+some_together (g ∷ gs) (y ∷ ys) (inl s) h =
+    let both = and_parts (not (list_any (label_sets_eq g) (rest_while (label_sets_eq g) gs))) (stand_together gs) h in
+    let none : list_any (label_sets_eq g) (rest_while (label_sets_eq g) ys) ≡ false = rest_left (label_sets_eq g) gs ys s.1 (not-true _ both.0) in
+    let mine : list_any (label_sets_eq y) (rest_while (label_sets_eq y) ys) ≡ false = subst (λ z. list_any (label_sets_eq z) (rest_while (label_sets_eq z) ys) ≡ false) (sym s.0) none in
+    and_from (not (list_any (label_sets_eq y) (rest_while (label_sets_eq y) ys))) (stand_together ys) (ap not mine) (some_together gs ys s.1 both.1)
+some_together (g ∷ gs) (y ∷ ys) (inr s) h =
+    let both = and_parts (not (list_any (label_sets_eq g) (rest_while (label_sets_eq g) gs))) (stand_together gs) h in
+    some_together gs (y ∷ ys) s both.1
+
+-- ---- thinner readings
+
+-- the samples of a reading are told from its labels, its value and its created time
+samples_same : (kind : Kind) (family : List ℕ) (r q : Reading) → IsThinnerReading r q → reading_samples kind family q ≡ reading_samples kind family r
+unfolding reading_samples
+samples_same kind family r q t = λ i. value_samples kind family (t.key i).labels (t.value i) ++ number_sample (family ++ codes "_created") (t.key i).labels (t.created i)
+
+no_exemplars : (whole thin : List Exemplar) → AreSomeOf (λ a b. b ≡ a) whole thin → whole ≡ [] → thin ≡ []
+no_exemplars whole [] s e = refl
+no_exemplars whole (x ∷ thin) s e = absurd (subst (λ w. AreSomeOf (λ a b. b ≡ a) w (x ∷ thin)) e s)
+
+bare_thinner : (r q : Reading) → IsThinnerReading r q → IsBareReading r → IsBareReading q
+bare_thinner r q t b = record { no_stamp = go t.stamp; no_exemplars = no_exemplars r.exemplars q.exemplars t.exemplars b.no_exemplars }
+  where
+    go : (q.stamp ≡ r.stamp) ⊎ (q.stamp ≡ None) → q.stamp ≡ None
+    go (inl e) = e ∙ b.no_stamp
+    go (inr e) = e
+
+-- a formed reading, by its parts
+of_parts : (kind : Kind) (family unit : List ℕ) (r q : Reading) → IsFormedReading OpenMetrics treatments.Written kind family unit r → q.key ≡ r.key → q.value ≡ r.value → q.created ≡ r.created → reading_samples kind family q ≡ reading_samples kind family r
+    → IsFormedReading OpenMetrics treatments.Written kind family unit q
+of_parts kind family unit r q f key value created samples = record {
+  key = subst (λ k. k ≡ record { name = key_name OpenMetrics kind family; kind = kind; unit = unit; labels = k.labels }) (sym key) f.key;
+  label_set = subst (λ k. IsLabelSet k.labels) (sym key) f.label_set;
+  labels = subst (λ k. IsTrue (list_all is_text_label k.labels)) (sym key) f.labels;
+  own_labels = subst (λ k. IsTrue (list_all (is_own_label treatments.Written) k.labels)) (sym key) f.own_labels;
+  few_labels = subst (λ ss. All (λ (s : Sample). length s.labels ≤ label_limit treatments.Written) ss) (sym samples) f.few_labels;
+  value = subst (λ k. IsFormedValue OpenMetrics treatments.Written kind family k.labels q.value) (sym key) (subst (IsFormedValue OpenMetrics treatments.Written kind family r.key.labels) (sym value) f.value);
+  created = subst (IsFormedTime OpenMetrics kind) (sym created) f.created;
+}
+
+formed_thinner : (kind : Kind) (family unit : List ℕ) (r q : Reading) → IsThinnerReading r q → IsFormedReading OpenMetrics treatments.Written kind family unit r → IsFormedReading OpenMetrics treatments.Written kind family unit q
+formed_thinner kind family unit r q t f = of_parts kind family unit r q f t.key t.value t.created (samples_same kind family r q t)
+
+-- ---- thinner families
+
+-- a formed family with some of its readings
+with_some : (f : Family) (rs : List Reading) → AreSomeOf IsThinnerReading f.readings rs → IsFormedFamily OpenMetrics treatments.Written f
+    → IsFormedFamily OpenMetrics treatments.Written (record { name = f.name; kind = f.kind; help = f.help; unit = f.unit; readings = rs })
+with_some f rs s h =
+    let labels = some_mapped IsThinnerReading (λ (r : Reading). r.key.labels) (λ r q t. ap (λ k. k.labels) t.key) f.readings rs s in
+    record {
+      name = h.name;
+      kind = h.kind;
+      help = h.help;
+      unit = h.unit;
+      unit_in_format = h.unit_in_format;
+      readings = All-from_recursion _ rs (some_hold IsThinnerReading (IsFormedReading OpenMetrics treatments.Written f.kind f.name f.unit) (formed_thinner f.kind f.name f.unit) f.readings rs s (recursion_from_All _ f.readings h.readings));
+      distinct = some_distinct label_sets_eq (label_sets_of f.readings) (label_sets_of rs) labels h.distinct;
+      together = some_together (map (group_of f.kind f.name) (label_sets_of f.readings)) (map (group_of f.kind f.name) (label_sets_of rs))
+          (some_mapped (λ a b. b ≡ a) (group_of f.kind f.name) (λ a b e. ap (group_of f.kind f.name) e) (label_sets_of f.readings) (label_sets_of rs) labels) h.together;
+    }
+
+-- a thinner family is the family with some of its readings
+with_readings : (f g : Family) → IsThinnerFamily f g → record { name = f.name; kind = f.kind; help = f.help; unit = f.unit; readings = g.readings } ≡ g
+with_readings f g t = λ i. record { name = sym t.name i; kind = sym t.kind i; help = sym t.help i; unit = sym t.unit i; readings = g.readings }
+
+-- what holds of each line that is written holds of those of some readings
+some_samples : (P : Item → Type 0) (kind : Kind) (family : List ℕ) (rs qs : List Reading) → AreSomeOf IsThinnerReading rs qs
+    → AllByRecursion P (map items.Sample (flat_map (reading_samples kind family) rs)) → AllByRecursion P (map items.Sample (flat_map (reading_samples kind family) qs))
+some_samples P kind family [] [] s h = tt
+some_samples P kind family [] (q ∷ qs) s h = absurd s
+some_samples P kind family (r ∷ rs) [] s h = tt
+some_samples P kind family (r ∷ rs) (q ∷ qs) (inl s) h =
+    let parted = subst (AllByRecursion P) (map-append items.Sample (reading_samples kind family r) (flat_map (reading_samples kind family) rs)) h in
+    subst (AllByRecursion P) (sym (map-append items.Sample (reading_samples kind family q) (flat_map (reading_samples kind family) qs)))
+    (all-append P (map items.Sample (reading_samples kind family q)) (map items.Sample (flat_map (reading_samples kind family) qs))
+    (subst (λ ss. AllByRecursion P (map items.Sample ss)) (sym (samples_same kind family r q s.0)) (all-front P (map items.Sample (reading_samples kind family r)) (map items.Sample (flat_map (reading_samples kind family) rs)) parted))
+    (some_samples P kind family rs qs s.1 (all-behind P (map items.Sample (reading_samples kind family r)) (map items.Sample (flat_map (reading_samples kind family) rs)) parted)))
+some_samples P kind family (r ∷ rs) (q ∷ qs) (inr s) h =
+    let parted = subst (AllByRecursion P) (map-append items.Sample (reading_samples kind family r) (flat_map (reading_samples kind family) rs)) h in
+    some_samples P kind family rs (q ∷ qs) s (all-behind P (map items.Sample (reading_samples kind family r)) (map items.Sample (flat_map (reading_samples kind family) rs)) parted)
+
+family_lines_kept : (P : Item → Type 0) (f : Family) (rs : List Reading) → AreSomeOf IsThinnerReading f.readings rs → AllByRecursion P (family_items f)
+    → AllByRecursion P (family_items (record { name = f.name; kind = f.kind; help = f.help; unit = f.unit; readings = rs }))
+unfolding family_items family_samples
+family_lines_kept P f rs s h =
+    let units = item_unless_empty (items.Unit f.name) f.unit in
+    let helps = item_unless_empty (items.Help f.name) f.help in
+    let samples = map items.Sample (flat_map (reading_samples f.kind f.name) f.readings) in
+    let behind = all-behind P units (helps ++ samples) h.1 in (
+      h.0,
+      all-append P units _ (all-front P units (helps ++ samples) h.1)
+          (all-append P helps _ (all-front P helps samples behind) (some_samples P f.kind f.name f.readings rs s (all-behind P helps samples behind))),
+    )
+
+-- ---- pages
+
+thin_forms : (fs gs : List Family) → AreThinnerFamilies fs gs → AllByRecursion (IsFormedFamily OpenMetrics treatments.Written) fs → AllByRecursion (IsFormedFamily OpenMetrics treatments.Written) gs
+thin_forms [] [] t h = tt
+thin_forms [] (g ∷ gs) t h = absurd t
+thin_forms (f ∷ fs) [] t h = absurd t
+thin_forms (f ∷ fs) (g ∷ gs) t h = (subst (IsFormedFamily OpenMetrics treatments.Written) (with_readings f g t.0) (with_some f g.readings t.0.readings h.0), thin_forms fs gs t.1 h.1)
+
+thin_same : {B : Type 0} (p : Family → B) → ((f g : Family) → IsThinnerFamily f g → p g ≡ p f) → (fs gs : List Family) → AreThinnerFamilies fs gs → map p gs ≡ map p fs
+thin_same p same [] [] t = refl
+thin_same p same [] (g ∷ gs) t = absurd t
+thin_same p same (f ∷ fs) [] t = absurd t
+thin_same p same (f ∷ fs) (g ∷ gs) t = ap (λ x. x ∷ map p gs) (same f g t.0) ∙ ap (λ xs. p f ∷ xs) (thin_same p same fs gs t.1)
+
+thin_bare : (fs gs : List Family) → AreThinnerFamilies fs gs → AllByRecursion (λ (f : Family). All IsBareReading f.readings) fs → AllByRecursion (λ (f : Family). All IsBareReading f.readings) gs
+thin_bare [] [] t h = tt
+thin_bare [] (g ∷ gs) t h = absurd t
+thin_bare (f ∷ fs) [] t h = absurd t
+thin_bare (f ∷ fs) (g ∷ gs) t h =
+    (All-from_recursion IsBareReading g.readings (some_hold IsThinnerReading IsBareReading bare_thinner f.readings g.readings t.0.readings (recursion_from_All IsBareReading f.readings h.0)), thin_bare fs gs t.1 h.1)
+
+thin_lines : (P : Item → Type 0) (fs gs : List Family) → AreThinnerFamilies fs gs → AllByRecursion P (flat_map family_items fs) → AllByRecursion P (flat_map family_items gs)
+thin_lines P [] [] t h = tt
+thin_lines P [] (g ∷ gs) t h = absurd t
+thin_lines P (f ∷ fs) [] t h = absurd t
+thin_lines P (f ∷ fs) (g ∷ gs) t h =
+    all-append P (family_items g) (flat_map family_items gs)
+    (subst (λ x. AllByRecursion P (family_items x)) (with_readings f g t.0) (family_lines_kept P f g.readings t.0.readings (all-front P (family_items f) (flat_map family_items fs) h)))
+    (thin_lines P fs gs t.1 (all-behind P (family_items f) (flat_map family_items fs) h))
+
+key_same : (f g : Family) → IsThinnerFamily f g → family_key g ≡ family_key f
+key_same f g t = λ i. record { name = t.name i; kind = t.kind i; unit = t.unit i }
+
+short_kept : (P : Item → Type 0) (fs gs : List Family) → (AllByRecursion P (flat_map family_items fs) → AllByRecursion P (flat_map family_items gs)) → All P (page_items fs) → All P (page_items gs)
+unfolding page_items
+short_kept P fs gs keep h =
+    let all = recursion_from_All P (flat_map family_items fs ++ items.Eof ∷ []) h in
+    All-from_recursion P (flat_map family_items gs ++ items.Eof ∷ []) (all-append P (flat_map family_items gs) (items.Eof ∷ []) (keep (all-front P (flat_map family_items fs) (items.Eof ∷ []) all)) (all-behind P (flat_map family_items fs) (items.Eof ∷ []) all))
+
+pub thinner : ThinnerAreWritable
+thinner fs gs w t = record {
+  formed = record {
+    each = All-from_recursion _ gs (thin_forms fs gs t (recursion_from_All _ fs w.formed.each));
+    names = subst (IsDistinct bytes_eq) (sym (thin_same (λ (f : Family). f.name) (λ f g h. h.name) fs gs t)) w.formed.names;
+  };
+  bare = All-from_recursion _ gs (thin_bare fs gs t (recursion_from_All _ fs w.bare));
+  apart = subst (IsDistinct clash) (sym (thin_same family_key key_same fs gs t)) w.apart;
+  short_lines = short_kept (λ (item : Item). length (item_text item) ≤ line_limit treatments.Written) fs gs (thin_lines _ fs gs t) w.short_lines;
+}
+
+-- the form of a family, and that its readings are bare
+abbrev Formed : Family → Type 0
+Formed f = IsFormedFamily OpenMetrics treatments.Written f
+
+abbrev Bare : Family → Type 0
+Bare f = All IsBareReading f.readings
+
+fewer_lines : (P : Item → Type 0) (fs gs : List Family) → AreSomeOf (λ f g. g ≡ f) fs gs → AllByRecursion P (flat_map family_items fs) → AllByRecursion P (flat_map family_items gs)
+fewer_lines P [] [] s h = tt
+fewer_lines P [] (g ∷ gs) s h = absurd s
+fewer_lines P (f ∷ fs) [] s h = tt
+fewer_lines P (f ∷ fs) (g ∷ gs) (inl s) h =
+    all-append P (family_items g) (flat_map family_items gs) (subst (λ x. AllByRecursion P (family_items x)) (sym s.0) (all-front P (family_items f) (flat_map family_items fs) h))
+    (fewer_lines P fs gs s.1 (all-behind P (family_items f) (flat_map family_items fs) h))
+fewer_lines P (f ∷ fs) (g ∷ gs) (inr s) h = fewer_lines P fs (g ∷ gs) s (all-behind P (family_items f) (flat_map family_items fs) h)
+
+pub fewer : FewerAreWritable
+fewer fs gs w s = record {
+  formed = record {
+    each = All-from_recursion Formed gs (some_all Formed fs gs s (recursion_from_All Formed fs w.formed.each));
+    names = some_distinct bytes_eq (map (λ (f : Family). f.name) fs) (map (λ (f : Family). f.name) gs) (some_mapped (λ f g. g ≡ f) (λ (f : Family). f.name) (λ f g e. ap (λ (x : Family). x.name) e) fs gs s) w.formed.names;
+  };
+  bare = All-from_recursion Bare gs (some_all Bare fs gs s (recursion_from_All Bare fs w.bare));
+  apart = some_distinct clash (map family_key fs) (map family_key gs) (some_mapped (λ f g. g ≡ f) family_key (λ f g e. ap family_key e) fs gs s) w.apart;
+  short_lines = short_kept (λ (item : Item). length (item_text item) ≤ line_limit treatments.Written) fs gs (fewer_lines _ fs gs s) w.short_lines;
+}

@@ -1,0 +1,26 @@
+-- Laws of writing. Each is proved, and a call of the crate stands for it.
+-- OpenMetrics 1.0, "Text Format". The statements are the bridge's own.
+use Rattle.std.specs.Prelude.{◌≡◌, ℕ, ◌≤◌, List}
+use Rattle.page_model.specs.declared.format.Treatment.TheVariants.{Written}
+use Rattle.page_model.specs.declared.page.Family.{Family}
+use Rattle.page_model.specs.Written.{open_setting}
+use Rattle.page_model.specs.Pages.{IsPageOf, AreThinnerFamilies, AreSomeOf}
+use Rattle.open_writing.specs.Writing.{written_text, page_with, sample_lines}
+use Rattle.open_writing.specs.OpenForms.{IsOpenForm, AreWritable}
+
+-- the text of families that can be written reads back as their page
+abbrev pub ReadsBack : Type 0
+ReadsBack = (families : List Family) (limit : ℕ) → AreWritable families → sample_lines families ≤ limit
+    → IsPageOf (open_setting Written limit) (written_text (page_with families)) (page_with families)
+
+-- so families that can be written make a page in OpenMetrics form
+abbrev pub WritablesAreOpenForms : Type 0
+WritablesAreOpenForms = (families : List Family) → AreWritable families → IsOpenForm (page_with families)
+
+-- families that can be written can be written without some of their readings
+abbrev pub ThinnerAreWritable : Type 0
+ThinnerAreWritable = (whole thin : List Family) → AreWritable whole → AreThinnerFamilies whole thin → AreWritable thin
+
+-- and without some of the families
+abbrev pub FewerAreWritable : Type 0
+FewerAreWritable = (whole fewer : List Family) → AreWritable whole → AreSomeOf (λ f g. g ≡ f) whole fewer → AreWritable fewer

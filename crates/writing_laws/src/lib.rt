@@ -1,0 +1,23 @@
+//! That what is written reads back: laws of the definitions, each carried by a call that does nothing.
+#![tactic(auto)]
+
+ghost use Rattle.writing_laws.specs.WritingLaws.{ReadsBack, WritablesAreOpenForms, ThinnerAreWritable, FewerAreWritable};
+
+/// The text of families that can be written reads back as their page.
+///
+/// Families can be written where they have the form of what a text says, no timestamps and no exemplars,
+/// no names that clash, and no line that is too long.
+pub fn read_back()
+    ensures { ReadsBack }
+{}
+
+/// Families that can be written make a page that some text of OpenMetrics says.
+pub fn open_forms()
+    ensures made { WritablesAreOpenForms }
+{}
+
+/// Families that can be written can be written without some of their readings, and without some of the families.
+pub fn thinner_pages()
+    ensures readings { ThinnerAreWritable }
+    ensures families { FewerAreWritable }
+{}
