@@ -25,7 +25,8 @@ use Rattle.histogram_layout.specs.Layouts.{may_follow, are_cumulative}
 use Rattle.otlp_tree.specs.declared.tree.Metric.{Metric}
 use Rattle.otlp_tree.specs.declared.tree.Shape.{Shape}
 use Rattle.otlp_tree.specs.declared.tree.Shape.TheVariants as shapes
-use Rattle.target_core.specs.Points.{start_at, point_of, number_in, cumulative_layout, histogram_in, summary_in, number_point, histogram_point, summary_point}
+use Rattle.start_times.specs.Starts.{cumulative_layout}
+use Rattle.target_core.specs.Points.{point_at, point_of, number_in, histogram_in, summary_in, number_point, histogram_point, summary_point}
 use Rattle.target_core.specs.Trees.{some_of, shape_of, metric_of}
 use Rattle.point_laws.specs.PageLaws.{points_in, points_of_family, points_due, EachReadingHasAPoint}
 
@@ -102,41 +103,41 @@ module _ {P Y : Type 0} (become : Reading → P) (h : P → Option Y) where
       let first = some_is (h (become r)) have.0 in
       rw first.1 (counts (first.0 ∷ filter_map h (map become rs)) ∙ ap suc (all_points rs have.1))
 
-module _ (moment : ℕ) where
-  number_points : (rs : List Reading) → AllByRecursion (λ (r : Reading). IsPlain r.value) rs → HavePoints (λ r. number_point (point_of moment r)) rs
-  unfolding number_point point_of
+module _ (start : Reading → Option ℕ) (moment : ℕ) where
+  number_points : (rs : List Reading) → AllByRecursion (λ (r : Reading). IsPlain r.value) rs → HavePoints (λ r. number_point (point_of start moment r)) rs
+  unfolding number_point point_at
   number_points [] h = tt
-  number_points (r ∷ rs) h = (map_some (λ number. record { labels = r.key.labels; start = start_at moment r; time = moment; value = Some number }) (number_in r.value) (number_is r.value h.0), number_points rs h.1)
+  number_points (r ∷ rs) h = (map_some (λ number. record { labels = r.key.labels; start = start r; time = moment; value = Some number }) (number_in r.value) (number_is r.value h.0), number_points rs h.1)
 
-  histogram_points : (rs : List Reading) → AllByRecursion (λ (r : Reading). HasRisingBuckets r.value) rs → HavePoints (λ r. histogram_point (point_of moment r)) rs
-  unfolding histogram_point point_of
+  histogram_points : (rs : List Reading) → AllByRecursion (λ (r : Reading). HasRisingBuckets r.value) rs → HavePoints (λ r. histogram_point (point_of start moment r)) rs
+  unfolding histogram_point point_at
   histogram_points [] h = tt
   histogram_points (r ∷ rs) h = (map_some _ (histogram_in r.value) (histogram_is r.value h.0), histogram_points rs h.1)
 
-  summary_points : (rs : List Reading) → AllByRecursion (λ (r : Reading). IsQuantiles r.value) rs → HavePoints (λ r. summary_point (point_of moment r)) rs
-  unfolding summary_point point_of
+  summary_points : (rs : List Reading) → AllByRecursion (λ (r : Reading). IsQuantiles r.value) rs → HavePoints (λ r. summary_point (point_of start moment r)) rs
+  unfolding summary_point point_at
   summary_points [] h = tt
   summary_points (r ∷ rs) h = (map_some _ (summary_in r.value) (summary_is r.value h.0), summary_points rs h.1)
 
-  kind_points : (kind : Kind) (r : Reading) (rs : List Reading) → HaveValuesOf kind (r ∷ rs) → option_map_or points_in (shape_of kind (map (point_of moment) (r ∷ rs))) 0 ≡ points_due kind (suc (length rs))
+  kind_points : (kind : Kind) (r : Reading) (rs : List Reading) → HaveValuesOf kind (r ∷ rs) → option_map_or points_in (shape_of kind (map (point_of start moment) (r ∷ rs))) 0 ≡ points_due kind (suc (length rs))
   unfolding shape_of
-  kind_points Counter r rs have = shape_points (point_of moment) number_point (λ ps. shapes.Sum ps true) (λ ps. refl) r rs (number_points (r ∷ rs) have)
-  kind_points Gauge r rs have = shape_points (point_of moment) number_point shapes.Gauge (λ ps. refl) r rs (number_points (r ∷ rs) have)
-  kind_points Unknown r rs have = shape_points (point_of moment) number_point shapes.Gauge (λ ps. refl) r rs (number_points (r ∷ rs) have)
-  kind_points Histogram r rs have = shape_points (point_of moment) histogram_point shapes.Histogram (λ ps. refl) r rs (histogram_points (r ∷ rs) have)
-  kind_points Summary r rs have = shape_points (point_of moment) summary_point shapes.Summary (λ ps. refl) r rs (summary_points (r ∷ rs) have)
+  kind_points Counter r rs have = shape_points (point_of start moment) number_point (λ ps. shapes.Sum ps true) (λ ps. refl) r rs (number_points (r ∷ rs) have)
+  kind_points Gauge r rs have = shape_points (point_of start moment) number_point shapes.Gauge (λ ps. refl) r rs (number_points (r ∷ rs) have)
+  kind_points Unknown r rs have = shape_points (point_of start moment) number_point shapes.Gauge (λ ps. refl) r rs (number_points (r ∷ rs) have)
+  kind_points Histogram r rs have = shape_points (point_of start moment) histogram_point shapes.Histogram (λ ps. refl) r rs (histogram_points (r ∷ rs) have)
+  kind_points Summary r rs have = shape_points (point_of start moment) summary_point shapes.Summary (λ ps. refl) r rs (summary_points (r ∷ rs) have)
   kind_points GaugeHistogram r rs have = refl
-  kind_points StateSet r rs have = shape_points (point_of moment) number_point (λ ps. shapes.Sum ps false) (λ ps. refl) r rs (number_points (r ∷ rs) have)
-  kind_points Info r rs have = shape_points (point_of moment) number_point (λ ps. shapes.Sum ps false) (λ ps. refl) r rs (number_points (r ∷ rs) have)
+  kind_points StateSet r rs have = shape_points (point_of start moment) number_point (λ ps. shapes.Sum ps false) (λ ps. refl) r rs (number_points (r ∷ rs) have)
+  kind_points Info r rs have = shape_points (point_of start moment) number_point (λ ps. shapes.Sum ps false) (λ ps. refl) r rs (number_points (r ∷ rs) have)
 
   none_due : (kind : Kind) → 0 ≡ points_due kind 0
   none_due GaugeHistogram = refl
   none_due _ = refl
 
   -- the metric of readings has each of their points
-  metric_points : (kind : Kind) (help : List ℕ) (rs : List Reading) → HaveValuesOf kind rs → option_map_or (λ (m : Metric). points_in m.shape) (metric_of moment kind help rs) 0 ≡ points_due kind (length rs)
+  metric_points : (kind : Kind) (help : List ℕ) (rs : List Reading) → HaveValuesOf kind rs → option_map_or (λ (m : Metric). points_in m.shape) (metric_of start moment kind help rs) 0 ≡ points_due kind (length rs)
   metric_points kind help [] have = none_due kind
-  metric_points kind help (r ∷ rs) have = by (shape_of kind (map (point_of moment) (r ∷ rs))) ∙ kind_points kind r rs have
+  metric_points kind help (r ∷ rs) have = by (shape_of kind (map (point_of start moment) (r ∷ rs))) ∙ kind_points kind r rs have
     where
       by : (o : Option Shape) → option_map_or (λ (m : Metric). points_in m.shape) (option_map (λ shape. record { name = r.key.name; description = help; unit = r.key.unit; shape = shape }) o) 0 ≡ option_map_or points_in o 0
       by None = refl
@@ -144,11 +145,11 @@ module _ (moment : ℕ) where
 
   -- ---- the points of a page
 
-  families_points : (fs : List Family) → HaveKindValues fs → AllByRecursion (λ (f : Family). points_of_family moment f ≡ points_due f.kind (length f.readings)) fs
+  families_points : (fs : List Family) → HaveKindValues fs → AllByRecursion (λ (f : Family). points_of_family start moment f ≡ points_due f.kind (length f.readings)) fs
   families_points [] have = tt
   families_points (f ∷ fs) have = (metric_points f.kind f.help f.readings have.0, families_points fs have.1)
 
 -- each reading of a right page has a point
 pub right_pages_lose_nothing : (page : Page) → IsRightPage page → EachReadingHasAPoint page
-right_pages_lose_nothing page right = λ moment.
-    All-from_recursion (λ (f : Family). points_of_family moment f ≡ points_due f.kind (length f.readings)) page.families (families_points moment page.families (right_values page right))
+right_pages_lose_nothing page right = λ start moment.
+    All-from_recursion (λ (f : Family). points_of_family start moment f ≡ points_due f.kind (length f.readings)) page.families (families_points start moment page.families (right_values page right))

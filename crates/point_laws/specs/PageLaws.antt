@@ -1,9 +1,10 @@
 -- Laws of what a page comes to. Each is proved, and a call of the crate stands for it.
 -- OpenTelemetry, "Prometheus and OpenMetrics Compatibility", "Prometheus Metric points to OTLP". That no reading is left out is the bridge's own.
-use Rattle.std.specs.Prelude.{◌≡◌, ℕ, length, All}
+use Rattle.std.specs.Prelude.{◌≡◌, ℕ, Option, length, All}
 use Rattle.std.specs.Option.{option_map_or}
 use Rattle.label_sets.specs.declared.kind.Kind.{Kind}
 use Rattle.label_sets.specs.declared.kind.Kind.TheVariants.{GaugeHistogram}
+use Rattle.page_model.specs.declared.page.Reading.{Reading}
 use Rattle.page_model.specs.declared.page.Family.{Family}
 use Rattle.page_model.specs.declared.page.Page.{Page}
 use Rattle.otlp_tree.specs.declared.tree.Metric.{Metric}
@@ -19,14 +20,14 @@ points_in (shapes.Histogram points) = length points
 points_in (shapes.Summary points) = length points
 
 -- how many points the metric of a family has; without a metric there are none
-abbrev pub points_of_family : ℕ → Family → ℕ
-points_of_family moment f = option_map_or (λ (m : Metric). points_in m.shape) (family_metric moment f) 0
+abbrev pub points_of_family : (Reading → Option ℕ) → ℕ → Family → ℕ
+points_of_family start moment f = option_map_or (λ (m : Metric). points_in m.shape) (family_metric start moment f) 0
 
 -- how many points so many readings of a kind are to have: gauge histograms have none
 abbrev pub points_due : Kind → ℕ → ℕ
 points_due GaugeHistogram readings = 0
 points_due _ readings = readings
 
--- whenever the page is scraped, each family's metric has as many points as the family has readings, but for gauge histograms
+-- whenever the page is scraped, and whatever the starts of its series, each family's metric has as many points as the family has readings, but for gauge histograms
 abbrev pub EachReadingHasAPoint : Page → Type 0
-EachReadingHasAPoint page = (moment : ℕ) → All (λ (f : Family). points_of_family moment f ≡ points_due f.kind (length f.readings)) page.families
+EachReadingHasAPoint page = (start : Reading → Option ℕ) (moment : ℕ) → All (λ (f : Family). points_of_family start moment f ≡ points_due f.kind (length f.readings)) page.families
