@@ -2,6 +2,7 @@
 #![tactic(auto)]
 
 ghost use Rattle.std.specs.Prelude.{◌≡◌, ◌++◌, ◌^◌, ◌<◌, OnOk, OnErr};
+ghost use Rattle.page_model.specs.Pages.{IsRightPage};
 ghost use Rattle.open_writing.specs.Writing.{page_with, sample_lines, written_text};
 
 mod counting;
@@ -30,12 +31,14 @@ pub fn write(page: &Page, out: &mut Vec<u8>) -> Result<(), Memory>
     text_emitter::write(&FamiliesText(page.families()), out)
 }
 
-/// The page of families, with as many samples as [`write`] writes sample lines for them.
+/// The page of families, with as many samples as [`write`] writes sample lines for them. Some text says it; what
+/// is written of families that can be written does.
 #[tactic(auto, unfolding(crate::specs::Writing::sample_lines), using(crate::proofs::LineCounts::families_counted))]
 pub fn page_of_families(families: List<Family>) -> Page
     requires few { sample_lines families < 2 ^ 32 }
+    requires right { IsRightPage (page_with families) }
     ensures page { result ≡ page_with families }
 {
     let samples = counting::lines_of_families(families.as_slice());
-    Page { families, samples }
+    Page::new(families, samples)
 }

@@ -1,7 +1,8 @@
-use super::{page_of_families, write};
+use crate::counting::lines_of_families;
+use crate::families::FamiliesText;
 use exact_decimal::{Decimal, Number, of};
 use label_sets::{Kind, Label, LabelFault, LabelSet, List, Memory, Name, SeriesKey, Text};
-use page_model::{Bucket, Family, Page, Quantile, Reading, Value};
+use page_model::{Bucket, Family, Quantile, Reading, Value};
 use std::alloc::Global;
 
 fn list<T: Drop, const N: usize>(alloc: Global, items: [T; N]) -> Result<List<T>, Memory> {
@@ -152,18 +153,12 @@ const WRITTEN: &str = concat!(
     "# TYPE e stateset\n# EOF\n",
 );
 
-fn written(alloc: Global, page: &Page) -> Result<Vec<u8>, Memory> {
-    let mut out = Vec::from_slice(alloc, b"> ")?;
-    write(page, &mut out)?;
-    Ok(out)
-}
-
 #[test]
 fn writes_behind_what_is_there(rt: HostRuntime) -> Result<(), LabelFault> {
-    let page = page_of_families(families(rt.alloc())?);
-    assert_eq!(rt; page.samples, 21);
-    assert_eq!(rt; page.families.len(), 7);
-    let out = written(rt.alloc(), &page)?;
+    let families = families(rt.alloc())?;
+    assert_eq!(rt; lines_of_families(families.as_slice()), 21);
+    let mut out = Vec::from_slice(rt.alloc(), b"> ")?;
+    text_emitter::write(&FamiliesText(&families), &mut out)?;
     assert_eq!(rt; std::str::from_utf8(&out), Ok(WRITTEN));
     Ok(())
 }
@@ -171,9 +166,9 @@ fn writes_behind_what_is_there(rt: HostRuntime) -> Result<(), LabelFault> {
 // With any allocation failing, what was there stays.
 #[test]
 fn writes_all_or_nothing(rt: HostRuntime) -> Result<(), LabelFault> {
-    let page = page_of_families(families(rt.alloc())?);
+    let families = families(rt.alloc())?;
     let mut out = Vec::from_slice(rt.alloc(), b"> ")?;
-    let expected = match write(&page, &mut out) {
+    let expected = match text_emitter::write(&FamiliesText(&families), &mut out) {
         Ok(()) => WRITTEN,
         Err(_) => "> ",
     };
