@@ -65,7 +65,7 @@ none_last false false false false true f p q r s t u x = absurd (cc x)
 none_last false false false false false true p q r s t u x = absurd (cc x)
 none_last false false false false false false p q r s t u x = refl
 
-not_long : (most : ℕ) (h : ResponseHead) → head_cause most h ≡ None → is_long most (framing_of h) ≡ false
+pub not_long : (most : ℕ) (h : ResponseHead) → head_cause most h ≡ None → is_long most (framing_of h) ≡ false
 unfolding head_cause
 not_long most h x =
     none_last

@@ -1,0 +1,4 @@
+mod PageOutcomeCases
+mod SampleLimit
+mod Exchanging
+mod Scrapes

@@ -1,0 +1,2 @@
+pub mod Scraping
+pub mod Exchanges

@@ -1,0 +1,10 @@
+//! One scrape over a wire: a request, its reply, and the page that it holds.
+#![tactic(auto)]
+
+mod one_scrape;
+mod page_outcome;
+mod stop;
+mod talk;
+
+pub use bridge_ports::Target;
+pub use one_scrape::{outcome, scrape};

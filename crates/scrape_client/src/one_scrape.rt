@@ -1,0 +1,92 @@
+//! One scrape: what it does to a wire, and the event that it gives.
+ghost use Rattle.std.specs.Prelude.{◌≡◌, ◌≢◌, ℕ, ◌≤◌, [], List, IfOk};
+ghost use Rattle.http_talk.specs.ReplyReading.{Stands};
+ghost use Rattle.bridge_ports.specs.declared.talk.Stage.TheVariants as stages;
+ghost use Rattle.bridge_ports.specs.declared.talk.End.TheVariants as ends;
+ghost use Rattle.http_talk.specs.Replies.{HasOutcome};
+ghost use Rattle.scrape_client.specs.Scraping.{ScrapeAnswer};
+ghost use Rattle.scrape_client.specs.Exchanges.{IsSaidAt, HasShortBody};
+
+use crate::page_outcome::outcome_of;
+use crate::stop::{NoBody, no_body};
+use crate::talk::{end_reply, exchange};
+use bridge_ports::{End, Target, Wire};
+use http_talk::{Body, Progress, Reply, get_text};
+use label_sets::Memory;
+use page_model::{Cause, Event, Outcome};
+use std::alloc::{AllocError, Global};
+
+/// Makes one talk over the wire, that begins once the clock reads `due` at least, in nanoseconds since the
+/// Unix epoch: it asks for the target's page, and reads until a verdict on the reply is there, or the talk
+/// ends. `limit` is the most samples of the page, from 1 to 200,000, and `max_page` the most bytes of the
+/// body, from 1,024 to 67,108,864. After want of memory no talk is under way.
+pub fn scrape<W: Wire>(
+    alloc: Global,
+    wire: &mut W,
+    target: &Target,
+    due: u64,
+    limit: u32,
+    max_page: u32,
+) -> Result<Event, Memory>
+    requires free { (W.state wire.old).stage ≡ stages.Idle }
+    requires samples { (1 ≤ limit) × (limit ≤ 200000) }
+    requires page { (1024 ≤ max_page) × (max_page ≤ 67108864) }
+    ensures { ScrapeAnswer limit max_page target.now.address
+        (W.state wire.old) (W.state wire.new) result }
+{
+    let Ok(text) = get_text(alloc, target.address()) else {
+        return Err(AllocError);
+    };
+    let Ok(reply) = Reply::new(alloc, max_page) else {
+        return Err(AllocError);
+    };
+    let Ok(()) = wire.ready(alloc, 1, text.len() as u64) else {
+        return Err(AllocError);
+    };
+    let reading = wire.begin(due);
+    let said = exchange(wire, text.as_slice(), reply);
+    match outcome_of(alloc, said, limit) {
+        Ok(outcome) => Ok(Event { reading, outcome }),
+        Err(AllocError) => Err(AllocError),
+    }
+}
+
+/// What a talk comes to that got these bytes and ended so, by itself; it was not left. `limit` is the most
+/// samples of a page, and `max_page` the most bytes of a body, as in [`scrape`].
+pub fn outcome(
+    alloc: Global,
+    got: &[u8],
+    end: End,
+    limit: u32,
+    max_page: u32,
+) -> Result<Outcome, Memory>
+    requires samples { (1 ≤ limit) × (limit ≤ 200000) }
+    requires page { (1024 ≤ max_page) × (max_page ≤ 67108864) }
+    requires ended { end ≢ ends.Left }
+    ensures { IfOk result (λ outcome. (at : ℕ) (sent : List ℕ) → HasOutcome limit max_page
+        (record { at = at; sent = sent; got = got.now; end = end }) outcome) }
+{
+    let reply = Reply::new(alloc, max_page)?;
+    let said = said_at(reply, got, end);
+    outcome_of(alloc, said, limit)
+}
+
+/// What a reply that was fed nothing comes to, once it is fed these bytes and the talk ends so.
+fn said_at(reply: Reply, got: &[u8], end: End) -> Result<Body, NoBody>
+    requires fresh { Stands [] reply }
+    requires ended { end ≢ ends.Left }
+    ensures said { IsSaidAt reply.most got.now end result }
+    ensures short { HasShortBody reply.most result }
+{
+    let mut reply = reply;
+    match reply.feed(got) {
+        Ok(Progress::Whole) => end_reply(reply),
+        Ok(Progress::More) => match end {
+            End::ConnectFailed => Err(NoBody::Failed(Cause::Connect)),
+            End::WriteFailed => Err(NoBody::Failed(Cause::Write)),
+            End::ReadFailed => Err(NoBody::Failed(Cause::Read)),
+            End::Ended | End::Left => end_reply(reply),
+        },
+        Err(fault) => Err(no_body(fault)),
+    }
+}
