@@ -6,3 +6,4 @@ pub use Rattle.page_model.proofs.Groups.{Member, label_sets_decide, agrees_in, i
 pub use Rattle.page_model.proofs.Prefixes.{fault_from-append, too_long_fault}
 pub use Rattle.page_model.proofs.Least.{none_found}
 pub use Rattle.page_model.proofs.KindLaws.{kind_of_page}
+pub use Rattle.page_model.proofs.DistinctKeys.{page-distinct_keys}

@@ -1,0 +1,4 @@
+pub mod Starts
+pub mod Scrapes
+pub mod Events
+pub mod States

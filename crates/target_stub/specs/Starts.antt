@@ -1,0 +1,5 @@
+-- stub
+use Rattle.std.specs.Prelude.{ℕ}
+
+pub record Tracking : Type 0 where
+  pub keep : ℕ

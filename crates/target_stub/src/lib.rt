@@ -1,0 +1,6 @@
+//! A stub.
+#![tactic(auto)]
+
+mod state;
+
+pub use state::TargetState;
