@@ -1,12 +1,16 @@
 -- The host and the port of an instance are told by it.
-use Rattle.std.proofs.Common.{◌≡◌, ℕ, ◌+◌, ◌-◌, Bool, not, eqb, List, length, get_or, take, drop, ap, ◌∙◌, arith}
-use Rattle.std.specs.List.{suffix_len}
+use Rattle.std.proofs.Common.{◌≡◌, ℕ, zero, suc, ◌+◌, ◌-◌, ◌≤◌, Bool, true, false, not, eqb, List, [], ◌∷◌, ◌++◌, length, get_or, take, drop, codes, refl, sym, ap, ◌∙◌, arith, nat_le, length-append}
+use Rattle.std.specs.Prelude.{IsUtf8}
+use Rattle.std.specs.Str.{IsAscii}
+use Rattle.std.specs.Fmt.{decimal}
+use Rattle.std.specs.List.{suffix_len, list_all}
 use Rattle.std.specs.Str.Parse.{digits_value}
-use Rattle.std.proofs.lemmas.Bool.{eq-eqb, ne_eqb}
-use Rattle.std.proofs.lemmas.Fmt.{decimal_is_IsNumeral}
+use Rattle.std.proofs.lemmas.Bool.{eq-eqb, ne_eqb, and_parts, leb-true}
+use Rattle.std.proofs.lemmas.Str.{IsUtf8-from_ascii}
+use Rattle.std.proofs.lemmas.Fmt.{decimal_is_IsNumeral, length-decimal-le}
 use Rattle.std.proofs.lemmas.List.Sums.{suffix_len_is}
-use Rattle.target_core.specs.declared.target.Target.{Target}
-use Rattle.bridge_cli.specs.CommandWords.{IsPlace, IsTarget}
+use Rattle.bridge_ports.specs.Targets.{Scraped, IsScraped}
+use Rattle.bridge_cli.specs.CommandWords.{is_host_char, IsPlace, IsTarget, place_target}
 use Rattle.bridge_cli.proofs.WordLaws.{at_colon, behind_colon, place_parts}
 
 -- no colon
@@ -39,12 +43,30 @@ told_place instance host port place =
     )
 
 -- the target that a job and an instance tell
-abbrev pub target_of : List ℕ → List ℕ → Target
-target_of job instance = record { job = job; instance = instance; host = take (colon_of instance) instance; port = digits_value 10 (drop (colon_of instance + 1) instance) }
+abbrev pub target_of : List ℕ → List ℕ → Scraped
+target_of job instance = place_target job instance (take (colon_of instance) instance) (digits_value 10 (drop (colon_of instance + 1) instance))
 
-pub told_target : (t : Target) → IsTarget t → target_of t.job t.instance ≡ t
+pub told_target : (t : Scraped) → IsTarget t → target_of t.job t.instance ≡ t
+unfolding place_target
 told_target t is =
-    let place = told_place t.instance t.host t.port is.place in
-    let same : record { job = t.job; instance = t.instance; host = take (colon_of t.instance) t.instance; port = digits_value 10 (drop (colon_of t.instance + 1) t.instance) }
-    ≡ record { job = t.job; instance = t.instance; host = t.host; port = t.port } = cc in
-    same
+    let place = told_place t.instance t.address.host t.address.port is.place in
+    λ i. record { job = t.job; instance = t.instance; address = record { host = place.0 i; port = place.1 i; path = sym is.path i }; honor = sym is.honor i }
+
+-- ---- what the type of a target keeps
+
+visible_ascii : (host : List ℕ) → list_all is_host_char host ≡ true → IsAscii host
+visible_ascii [] e i = omega arith
+visible_ascii (c ∷ host) e zero = (let h = and_parts (is_host_char c) (list_all is_host_char host) e in let r = and_parts (nat_le 0x21 c) (nat_le c 0x7E) h.0 in omega (arith, leb-true c 0x7E r.1))
+visible_ascii (c ∷ host) e (suc i) = visible_ascii host (and_parts (is_host_char c) (list_all is_host_char host) e).1 i
+
+pub place_is_scraped : (job instance host path : List ℕ) (port : ℕ) → IsUtf8 job → IsUtf8 instance → 1 ≤ length job → length job ≤ 256 → IsPlace instance host port
+    → IsScraped (record { job = job; instance = instance; address = record { host = host; port = port; path = path }; honor = false })
+place_is_scraped job instance host path port job_text instance_text some short place =
+    let digits : length (decimal port) ≤ 5 = length-decimal-le 5 port (omega arith) (omega (arith, place.high_port)) (omega (arith, place.high_port)) in
+    let more : length (codes ":" ++ decimal port) ≡ 1 + length (decimal port) = length-append (codes ":") (decimal port) in
+    let all : length instance ≡ length host + length (codes ":" ++ decimal port) = ap (length {A = ℕ}) place.text ∙ length-append host (codes ":" ++ decimal port) in
+    record {
+      job = record { text = ∣ job_text ∣₁; some = some; short = short };
+      instance = record { text = ∣ instance_text ∣₁; some = omega (arith, all, more); short = omega (arith, all, more, digits, place.short_host) };
+      host = ∣ IsUtf8-from_ascii host (visible_ascii host place.visible_host) ∣₁;
+    }

@@ -3,7 +3,7 @@ use Rattle.std.proofs.Common.{◌≡◌, ◌≢◌, ℕ, zero, suc, ◌+◌, ◌
 use Rattle.std.specs.Prelude.{slice_get, OnOk, codes, ⊤}
 use Rattle.page_model.specs.declared.format.Format.{Format}
 use Rattle.otlp_json.specs.Texts.{request_text}
-use Rattle.target_stub.specs.Events.{request_after}
+use Rattle.target_core.specs.Events.{request_after}
 use Rattle.std.specs.Io.KnownBytes.{Appends, Keeps}
 use Rattle.std.proofs.lemmas.Option.{same_Some, none-some}
 use Rattle.page_model.specs.declared.event.Event.{Event}
@@ -20,8 +20,9 @@ use Rattle.page_model.specs.Presence.{page_of_outcome}
 use Rattle.page_model.proofs.Laws.{first_fault_once, page_of_once, fault_or_page, page-distinct_keys}
 use Rattle.page_feeding.specs.PageFeeding.{Answers, Refuses}
 use Rattle.bridge_ports.specs.Targets.{Scraped}
-use Rattle.target_stub.specs.Scrapes.{last_moment, moment_after, scrape_after, scrapes_of}
-use Rattle.target_stub.specs.States.{HasDistinctKeys, Following, StandsFor, HasNextMoment}
+use Rattle.start_times.specs.Scrapes.{last_moment, moment_after, scrape_after, scrapes_of}
+use Rattle.start_times.specs.Advancing.{HasDistinctKeys}
+use Rattle.target_core.specs.States.{Following, StandsFor, HasNextMoment}
 use Rattle.replay_script.specs.declared.header.Header.{Header}
 use Rattle.replay_script.specs.declared.script.PageRecord.{PageRecord}
 use Rattle.replay_script.specs.declared.script.ScriptTarget.{ScriptTarget}

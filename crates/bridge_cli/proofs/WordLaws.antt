@@ -11,7 +11,7 @@ use Rattle.std.proofs.lemmas.Slice.Eq.{bytes_eq-Decides}
 use Rattle.std.specs.Str.{bytes_eq}
 use Rattle.page_model.specs.declared.format.Format.{Format}
 use Rattle.bridge_cli.specs.Limits.{most_job, most_nanos}
-use Rattle.bridge_cli.specs.CommandWords.{IsPlace, IsCommand, FitNoForm, format_word, words_of}
+use Rattle.bridge_cli.specs.CommandWords.{IsPlace, IsCommand, FitNoForm, place_target, format_word, words_of}
 use Rattle.bridge_cli.specs.declared.words.Command.{Command}
 use Rattle.bridge_cli.specs.declared.words.Command.TheVariants.{Help, Version, Check, Convert, Replay}
 
@@ -121,10 +121,11 @@ at_error (Err e) P p = p
 
 -- the words of a conversion
 pub conversion_is : (format : Format) (job instance time host : List ℕ) (port nanos : ℕ) → 1 ≤ length job → length job ≤ most_job → IsPlace instance host port → time ≡ decimal nanos → nanos ≤ most_nanos
-    → IsCommand (codes "convert" ∷ format_word format ∷ job ∷ instance ∷ time ∷ []) (Convert format (record { job = job; instance = instance; host = host; port = port }) nanos)
+    → IsCommand (codes "convert" ∷ format_word format ∷ job ∷ instance ∷ time ∷ []) (Convert format (place_target job instance host port) nanos)
+unfolding place_target
 conversion_is format job instance time host port nanos some short place e small = record {
   spelled = ap (λ t. codes "convert" ∷ format_word format ∷ job ∷ instance ∷ t ∷ []) e;
-  limits = (record { some_job = some; short_job = short; place = place }, small);
+  limits = (record { some_job = some; short_job = short; place = place; path = refl; honor = refl }, small);
 }
 
 -- texts that compare as the same are

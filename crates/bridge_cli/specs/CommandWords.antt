@@ -5,7 +5,7 @@ use Rattle.std.specs.Int.{is_in_range}
 use Rattle.std.specs.Fmt.{decimal}
 use Rattle.page_model.specs.declared.format.Format.{Format}
 use Rattle.page_model.specs.declared.format.Format.TheVariants.{Text, OpenMetrics}
-use Rattle.target_core.specs.declared.target.Target.{Target}
+use Rattle.bridge_ports.specs.Targets.{Scraped}
 use Rattle.bridge_cli.specs.declared.words.Command.{Command}
 use Rattle.bridge_cli.specs.declared.words.Command.TheVariants.{Help, Version, Check, Convert, Replay}
 use Rattle.bridge_cli.specs.Limits.{most_page, most_script, most_nanos, most_job, most_host, most_port}
@@ -23,11 +23,17 @@ pub record IsPlace (instance host : List ℕ) (port : ℕ) : Type 0 where
   pub low_port : 1 ≤ port
   pub high_port : port ≤ most_port
 
--- a job of 1 to 256 bytes, and an instance that is its host and port
-pub record IsTarget (t : Target) : Type 0 where
+-- what is scraped of a host and a port: its metrics, whose times do not count
+unfoldable pub place_target : List ℕ → List ℕ → List ℕ → ℕ → Scraped
+place_target job instance host port = record { job = job; instance = instance; address = record { host = host; port = port; path = codes "/metrics" }; honor = false }
+
+-- a job of 1 to 256 bytes, and an instance that is its host and port; its metrics are asked for, and their times do not count
+pub record IsTarget (t : Scraped) : Type 0 where
   pub some_job : 1 ≤ length t.job
   pub short_job : length t.job ≤ most_job
-  pub place : IsPlace t.instance t.host t.port
+  pub place : IsPlace t.instance t.address.host t.address.port
+  pub path : t.address.path ≡ codes "/metrics"
+  pub honor : t.honor ≡ false
 
 -- ---- the tables of the commands
 

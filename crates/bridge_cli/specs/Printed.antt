@@ -6,7 +6,7 @@ use Rattle.std.specs.Io.KnownBytes.{Appends}
 use Rattle.page_model.specs.declared.event.Event.{Event}
 use Rattle.bridge_ports.specs.Causes.{Rose}
 use Rattle.bridge_ports.specs.Targets.{Scraped}
-use Rattle.target_stub.specs.States.{Following, StandsFor}
+use Rattle.target_core.specs.States.{Following, StandsFor}
 use Rattle.replay_script.specs.declared.header.Header.{Header}
 use Rattle.replay_script.specs.declared.script.PageRecord.{PageRecord}
 use Rattle.replay_script.specs.declared.script.ScriptTarget.{ScriptTarget}

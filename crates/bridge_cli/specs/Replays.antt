@@ -12,8 +12,8 @@ use Rattle.page_model.specs.declared.event.Event.{Event}
 use Rattle.page_model.specs.Written.{Setting}
 use Rattle.page_model.specs.Pages.{FirstFault, IsPageOf}
 use Rattle.bridge_ports.specs.Targets.{Scraped}
-use Rattle.target_stub.specs.Starts.{Tracking}
-use Rattle.target_stub.specs.Events.{request_after}
+use Rattle.start_times.specs.Starts.{Tracking}
+use Rattle.target_core.specs.Events.{request_after}
 use Rattle.otlp_json.specs.Texts.{request_text}
 use Rattle.replay_script.specs.declared.header.Header.{Header}
 use Rattle.replay_script.specs.declared.script.PageRecord.{PageRecord}

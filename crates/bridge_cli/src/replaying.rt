@@ -2,7 +2,7 @@
 ghost use Rattle.std.specs.Prelude.{◌≡◌, ◌≤◌, [], List as Seq, length, IfOk};
 ghost use Rattle.bridge_ports.specs.Targets.{Scraped};
 ghost use Rattle.page_model.specs.declared.event.Event.{Event as AnyEvent};
-ghost use Rattle.target_stub.specs.States.{StandsFor, HasNextMoment};
+ghost use Rattle.target_core.specs.States.{StandsFor, HasNextMoment};
 ghost use Rattle.replay_script.specs.RightScripts.{IsRightHeader, IsRightScript};
 ghost use Rattle.bridge_cli.specs.Limits.{most_rounds};
 ghost use Rattle.bridge_cli.specs.Replays.{tracking_of};
@@ -15,7 +15,7 @@ use bridge_ports::{Failed, Sink};
 use page_model::Event;
 use replay_script::{Header, PageRecord, Script, ScriptTarget};
 use std::alloc::{AllocError, Global};
-use target_stub::TargetState;
+use target_core::TargetState;
 
 /// Why printing in pieces was cut off.
 #[derive(Clone, Copy, Debug, PartialEq, Eq)]

@@ -2,10 +2,11 @@
 mod forms;
 mod numbers;
 mod place;
+mod target;
 
+use bridge_ports::Target;
 pub(crate) use forms::command;
 use page_model::Format;
-use target_core::Target;
 
 /// What the words of the command line ask for.
 #[derive(Drop)]

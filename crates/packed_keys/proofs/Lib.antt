@@ -5,3 +5,4 @@ pub mod Steps
 pub mod Put
 pub mod Read
 pub mod Seen
+pub mod Series

@@ -3,6 +3,8 @@ use Rattle.std.specs.Prelude.{ℕ, zero, suc, ◌+◌, ◌/◌, ◌%◌, ◌==�
 use Rattle.std.specs.List.{flat_map, list_any}
 use Rattle.std.specs.Str.{bytes_eq}
 use Rattle.label_sets.specs.declared.label.Label.{Label}
+use Rattle.label_sets.specs.declared.series_key.SeriesKey.{SeriesKey}
+use Rattle.label_sets.specs.Keys.{kind_place}
 use Rattle.label_sets.specs.Labels.{label_sets_eq}
 use Rattle.packed_keys.specs.declared.sample_key.SampleKey.{SampleKey}
 
@@ -35,6 +37,10 @@ labels_bytes ls = length_code (length ls) ++ flat_map label_bytes ls
 -- a key: its name, then its labels
 unfoldable pub key_bytes : SampleKey → List ℕ
 key_bytes key = part_bytes key.name ++ labels_bytes key.labels
+
+-- the key of a series: its kind, its name, its unit, then its labels
+unfoldable pub series_bytes : SeriesKey → List ℕ
+series_bytes key = kind_place key.kind ∷ (part_bytes key.name ++ (part_bytes key.unit ++ labels_bytes key.labels))
 
 -- ---- reading back
 

@@ -8,6 +8,7 @@ mod sample_key;
 mod seen_keys;
 mod seen_names;
 mod seen_sets;
+mod series_places;
 #[cfg(test)]
 mod tests;
 mod unpacking;
@@ -17,3 +18,4 @@ pub use sample_key::SampleKey;
 pub use seen_keys::SeenKeys;
 pub use seen_names::SeenNames;
 pub use seen_sets::SeenSets;
+pub use series_places::SeriesPlaces;

@@ -1,11 +1,12 @@
 //! Names, labels and keys as bytes: the length of each part stands before it.
 ghost use Rattle.std.specs.Prelude.{◌≡◌, ◌++◌, length, OnOk, IsUtf8};
+ghost use Rattle.label_sets.specs.Keys.{kind_place};
 ghost use Rattle.label_sets.specs.Labels.{without_label};
-ghost use Rattle.packed_keys.specs.Packing.{length_code, part_bytes, label_bytes, labels_bytes, key_bytes};
+ghost use Rattle.packed_keys.specs.Packing.{length_code, part_bytes, label_bytes, labels_bytes, key_bytes, series_bytes};
 ghost use Rattle.packed_keys.specs.Texts.{IsTextLabel, IsTextSet, IsTextKey};
 
 use crate::sample_key::SampleKey;
-use label_sets::{Label, LabelSet, Memory};
+use label_sets::{Kind, Label, LabelSet, Memory, SeriesKey};
 
 /// Adds the code of a length, whatever it is.
 #[cold]
@@ -101,5 +102,31 @@ pub(crate) fn put_key(out: &mut Vec<u8>, key: &SampleKey) -> Result<(), Memory>
     ensures text { OnOk result (IsTextKey key.now) }
 {
     put_text(out, key.name.as_str())?;
+    put_labels(out, &key.labels)
+}
+
+/// The place of a kind, as a byte.
+fn kind_byte(kind: Kind) -> u8
+    ensures { result ≡ kind_place kind }
+{
+    match kind {
+        Kind::Counter => 0,
+        Kind::Gauge => 1,
+        Kind::Histogram => 2,
+        Kind::GaugeHistogram => 3,
+        Kind::StateSet => 4,
+        Kind::Info => 5,
+        Kind::Summary => 6,
+        Kind::Unknown => 7,
+    }
+}
+
+/// Adds the key of a series: its kind, its name, its unit, then its labels.
+pub(crate) fn put_series(out: &mut Vec<u8>, key: &SeriesKey) -> Result<(), Memory>
+    ensures { OnOk result (out.new.items ≡ out.old.items ++ series_bytes key.now) }
+{
+    out.push(kind_byte(key.kind))?;
+    put_text(out, key.name.as_str())?;
+    put_text(out, key.unit.as_str())?;
     put_labels(out, &key.labels)
 }

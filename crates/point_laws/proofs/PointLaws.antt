@@ -34,7 +34,8 @@ use Rattle.histogram_layout.specs.Layouts.{may_follow, are_cumulative}
 use Rattle.otlp_tree.specs.declared.tree.Metric.{Metric}
 use Rattle.otlp_tree.specs.declared.tree.Shape.{Shape}
 use Rattle.otlp_tree.specs.declared.tree.Shape.TheVariants as shapes
-use Rattle.target_core.specs.Points.{start_at, point_of, number_in, cumulative_layout, histogram_in, summary_in, number_point, histogram_point, summary_point}
+use Rattle.start_times.specs.Starts.{cumulative_layout}
+use Rattle.target_core.specs.Points.{point_at, point_of, number_in, histogram_in, summary_in, number_point, histogram_point, summary_point}
 use Rattle.target_core.specs.Trees.{some_of, shape_of, metric_of}
 use Rattle.point_laws.specs.PageLaws.{points_in, points_of_family, TextPagesLoseNothing}
 use Rattle.point_laws.proofs.TextPages.{has_word, IsSpelled, spelled_items, family_has_word, free_lines}
@@ -121,37 +122,37 @@ module _ {P Y : Type 0} (become : Reading → P) (h : P → Option Y) where
       let first = some_is (h (become r)) have.0 in
       rw first.1 (counts (first.0 ∷ filter_map h (map become rs)) ∙ ap suc (all_points rs have.1))
 
-module _ (moment : ℕ) where
-  number_points : (rs : List Reading) → AllByRecursion (λ (r : Reading). IsPlain r.value) rs → HavePoints (λ r. number_point (point_of moment r)) rs
-  unfolding number_point point_of
+module _ (start : Reading → Option ℕ) (moment : ℕ) where
+  number_points : (rs : List Reading) → AllByRecursion (λ (r : Reading). IsPlain r.value) rs → HavePoints (λ r. number_point (point_of start moment r)) rs
+  unfolding number_point point_at
   number_points [] h = tt
-  number_points (r ∷ rs) h = (map_some (λ number. record { labels = r.key.labels; start = start_at moment r; time = moment; value = Some number }) (number_in r.value) (number_is r.value h.0), number_points rs h.1)
+  number_points (r ∷ rs) h = (map_some (λ number. record { labels = r.key.labels; start = start r; time = moment; value = Some number }) (number_in r.value) (number_is r.value h.0), number_points rs h.1)
 
-  histogram_points : (rs : List Reading) → AllByRecursion (λ (r : Reading). HasRisingBuckets r.value) rs → HavePoints (λ r. histogram_point (point_of moment r)) rs
-  unfolding histogram_point point_of
+  histogram_points : (rs : List Reading) → AllByRecursion (λ (r : Reading). HasRisingBuckets r.value) rs → HavePoints (λ r. histogram_point (point_of start moment r)) rs
+  unfolding histogram_point point_at
   histogram_points [] h = tt
   histogram_points (r ∷ rs) h = (map_some _ (histogram_in r.value) (histogram_is r.value h.0), histogram_points rs h.1)
 
-  summary_points : (rs : List Reading) → AllByRecursion (λ (r : Reading). IsQuantiles r.value) rs → HavePoints (λ r. summary_point (point_of moment r)) rs
-  unfolding summary_point point_of
+  summary_points : (rs : List Reading) → AllByRecursion (λ (r : Reading). IsQuantiles r.value) rs → HavePoints (λ r. summary_point (point_of start moment r)) rs
+  unfolding summary_point point_at
   summary_points [] h = tt
   summary_points (r ∷ rs) h = (map_some _ (summary_in r.value) (summary_is r.value h.0), summary_points rs h.1)
 
-  kind_points : (kind : Kind) (r : Reading) (rs : List Reading) → has_word kind ≡ true → HaveValuesOf kind (r ∷ rs) → option_map_or points_in (shape_of kind (map (point_of moment) (r ∷ rs))) 0 ≡ suc (length rs)
+  kind_points : (kind : Kind) (r : Reading) (rs : List Reading) → has_word kind ≡ true → HaveValuesOf kind (r ∷ rs) → option_map_or points_in (shape_of kind (map (point_of start moment) (r ∷ rs))) 0 ≡ suc (length rs)
   unfolding shape_of
-  kind_points Counter r rs word have = shape_points (point_of moment) number_point (λ ps. shapes.Sum ps true) (λ ps. refl) r rs (number_points (r ∷ rs) have)
-  kind_points Gauge r rs word have = shape_points (point_of moment) number_point shapes.Gauge (λ ps. refl) r rs (number_points (r ∷ rs) have)
-  kind_points Unknown r rs word have = shape_points (point_of moment) number_point shapes.Gauge (λ ps. refl) r rs (number_points (r ∷ rs) have)
-  kind_points Histogram r rs word have = shape_points (point_of moment) histogram_point shapes.Histogram (λ ps. refl) r rs (histogram_points (r ∷ rs) have)
-  kind_points Summary r rs word have = shape_points (point_of moment) summary_point shapes.Summary (λ ps. refl) r rs (summary_points (r ∷ rs) have)
+  kind_points Counter r rs word have = shape_points (point_of start moment) number_point (λ ps. shapes.Sum ps true) (λ ps. refl) r rs (number_points (r ∷ rs) have)
+  kind_points Gauge r rs word have = shape_points (point_of start moment) number_point shapes.Gauge (λ ps. refl) r rs (number_points (r ∷ rs) have)
+  kind_points Unknown r rs word have = shape_points (point_of start moment) number_point shapes.Gauge (λ ps. refl) r rs (number_points (r ∷ rs) have)
+  kind_points Histogram r rs word have = shape_points (point_of start moment) histogram_point shapes.Histogram (λ ps. refl) r rs (histogram_points (r ∷ rs) have)
+  kind_points Summary r rs word have = shape_points (point_of start moment) summary_point shapes.Summary (λ ps. refl) r rs (summary_points (r ∷ rs) have)
   kind_points GaugeHistogram r rs word have = absurd cc
   kind_points StateSet r rs word have = absurd cc
   kind_points Info r rs word have = absurd cc
 
   -- the metric of readings has each of their points
-  metric_points : (kind : Kind) (help : List ℕ) (rs : List Reading) → has_word kind ≡ true → HaveValuesOf kind rs → option_map_or (λ (m : Metric). points_in m.shape) (metric_of moment kind help rs) 0 ≡ length rs
+  metric_points : (kind : Kind) (help : List ℕ) (rs : List Reading) → has_word kind ≡ true → HaveValuesOf kind rs → option_map_or (λ (m : Metric). points_in m.shape) (metric_of start moment kind help rs) 0 ≡ length rs
   metric_points kind help [] word have = refl
-  metric_points kind help (r ∷ rs) word have = by (shape_of kind (map (point_of moment) (r ∷ rs))) ∙ kind_points kind r rs word have
+  metric_points kind help (r ∷ rs) word have = by (shape_of kind (map (point_of start moment) (r ∷ rs))) ∙ kind_points kind r rs word have
     where
       by : (o : Option Shape) → option_map_or (λ (m : Metric). points_in m.shape) (option_map (λ shape. record { name = r.key.name; description = help; unit = r.key.unit; shape = shape }) o) 0 ≡ option_map_or points_in o 0
       by None = refl
@@ -161,24 +162,24 @@ module _ (moment : ℕ) where
 
   families_points : (st : Setting) (lines : List Owned) (names : List (List ℕ)) → ((family : List ℕ) → has_word (family_of st lines family).kind ≡ true)
       → ((family : List ℕ) → HaveValuesOf (family_of st lines family).kind (family_of st lines family).readings)
-      → AllByRecursion (λ (f : Family). points_of_family moment f ≡ length f.readings) (map (family_of st lines) names)
+      → AllByRecursion (λ (f : Family). points_of_family start moment f ≡ length f.readings) (map (family_of st lines) names)
   families_points st lines [] words have = tt
   families_points st lines (name ∷ names) words have =
       let f : Family = family_of st lines name in
       (metric_points f.kind f.help f.readings (words name) (have name), families_points st lines names words have)
 
   page_points : (st : Setting) (earlier : List Item) (clean : Bool) → st.format ≡ Text → AllByRecursion IsSpelled earlier → AreFaultless st earlier → end_fault st earlier clean ≡ None
-      → All (λ (f : Family). points_of_family moment f ≡ length f.readings) (page_of st earlier).families
+      → All (λ (f : Family). points_of_family start moment f ≡ length f.readings) (page_of st earlier).families
   unfolding page_of
   page_points st earlier clean text spelled free none =
       let lines : List Owned = reverse (owned_lines st.format earlier) in
-      All-from_recursion (λ (f : Family). points_of_family moment f ≡ length f.readings) (map (family_of st lines) (families_of lines))
+      All-from_recursion (λ (f : Family). points_of_family start moment f ≡ length f.readings) (map (family_of st lines) (families_of lines))
       (families_points st lines (families_of lines) (page_words st earlier spelled free) (page_values st earlier clean free none))
 
 pub text_pages_lose_nothing : TextPagesLoseNothing
-text_pages_lose_nothing st bytes page text is = λ moment.
+text_pages_lose_nothing st bytes page text is = λ start moment.
     let items : List Item = items_of st.format is.lines in
     let spelled : AllByRecursion IsSpelled items = spelled_of st.format text (lines_of bytes) is.lines is.are_lines in
     let free = free_lines is.lines st [] 1 (ends_clean bytes) is.without_fault tt in
-    subst (λ (p : Page). All (λ (f : Family). points_of_family moment f ≡ length f.readings) p.families) (sym is.page_is)
-    (page_points moment st items (ends_clean bytes) text spelled free.0 free.1)
+    subst (λ (p : Page). All (λ (f : Family). points_of_family start moment f ≡ length f.readings) p.families) (sym is.page_is)
+    (page_points start moment st items (ends_clean bytes) text spelled free.0 free.1)

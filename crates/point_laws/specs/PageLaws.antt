@@ -1,8 +1,9 @@
 -- Laws of what a page comes to. Each is proved, and a call of the crate stands for it.
 -- OpenTelemetry, "Prometheus and OpenMetrics Compatibility", "Prometheus Metric points to OTLP". That no reading is left out is the bridge's own.
-use Rattle.std.specs.Prelude.{◌≡◌, ℕ, List, length, All}
+use Rattle.std.specs.Prelude.{◌≡◌, ℕ, List, Option, length, All}
 use Rattle.std.specs.Option.{option_map_or}
 use Rattle.page_model.specs.declared.format.Format.TheVariants.{Text}
+use Rattle.page_model.specs.declared.page.Reading.{Reading}
 use Rattle.page_model.specs.declared.page.Family.{Family}
 use Rattle.page_model.specs.declared.page.Page.{Page}
 use Rattle.page_model.specs.Written.{Setting}
@@ -20,12 +21,12 @@ points_in (shapes.Histogram points) = length points
 points_in (shapes.Summary points) = length points
 
 -- how many points the metric of a family has; without a metric there are none
-abbrev pub points_of_family : ℕ → Family → ℕ
-points_of_family moment f = option_map_or (λ (m : Metric). points_in m.shape) (family_metric moment f) 0
+abbrev pub points_of_family : (Reading → Option ℕ) → ℕ → Family → ℕ
+points_of_family start moment f = option_map_or (λ (m : Metric). points_in m.shape) (family_metric start moment f) 0
 
--- whenever the page is scraped, each family's metric has as many points as the family has readings
+-- whenever the page is scraped, and whatever the starts of its series, each family's metric has as many points as the family has readings
 abbrev pub EachReadingHasAPoint : Page → Type 0
-EachReadingHasAPoint page = (moment : ℕ) → All (λ (f : Family). points_of_family moment f ≡ length f.readings) page.families
+EachReadingHasAPoint page = (start : Reading → Option ℕ) (moment : ℕ) → All (λ (f : Family). points_of_family start moment f ≡ length f.readings) page.families
 
 -- no reading of a text page that has no fault is left out: each family's metric has a point for each of its readings
 abbrev pub TextPagesLoseNothing : Type 0

@@ -1,2 +1,10 @@
 mod Placing
+mod Grouping
+mod Identities
+mod Grouped
+mod FamilyMetrics
+mod Stepping
+mod EmptyPast
+mod Placed
+mod Rising
 mod Cases

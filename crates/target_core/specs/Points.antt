@@ -1,18 +1,13 @@
--- The points of the readings of one scrape, for a target without a past.
--- OpenTelemetry metrics data model, "Metric Points", "Histogram", "Summary" and "Cumulative streams: handling unknown start time";
--- "Prometheus and OpenMetrics Compatibility", "Start Time" and "Prometheus Metric points to OTLP".
-use Rattle.std.specs.Prelude.{ℕ, Bool, true, false, List, Option, Some, None, option_map, option_and_then, unwrap_or, nat_le, if◌then◌else◌}
-use Rattle.label_sets.specs.declared.kind.Kind.{Kind}
-use Rattle.label_sets.specs.declared.kind.Kind.TheVariants.{Counter, Histogram, StateSet, Info, Summary}
+-- The points of the readings of one scrape.
+-- OpenTelemetry metrics data model, "Metric Points", "Histogram", "Summary"; "Prometheus and OpenMetrics Compatibility", "Prometheus Metric points to OTLP".
+use Rattle.std.specs.Prelude.{ℕ, List, map, Option, Some, None, option_map, unwrap_or}
+use Rattle.std.specs.List.{zip}
 use Rattle.exact_decimal.specs.declared.number.Number.{Number}
 use Rattle.exact_decimal.specs.Numbers.{number_of}
-use Rattle.exact_decimal.specs.Order.{nanos}
-use Rattle.page_model.specs.declared.page.Bucket.{Bucket}
 use Rattle.page_model.specs.declared.page.Value.{Value}
 use Rattle.page_model.specs.declared.page.Value.TheVariants as values
 use Rattle.page_model.specs.declared.page.Reading.{Reading}
-use Rattle.histogram_layout.specs.declared.intervals.Layout.{Layout}
-use Rattle.histogram_layout.specs.Layouts.{are_cumulative, layout_of}
+use Rattle.start_times.specs.Starts.{cumulative_layout}
 use Rattle.otlp_tree.specs.declared.tree.NumberPoint.{NumberPoint}
 use Rattle.otlp_tree.specs.declared.tree.HistogramPoint.{HistogramPoint}
 use Rattle.otlp_tree.specs.declared.tree.HistogramValue.{HistogramValue}
@@ -30,30 +25,17 @@ pub record Point : Type 0 where
   pub time : ℕ
   pub value : Value
 
--- the kinds whose points have a start
-unfoldable pub has_start : Kind → Bool
-has_start Counter = true
-has_start Histogram = true
-has_start Summary = true
-has_start Info = true
-has_start StateSet = true
-has_start _ = false
+-- the point of a reading whose series began then
+unfoldable pub point_at : Option ℕ → ℕ → Reading → Point
+point_at start moment r = record { labels = r.key.labels; start = start; time = moment; value = r.value }
 
--- the time, where it isn't after the limit
-unfoldable pub up_to : ℕ → ℕ → Option ℕ
-up_to limit n = if nat_le n limit then Some n else None
+-- the point of a reading, with the start that its series has
+abbrev pub point_of : (Reading → Option ℕ) → ℕ → Reading → Point
+point_of start moment r = point_at (start r) moment r
 
--- when the page says that the series was created, where that isn't after the moment of the scrape
-abbrev pub created_at : ℕ → Reading → Option ℕ
-created_at moment r = option_and_then (up_to moment) (option_and_then nanos r.created)
-
--- when a series began, where its kind has starts: when it was created, else with the scrape itself
-unfoldable pub start_at : ℕ → Reading → Option ℕ
-start_at moment r = if has_start r.key.kind then Some (unwrap_or (created_at moment r) moment) else None
-
--- the point of a reading
-unfoldable pub point_of : ℕ → Reading → Point
-point_of moment r = record { labels = r.key.labels; start = start_at moment r; time = moment; value = r.value }
+-- the points of readings with the starts beside them
+abbrev pub points_with : ℕ → List Reading → List (Option ℕ) → List Point
+points_with moment readings starts = map (λ (p : Reading × Option ℕ). point_at p.1 moment p.0) (zip readings starts)
 
 -- ---- values
 
@@ -61,10 +43,6 @@ point_of moment r = record { labels = r.key.labels; start = start_at moment r; t
 unfoldable pub number_in : Value → Option Number
 number_in (values.Plain n) = Some n
 number_in _ = None
-
--- the layout of buckets that are cumulative
-unfoldable pub cumulative_layout : List Bucket → Option Layout
-cumulative_layout buckets = if are_cumulative buckets then Some (layout_of buckets) else None
 
 -- the histogram of a value that has cumulative buckets
 unfoldable pub histogram_in : Value → Option HistogramValue

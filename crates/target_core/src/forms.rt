@@ -1,8 +1,10 @@
-//! The points of readings, in the forms of their kinds.
+//! The points of readings and of markers, in the forms of their kinds.
 ghost use Rattle.std.specs.Prelude.{◌≡◌, Option, IfOk};
+ghost use Rattle.start_times.specs.Starts as starts;
 ghost use Rattle.target_core.specs.Points as spec;
+ghost use Rattle.target_core.specs.Markers as markers;
 
-use crate::points::{start_at, start_or_moment};
+use crate::markers::Marker;
 use exact_decimal::Number;
 use histogram_layout::Layout;
 use label_sets::{List, Memory};
@@ -10,15 +12,27 @@ use otlp_tree::{HistogramPoint, HistogramValue, NumberPoint, SummaryPoint, Summa
 use page_model::{Bucket, Reading, Value};
 use std::alloc::Global;
 
-/// A form of points, in which a reading has one where its value is of that kind.
-pub(crate) trait FromReading: Sized {
-    ghost use Rattle.target_core.specs.Points.{Point, point_of};
+/// A form of points, in which a reading has one where its value is of that kind, and each marker has one.
+pub(crate) trait PointForm: Sized {
+    ghost use Rattle.target_core.specs.Points.{Point, point_at};
+    ghost use Rattle.target_core.specs.declared.markers.Marker.{Marker as Gone};
 
     ghost form_of: { Point → Option Self };
 
+    ghost marked_by: { Gone → Self };
+
     /// The point of a reading in this form, where it has one. Its labels and lists are shared.
-    fn from_reading(alloc: Global, moment: u64, reading: &Reading) -> Result<Option<Self>, Memory>
-        ensures { IfOk result (λ form. form ≡ form_of (point_of moment reading.now)) };
+    fn from_reading(
+        alloc: Global,
+        start: Option<u64>,
+        moment: u64,
+        reading: &Reading,
+    ) -> Result<Option<Self>, Memory>
+        ensures { IfOk result (λ form. form ≡ form_of (point_at start moment reading.now)) };
+
+    /// The point of a marker in this form: it has no value. Its labels are shared.
+    fn from_marker(marker: &Marker) -> Result<Self, Memory>
+        ensures { IfOk result (λ form. form ≡ marked_by marker.now) };
 }
 
 /// The number of a value that is one.
@@ -32,12 +46,15 @@ fn number_in(value: &Value) -> Option<Number>
     }
 }
 
-impl FromReading for NumberPoint {
+impl PointForm for NumberPoint {
     ghost form_of = { spec.number_point };
 
-    #[tactic(auto, unfolding(crate::specs::Points::number_point, crate::specs::Points::point_of))]
+    ghost marked_by = { markers.number_marker };
+
+    #[tactic(auto, unfolding(crate::specs::Points::number_point, crate::specs::Points::point_at))]
     fn from_reading(
         _alloc: Global,
+        start: Option<u64>,
         moment: u64,
         reading: &Reading,
     ) -> Result<Option<Self>, Memory> {
@@ -46,17 +63,27 @@ impl FromReading for NumberPoint {
         };
         Ok(Some(NumberPoint {
             labels: reading.key.labels.copy()?,
-            start: start_at(moment, reading),
+            start,
             time: moment,
             value: Some(number),
         }))
     }
+
+    #[tactic(auto, unfolding(crate::specs::Markers::number_marker))]
+    fn from_marker(marker: &Marker) -> Result<Self, Memory> {
+        Ok(NumberPoint {
+            labels: marker.key.labels.copy()?,
+            start: marker.start,
+            time: marker.time,
+            value: None,
+        })
+    }
 }
 
 /// The layout of buckets that are cumulative.
-#[tactic(auto, unfolding(crate::specs::Points::cumulative_layout))]
+#[tactic(auto, unfolding(start_times::specs::Starts::cumulative_layout))]
 fn cumulative_layout(alloc: Global, buckets: &List<Bucket>) -> Result<Option<Layout>, Memory>
-    ensures { IfOk result (λ layout. layout ≡ spec.cumulative_layout buckets.now) }
+    ensures { IfOk result (λ layout. layout ≡ starts.cumulative_layout buckets.now) }
 {
     let buckets = buckets.as_slice();
     if !histogram_layout::is_cumulative(buckets) {
@@ -80,20 +107,37 @@ fn histogram_in(alloc: Global, value: &Value) -> Result<Option<HistogramValue>, 
     Ok(Some(HistogramValue { layout, sum: *sum }))
 }
 
-impl FromReading for HistogramPoint {
+impl PointForm for HistogramPoint {
     ghost form_of = { spec.histogram_point };
 
-    #[tactic(auto, unfolding(crate::specs::Points::histogram_point, crate::specs::Points::point_of))]
-    fn from_reading(alloc: Global, moment: u64, reading: &Reading) -> Result<Option<Self>, Memory> {
+    ghost marked_by = { markers.histogram_marker };
+
+    #[tactic(auto, unfolding(crate::specs::Points::histogram_point, crate::specs::Points::point_at))]
+    fn from_reading(
+        alloc: Global,
+        start: Option<u64>,
+        moment: u64,
+        reading: &Reading,
+    ) -> Result<Option<Self>, Memory> {
         let Some(histogram) = histogram_in(alloc, &reading.value)? else {
             return Ok(None);
         };
         Ok(Some(HistogramPoint {
             labels: reading.key.labels.copy()?,
-            start: start_or_moment(moment, reading),
+            start: start.unwrap_or(moment),
             time: moment,
             value: Some(histogram),
         }))
+    }
+
+    #[tactic(auto, unfolding(crate::specs::Markers::histogram_marker))]
+    fn from_marker(marker: &Marker) -> Result<Self, Memory> {
+        Ok(HistogramPoint {
+            labels: marker.key.labels.copy()?,
+            start: marker.start.unwrap_or(marker.time),
+            time: marker.time,
+            value: None,
+        })
     }
 }
 
@@ -113,12 +157,15 @@ fn summary_in(value: &Value) -> Result<Option<SummaryValue>, Memory>
     }))
 }
 
-impl FromReading for SummaryPoint {
+impl PointForm for SummaryPoint {
     ghost form_of = { spec.summary_point };
 
-    #[tactic(auto, unfolding(crate::specs::Points::summary_point, crate::specs::Points::point_of))]
+    ghost marked_by = { markers.summary_marker };
+
+    #[tactic(auto, unfolding(crate::specs::Points::summary_point, crate::specs::Points::point_at))]
     fn from_reading(
         _alloc: Global,
+        start: Option<u64>,
         moment: u64,
         reading: &Reading,
     ) -> Result<Option<Self>, Memory> {
@@ -127,9 +174,19 @@ impl FromReading for SummaryPoint {
         };
         Ok(Some(SummaryPoint {
             labels: reading.key.labels.copy()?,
-            start: start_or_moment(moment, reading),
+            start: start.unwrap_or(moment),
             time: moment,
             value: Some(summary),
         }))
+    }
+
+    #[tactic(auto, unfolding(crate::specs::Markers::summary_marker))]
+    fn from_marker(marker: &Marker) -> Result<Self, Memory> {
+        Ok(SummaryPoint {
+            labels: marker.key.labels.copy()?,
+            start: marker.start.unwrap_or(marker.time),
+            time: marker.time,
+            value: None,
+        })
     }
 }

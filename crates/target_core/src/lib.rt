@@ -1,16 +1,15 @@
-//! What a target's scrapes become: the OTLP tree of the one event of a target without a past. It reads
-//! and sends nothing.
+//! What a target's scrapes become: the OTLP tree of each of its events. It reads and sends nothing.
 #![tactic(auto)]
 
 mod forms;
+mod gone;
+mod markers;
 mod metrics;
 mod points;
 mod resource;
-mod target;
+mod state;
 mod tree;
+pub mod tree_laws;
 
-pub use target::Target;
-pub use tree::event_request;
-
-#[cfg(test)]
-mod tests;
+pub use bridge_ports::Target;
+pub use state::TargetState;

@@ -1,86 +1,122 @@
-//! The metric of a family.
-ghost use Rattle.std.specs.Prelude.{◌≡◌, map, filter_map, IfOk};
+//! The metrics of families, with the markers of their series, and of markers alone.
+ghost use Rattle.std.specs.Prelude.{◌≡◌, ◌++◌, ℕ, Option, map, filter_map, option_map, IfOk, OnOk};
+ghost use Rattle.page_model.specs.declared.page.Reading.{Reading as AnyReading};
 ghost use Rattle.target_core.specs.Points as spec;
+ghost use Rattle.target_core.specs.Markers as marks;
+ghost use Rattle.target_core.specs.MarkerGroups as grouped;
 ghost use Rattle.target_core.specs.Trees as trees;
 
-use crate::forms::FromReading;
-use label_sets::{Kind, List, Memory};
+use crate::forms::PointForm;
+use crate::markers::{Marker, MarkerGroup};
+use label_sets::{Kind, List, Memory, Text};
 use otlp_tree::{Metric, Shape};
 use page_model::{Family, Reading};
 use std::alloc::Global;
 
-/// The points of readings, where they have this form.
-fn all_points<F: FromReading + Drop>(
+/// The points of readings with these starts, where they have this form.
+fn all_points<F: PointForm + Drop>(
     alloc: Global,
     moment: u64,
     readings: &[Reading],
+    starts: &[Option<u64>],
 ) -> Result<Vec<F>, Memory>
-    ensures { IfOk result (λ points. points.items ≡ filter_map F.form_of (map (spec.point_of moment) readings.now)) }
+    ensures { IfOk result (λ points. points.items ≡ filter_map F.form_of (spec.points_with moment readings.now starts.now)) }
 {
     let mut points = Vec::with_capacity(alloc, readings.len())?;
-    for reading in readings {
-        if let Some(point) = F::from_reading(alloc, moment, reading)? {
+    for (reading, start) in readings.iter().zip(starts) {
+        if let Some(point) = F::from_reading(alloc, *start, moment, reading)? {
             points.push(point)?;
         }
     }
     Ok(points)
 }
 
-/// The same as a list, where there is one.
-fn points<F: FromReading + Drop>(
+/// Puts the points of markers behind others.
+fn push_markers<F: PointForm + Drop>(points: &mut Vec<F>, markers: &[Marker]) -> Result<(), Memory>
+    ensures { OnOk result (points.new.items ≡ points.old.items ++ map F.marked_by markers.now) }
+{
+    for marker in markers {
+        let point = F::from_marker(marker)?;
+        points.push(point)?;
+    }
+    Ok(())
+}
+
+/// The points of readings with these starts, and behind them those of markers, where a reading has one.
+fn points<F: PointForm + Drop>(
     alloc: Global,
     moment: u64,
     readings: &[Reading],
+    starts: &[Option<u64>],
+    markers: &[Marker],
 ) -> Result<Option<List<F>>, Memory>
-    ensures { IfOk result (λ points. points ≡ trees.some_of F.form_of (map (spec.point_of moment) readings.now)) }
+    ensures { IfOk result (λ points. points ≡ option_map (λ ps. ps ++ map F.marked_by markers.now)
+        (trees.some_of F.form_of (spec.points_with moment readings.now starts.now))) }
 {
-    let points = all_points(alloc, moment, readings)?;
+    let mut points = all_points(alloc, moment, readings, starts)?;
     if points.is_empty() {
         return Ok(None);
     }
+    push_markers(&mut points, markers)?;
     let points = List::from_vec(points)?;
     Ok(Some(points))
 }
 
-/// The shape of the points of readings of a kind, where there is one.
+/// The shape of the points of readings of a kind, and of markers behind them, where there is one.
 #[tactic(auto, unfolding(crate::specs::Trees::shape_of))]
 fn shape(
     alloc: Global,
     moment: u64,
     kind: Kind,
     readings: &[Reading],
+    starts: &[Option<u64>],
+    markers: &[Marker],
 ) -> Result<Option<Shape>, Memory>
-    ensures { IfOk result (λ shape. shape ≡ trees.shape_of kind (map (spec.point_of moment) readings.now)) }
+    ensures { IfOk result (λ shape. shape ≡ option_map (marks.shape_with markers.now)
+        (trees.shape_of kind (spec.points_with moment readings.now starts.now))) }
 {
     Ok(match kind {
-        Kind::Counter => points(alloc, moment, readings)?.map(|points| Shape::Sum {
-            points,
-            monotonic: true,
-        }),
-        Kind::Info | Kind::StateSet => points(alloc, moment, readings)?.map(|points| Shape::Sum {
-            points,
-            monotonic: false,
-        }),
-        Kind::Histogram => points(alloc, moment, readings)?.map(Shape::Histogram),
-        Kind::Summary => points(alloc, moment, readings)?.map(Shape::Summary),
-        Kind::Gauge | Kind::Unknown => points(alloc, moment, readings)?.map(Shape::Gauge),
+        Kind::Counter => {
+            points(alloc, moment, readings, starts, markers)?.map(|points| Shape::Sum {
+                points,
+                monotonic: true,
+            })
+        }
+        Kind::Info | Kind::StateSet => {
+            points(alloc, moment, readings, starts, markers)?.map(|points| Shape::Sum {
+                points,
+                monotonic: false,
+            })
+        }
+        Kind::Histogram => {
+            points(alloc, moment, readings, starts, markers)?.map(Shape::Histogram)
+        }
+        Kind::Summary => points(alloc, moment, readings, starts, markers)?.map(Shape::Summary),
+        Kind::Gauge | Kind::Unknown => {
+            points(alloc, moment, readings, starts, markers)?.map(Shape::Gauge)
+        }
         Kind::GaugeHistogram => None,
     })
 }
 
-/// The metric of a family, where it has one. It is named by the first reading. Texts are shared.
+/// The metric of a family, where it has one, and these markers behind its points. It is named by the
+/// first reading. Texts are shared.
+#[tactic(auto, unfolding(crate::specs::Markers::metric_with))]
 pub(crate) fn family_metric(
     alloc: Global,
     moment: u64,
     family: &Family,
+    starts: &[Option<u64>],
+    markers: &[Marker],
 ) -> Result<Option<Metric>, Memory>
-    ensures { IfOk result (λ metric. metric ≡ trees.family_metric moment family.now) }
+    ensures { (start : AnyReading → Option ℕ) → starts.now ≡ map start family.now.readings
+        → IfOk result (λ metric. metric ≡ option_map (marks.metric_with markers.now) (trees.family_metric start moment family.now)) }
 {
     let readings = family.readings.as_slice();
     let Some(first) = readings.first() else {
         return Ok(None);
     };
-    let Some(shape) = shape(alloc, moment, family.kind, readings)? else {
+    let Some(shape) = shape(alloc, moment, family.kind, readings, starts, markers)? else {
         return Ok(None);
     };
     let name = first.key.name.copy()?;
@@ -92,4 +128,73 @@ pub(crate) fn family_metric(
         unit,
         shape,
     }))
+}
+
+/// The points of markers alone.
+fn marker_points<F: PointForm + Drop>(alloc: Global, markers: &[Marker]) -> Result<List<F>, Memory>
+    ensures { IfOk result (λ points. points ≡ map F.marked_by markers.now) }
+{
+    let mut points = Vec::with_capacity(alloc, markers.len())?;
+    push_markers(&mut points, markers)?;
+    let points = List::from_vec(points)?;
+    Ok(points)
+}
+
+/// The shape of markers alone of series of a kind, where the kind has points.
+#[tactic(auto, unfolding(crate::specs::Markers::no_points))]
+fn marker_shape(alloc: Global, kind: Kind, markers: &[Marker]) -> Result<Option<Shape>, Memory>
+    ensures { IfOk result (λ shape. shape ≡ option_map (marks.shape_with markers.now) (marks.no_points kind)) }
+{
+    Ok(match kind {
+        Kind::Counter => Some(Shape::Sum {
+            points: marker_points(alloc, markers)?,
+            monotonic: true,
+        }),
+        Kind::Info | Kind::StateSet => Some(Shape::Sum {
+            points: marker_points(alloc, markers)?,
+            monotonic: false,
+        }),
+        Kind::Histogram => Some(Shape::Histogram(marker_points(alloc, markers)?)),
+        Kind::Summary => Some(Shape::Summary(marker_points(alloc, markers)?)),
+        Kind::Gauge | Kind::Unknown => Some(Shape::Gauge(marker_points(alloc, markers)?)),
+        Kind::GaugeHistogram => None,
+    })
+}
+
+/// The metric of markers that the page has no metric for, where there is one.
+#[tactic(auto, unfolding(crate::specs::MarkerGroups::alone_metric))]
+fn alone_metric(alloc: Global, group: &MarkerGroup) -> Result<Option<Metric>, Memory>
+    ensures { IfOk result (λ metric. metric ≡ grouped.alone_metric group.now) }
+{
+    if group.is_placed() {
+        return Ok(None);
+    }
+    let first = group.first();
+    let Some(shape) = marker_shape(alloc, first.kind, group.markers())? else {
+        return Ok(None);
+    };
+    let name = first.name.copy()?;
+    let unit = first.unit.copy()?;
+    Ok(Some(Metric {
+        name: name.into_text(),
+        description: Text::empty(),
+        unit,
+        shape,
+    }))
+}
+
+/// Puts the metrics of markers alone behind those of a page.
+pub(crate) fn push_alone(
+    alloc: Global,
+    groups: &[MarkerGroup],
+    metrics: &mut Vec<Metric>,
+) -> Result<(), Memory>
+    ensures { OnOk result (metrics.new.items ≡ metrics.old.items ++ filter_map grouped.alone_metric groups.now) }
+{
+    for group in groups {
+        if let Some(metric) = alone_metric(alloc, group)? {
+            metrics.push(metric)?;
+        }
+    }
+    Ok(())
 }

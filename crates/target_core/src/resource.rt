@@ -3,7 +3,7 @@ ghost use Rattle.std.specs.Prelude.{◌≡◌, IfOk};
 ghost use Rattle.target_core.specs.Trees as trees;
 ghost use Rattle.otlp_tree.specs.declared.tree.AttributeValue.TheVariants.{Str, Int};
 
-use crate::target::Target;
+use bridge_ports::Target;
 use label_sets::{Memory, Text};
 use otlp_tree::{Attribute, AttributeValue};
 use std::alloc::Global;
@@ -33,10 +33,12 @@ fn number_attribute(alloc: Global, key: &str, value: u64) -> Result<Attribute, M
 pub(crate) fn resource(alloc: Global, target: &Target) -> Result<Vec<Attribute>, Memory>
     ensures { IfOk result (λ attributes. attributes.items ≡ trees.resource_of target.now) }
 {
-    let name = text_attribute(alloc, "service.name", target.job.copy()?)?;
-    let instance = text_attribute(alloc, "service.instance.id", target.instance.copy()?)?;
-    let address = text_attribute(alloc, "server.address", target.host.copy()?)?;
-    let port = number_attribute(alloc, "server.port", u64::from(target.port))?;
+    let address = target.address();
+    let host = Text::from_utf8(alloc, address.host.as_slice())?;
+    let name = text_attribute(alloc, "service.name", target.job().copy()?)?;
+    let instance = text_attribute(alloc, "service.instance.id", target.instance().copy()?)?;
+    let server = text_attribute(alloc, "server.address", host)?;
+    let port = number_attribute(alloc, "server.port", u64::from(address.port))?;
     let scheme = text_attribute(alloc, "url.scheme", Text::from_str(alloc, "http")?)?;
-    Ok(Vec::from_array(alloc, [name, instance, address, port, scheme])?)
+    Ok(Vec::from_array(alloc, [name, instance, server, port, scheme])?)
 }

@@ -1,14 +1,23 @@
 //! The request tree of one event.
-ghost use Rattle.std.specs.Prelude.{◌≡◌, ◌++◌, filter_map, IfOk, OnOk};
-ghost use Rattle.page_model.specs.Presence.{page_of_outcome};
+ghost use Rattle.std.specs.Prelude.{◌≡◌, ◌++◌, ◌∷◌, [], ℕ, List as Seq, Option, map, filter_map, option_map, take, drop, IfOk, OnOk};
+ghost use Rattle.std.specs.List.{flat_map};
+ghost use Rattle.page_model.specs.declared.page.Reading.{Reading as AnyReading};
+ghost use Rattle.page_model.specs.declared.page.Family.{Family as AnyFamily};
+ghost use Rattle.page_model.specs.Presence.{all_readings};
+ghost use Rattle.label_sets.specs.declared.kind.Kind.{Kind as AnyKind};
+ghost use Rattle.otlp_tree.specs.declared.tree.Metric.{Metric as AnyMetric};
+ghost use Rattle.target_core.specs.declared.markers.Marker.{Marker as AnyMarker};
+ghost use Rattle.target_core.specs.Markers.{with_markers};
+ghost use Rattle.target_core.specs.MarkerGroups.{marker_groups};
 ghost use Rattle.target_core.specs.Trees as trees;
 
-use crate::metrics::family_metric;
+use crate::markers::MarkerGroups;
+use crate::metrics::{family_metric, push_alone};
 use crate::resource::resource;
-use crate::target::Target;
+use bridge_ports::Target;
 use label_sets::{LabelSet, List, Memory, Text};
 use otlp_tree::{Metric, NumberPoint, Request, ScopeMetrics, Shape};
-use page_model::{Family, Outcome};
+use page_model::{Family, Page};
 use std::alloc::Global;
 
 /// A gauge with one point and no labels.
@@ -41,16 +50,80 @@ fn target_metrics(alloc: Global, moment: u64, up: u64, samples: u64) -> Result<V
     Ok(Vec::from_array(alloc, [up, scraped])?)
 }
 
-/// The metrics of families, in order.
-fn page_metrics(alloc: Global, moment: u64, families: &[Family]) -> Result<Vec<Metric>, Memory>
-    ensures { IfOk result (λ metrics. metrics.items ≡ filter_map (trees.family_metric moment) families.now) }
+/// The metric of a family with its starts and the markers of its series, where it has one; the markers
+/// know then that they have a place.
+fn placed_metric(
+    alloc: Global,
+    moment: u64,
+    family: &Family,
+    starts: &[Option<u64>],
+    groups: &mut MarkerGroups,
+) -> Result<Option<Metric>, Memory>
+    ensures { (start : AnyReading → Option ℕ) (ms : Seq AnyMarker) (before : Seq (AnyKind × AnyMetric))
+        → starts.now ≡ map start family.now.readings → groups.old ≡ marker_groups before ms
+        → IfOk result (λ metric. (metric ≡ option_map (λ m. with_markers ms family.now.kind m) (trees.family_metric start moment family.now))
+        × (groups.new ≡ marker_groups (before ++ filter_map (trees.kind_metric start moment) (family.now ∷ [])) ms)) }
+{
+    let Some(first) = family.readings.as_slice().first() else {
+        return Ok(None);
+    };
+    let place = groups.place_of(
+        first.key.name.as_bytes(),
+        family.kind,
+        first.key.unit.as_bytes(),
+    )?;
+    let metric = family_metric(alloc, moment, family, starts, groups.markers_at(place))?;
+    groups.set_placed(place, metric.is_some());
+    Ok(metric)
+}
+
+/// The starts of the next readings, and those behind them.
+fn next_starts(starts: &[Option<u64>], count: usize) -> (&[Option<u64>], &[Option<u64>])
+    ensures own { result.0.now ≡ take count starts.now }
+    ensures rest { result.1.now ≡ drop count starts.now }
+{
+    starts.split_at(count.min(starts.len()))
+}
+
+/// The metrics of families with the starts of all their readings, in order.
+fn page_metrics(
+    alloc: Global,
+    moment: u64,
+    families: &[Family],
+    starts: &[Option<u64>],
+    groups: &mut MarkerGroups,
+) -> Result<Vec<Metric>, Memory>
+    ensures { (start : AnyReading → Option ℕ) (ms : Seq AnyMarker)
+        → starts.now ≡ map start (flat_map (λ (f : AnyFamily). f.readings) families.now) → groups.old ≡ marker_groups [] ms
+        → IfOk result (λ metrics. (metrics.items ≡ map (λ m. with_markers ms m.0 m.1) (filter_map (trees.kind_metric start moment) families.now))
+        × (groups.new ≡ marker_groups (filter_map (trees.kind_metric start moment) families.now) ms)) }
 {
     let mut metrics = Vec::with_capacity(alloc, families.len())?;
+    let mut left = starts;
     for family in families {
-        if let Some(metric) = family_metric(alloc, moment, family)? {
+        let (own, rest) = next_starts(left, family.readings.len());
+        if let Some(metric) = placed_metric(alloc, moment, family, own, groups)? {
             metrics.push(metric)?;
         }
+        left = rest;
     }
+    Ok(metrics)
+}
+
+/// The metrics of a page with the starts of its readings, with markers, and of markers alone.
+fn event_metrics(
+    alloc: Global,
+    moment: u64,
+    page: &Page,
+    starts: &[Option<u64>],
+    mut groups: MarkerGroups,
+) -> Result<Vec<Metric>, Memory>
+    ensures { (start : AnyReading → Option ℕ) (ms : Seq AnyMarker)
+        → starts.now ≡ map start (all_readings page.now) → groups ≡ marker_groups [] ms
+        → IfOk result (λ metrics. metrics.items ≡ trees.event_metrics start ms moment page.now) }
+{
+    let mut metrics = page_metrics(alloc, moment, page.families.as_slice(), starts, &mut groups)?;
+    push_alone(alloc, groups.as_slice(), &mut metrics)?;
     Ok(metrics)
 }
 
@@ -72,55 +145,29 @@ fn push_scope(
     Ok(())
 }
 
-/// 1 where the scrape gave a page, else 0.
-fn up(outcome: &Outcome) -> u64
-    ensures { result ≡ trees.up_of outcome.now }
-{
-    match outcome {
-        Outcome::Page(_) => 1,
-        Outcome::Failed(_) => 0,
-    }
-}
-
-/// The families of a scrape's page; a scrape that failed has none.
-fn families_of(outcome: &Outcome) -> &[Family]
-    ensures { result.now ≡ (page_of_outcome outcome.now).families }
-{
-    match outcome {
-        Outcome::Page(page) => page.families.as_slice(),
-        Outcome::Failed(_) => &[],
-    }
-}
-
-/// How many samples a scrape's page has.
-fn samples_of(outcome: &Outcome) -> u32
-    ensures { result ≡ (page_of_outcome outcome.now).samples }
-{
-    match outcome {
-        Outcome::Page(page) => page.samples,
-        Outcome::Failed(_) => 0,
-    }
-}
-
-/// The tree of the event that a scrape of a target without a past is, at a moment in nanoseconds
-/// since the Unix epoch (OTLP 1.x, `ExportMetricsServiceRequest`). The names, labels and HELP texts of
-/// the page are shared with it. Want of memory is the only error.
-#[tactic(auto, unfolding(crate::specs::Trees::event_request))]
-pub fn event_request(
+/// The tree of a scrape of a target at a moment in nanoseconds since the Unix epoch (OTLP 1.x,
+/// `ExportMetricsServiceRequest`), with the starts of its readings in page order and the markers of the
+/// series that are gone. The names, labels and HELP texts of the page are shared with it. Want of memory
+/// is the only error.
+#[tactic(auto, unfolding(crate::specs::Trees::request_of))]
+pub(crate) fn request(
     alloc: Global,
     target: &Target,
     moment: u64,
-    outcome: &Outcome,
+    up: u64,
+    page: &Page,
+    starts: &[Option<u64>],
+    groups: MarkerGroups,
 ) -> Result<Request, Memory>
-    ensures { IfOk result (λ request. request ≡ trees.event_request target.now moment outcome.now) }
+    ensures { (start : AnyReading → Option ℕ) (ms : Seq AnyMarker)
+        → starts.now ≡ map start (all_readings page.now) → groups ≡ marker_groups [] ms
+        → IfOk result (λ request. request ≡ trees.request_of target.now start ms moment up page.now) }
 {
-    let up = up(outcome);
-    let samples = u64::from(samples_of(outcome));
     let resource = List::from_vec(resource(alloc, target)?)?;
     let mut scopes = Vec::with_capacity(alloc, 2)?;
-    let metrics = page_metrics(alloc, moment, families_of(outcome))?;
+    let metrics = event_metrics(alloc, moment, page, starts, groups)?;
     push_scope(alloc, &mut scopes, "bridge", metrics)?;
-    let metrics = target_metrics(alloc, moment, up, samples)?;
+    let metrics = target_metrics(alloc, moment, up, u64::from(page.samples))?;
     push_scope(alloc, &mut scopes, "bridge.target", metrics)?;
     let scopes = List::from_vec(scopes)?;
     Ok(Request { resource, scopes })

@@ -1,5 +1,8 @@
 //! `convert`: the event that a page becomes.
-ghost use Rattle.std.specs.Prelude.{◌≡◌, IfOk, IfErr};
+ghost use Rattle.std.specs.Prelude.{◌≡◌, None, IfOk, IfErr};
+ghost use Rattle.page_model.specs.declared.event.Outcome.TheVariants.{Page as Scraped};
+ghost use Rattle.start_times.specs.Scrapes.{moment_after};
+ghost use Rattle.target_core.specs.Events.{event_request};
 ghost use Rattle.bridge_cli.specs.declared.status.Status.TheVariants.{Done};
 ghost use Rattle.bridge_cli.specs.declared.words.Command.TheVariants.{Convert};
 ghost use Rattle.bridge_cli.specs.Statuses.{code_of};
@@ -12,13 +15,31 @@ ghost use Rattle.bridge_cli.specs.StopAnswers.{StopsAs};
 
 use crate::pages::whole_page;
 use crate::stop::Stop;
-use bridge_ports::Source;
-use page_model::{Format, Outcome, Page};
+use bridge_ports::{Source, Target};
+use label_sets::Memory;
+use otlp_tree::Request;
+use page_model::{Event, Format, Outcome, Page};
 use std::alloc::{AllocError, Global};
-use target_core::{Target, event_request};
+use target_core::TargetState;
+
+/// Over how many scrapes that miss it a series would keep its start.
+const KEEP: u32 = 2;
 
 /// About how many bytes a sample becomes: room for them spares most of the text's growth.
 const SAMPLE_BYTES: usize = 400;
+
+/// The tree of the event that a page is, for a target that was never scraped before.
+fn first_event(alloc: Global, target: &Target, nanos: u64, page: Page) -> Result<Request, Memory>
+    ensures { IfOk result (λ request. request ≡ event_request target.now (moment_after None nanos) (Scraped page)) }
+{
+    let target = target.copy()?;
+    let mut state = TargetState::new(alloc, target, KEEP)?;
+    let event = Event {
+        reading: nanos,
+        outcome: Outcome::Page(page),
+    };
+    state.step(alloc, event)
+}
 
 /// The text of the event of a page.
 #[tactic(auto, unfolding(crate::specs::ConvertTexts::converted_text))]
@@ -31,7 +52,7 @@ fn converted_text(
     ensures { IfOk result (λ text. text.items ≡ spec.converted_text target.now nanos page) }
 {
     let mut text = Vec::with_capacity(alloc, page.samples as usize * SAMPLE_BYTES)?;
-    let request = event_request(alloc, target, nanos, &Outcome::Page(page))?;
+    let request = first_event(alloc, target, nanos, page)?;
     otlp_json::write_line(&request, &mut text)?;
     Ok(text)
 }

@@ -6,10 +6,10 @@ ghost use Rattle.bridge_cli.specs.CommandWords.{IsCommand, FitNoForm, AskFor, fo
 use super::Command;
 use super::numbers::number;
 use super::place::host_and_port;
+use super::target::target;
 use crate::limits::{MOST_JOB_BYTES, MOST_NANOS};
 use page_model::Format;
 use std::alloc::{AllocError, Global};
-use target_core::Target;
 
 /// The command that one word asks for.
 fn lone_word(word: &str) -> Option<Command>
@@ -85,7 +85,7 @@ fn conversion(
         Some(nanos) => nanos,
         None => return Ok(None),
     };
-    let target = Target::copied(alloc, job, instance, place.host, place.port)?;
+    let target = target(alloc, job, instance, place.host, place.port)?;
     Ok(Some(Command::Convert {
         format,
         target,

@@ -1,23 +1,23 @@
-use Rattle.std.proofs.Common.{◌∙◌, ap, sym, [], ◌∷◌, ◌++◌}
-use Rattle.std.proofs.lemmas.List.{take_all}
-use Rattle.std.specs.List.{filter_map}
-use Rattle.target_core.specs.Points.{point_of}
-use Rattle.target_core.proofs.Placing.{placed_at, passed_at, filter_map-map}
-use Rattle.target_core.proofs.metrics.all_points.Goals.{in-Some+in_ok-push, in_default}
+use Rattle.std.proofs.Common.{sym, ◌∙◌}
+use Rattle.std.specs.List.{zip}
+use Rattle.std.proofs.lemmas.Slice.Zip.{Zip-more, either_empty_from_Zip}
+use Rattle.target_core.specs.Points.{point_at}
+use Rattle.target_core.proofs.Placing.{pair_placed, pair_passed, pairs_end, filter_map-map}
 use Rattle.target_core.proofs.metrics.all_points.Goals as goal
 
+pub loop-reading-preserved-in-Continue-branch-4 : goal.loop-reading-preserved-in-Continue-branch-4
+loop-reading-preserved-in-Continue-branch-4 g c =
+    let more = Zip-more c.loop-reading.reading-iterator c.next.new.self _ _ c.in-Some.is c.next.ensures.steps in
+    pair_placed (λ p. g.F.PointForm.form_of (point_at p.1 c.args.moment p.0)) c.loop-reading.points.items _ _ _ _ _ _ _ _ c.in-Some-2.point c.in_ok-push.ensures.items more.0 more.1
+    (sym c.in_ok-point.ensures ∙ c.in-Some-2.is) c.loop-reading.invariant
+
 pub loop-reading-preserved : goal.loop-reading-preserved
-loop-reading-preserved g c = elim c.match-branch-3.branch [
-  | in-Some+in_ok-push w ↦ ap (λ v. v.items) w.points-is ∙ w.in_ok-push.ensures.items ∙ ap (λ ps. ps ++ w.in-Some.point ∷ []) c.loop-reading.invariant
-      ∙ sym (placed_at (λ r. g.F.FromReading.form_of (point_of c.args.moment r)) c.args.readings.now c.loop-reading.reading-index c.reading-item.result w.in-Some.point
-      c.loop-reading-test.true c.reading-item.is (sym c.in_ok-point.ensures ∙ w.in-Some.is))
-  | in_default w ↦ ap (λ v. v.items) w.points-is ∙ c.loop-reading.invariant
-      ∙ sym (passed_at (λ r. g.F.FromReading.form_of (point_of c.args.moment r)) c.args.readings.now c.loop-reading.reading-index c.reading-item.result
-      c.loop-reading-test.true c.reading-item.is (sym c.in_ok-point.ensures ∙ w.in_default.is))
-]
+loop-reading-preserved g c =
+    let more = Zip-more c.loop-reading.reading-iterator c.next.new.self _ _ c.in-Some.is c.next.ensures.steps in
+    pair_passed (λ p. g.F.PointForm.form_of (point_at p.1 c.args.moment p.0)) c.loop-reading.points.items _ _ _ _ _ _ _ more.0 more.1 (sym c.in_ok-point.ensures ∙ c.in_default.is) c.loop-reading.invariant
 
 pub returns : goal.returns
 returns g c =
-    c.loop-reading.invariant
-    ∙ ap (filter_map (λ r. g.F.FromReading.form_of (point_of c.args.moment r))) (take_all c.loop-reading.reading-index c.args.readings.now c.loop-reading-test.false)
-    ∙ sym (filter_map-map g.F.FromReading.form_of (point_of c.args.moment) c.args.readings.now)
+    let spent = either_empty_from_Zip c.loop-reading.reading-iterator c.next.new.self _ c.in-None.is c.next.ensures.steps in
+    pairs_end (λ p. g.F.PointForm.form_of (point_at p.1 c.args.moment p.0)) c.loop-reading.points.items _ _ _ spent c.loop-reading.invariant
+    ∙ sym (filter_map-map g.F.PointForm.form_of (λ p. point_at p.1 c.args.moment p.0) (zip c.args.readings.now c.args.starts.now))

@@ -1,0 +1,4 @@
+pub mod Cases
+pub mod Gone
+pub mod Lacking
+pub mod Laws

@@ -1,0 +1,70 @@
+//! The series of a page that the next page lacks.
+ghost use Rattle.std.specs.Prelude.{◌≡◌, filter, IfOk};
+ghost use Rattle.std.specs.Option.{option_copied};
+ghost use Rattle.page_model.specs.Presence as presence;
+ghost use Rattle.staleness.specs.Vanished as spec;
+ghost use Rattle.staleness.specs.Vanished.{keys_gone, page_or_empty};
+
+use crate::keys::keys_of;
+use label_sets::{Kind, List, Memory, SeriesKey};
+use packed_keys::SeriesPlaces;
+use page_model::Page;
+use std::alloc::Global;
+
+/// Whether series of a kind have points.
+#[tactic(auto, unfolding(crate::specs::Vanished::has_points))]
+fn has_points(kind: Kind) -> bool
+    ensures { result ≡ spec.has_points kind }
+{
+    !matches!(kind, Kind::GaugeHistogram)
+}
+
+/// The keys of a page, or none.
+fn keys_of_some(alloc: Global, page: Option<&Page>) -> Result<List<SeriesKey>, Memory>
+    ensures { IfOk result (λ keys. keys ≡ presence.keys_of (page_or_empty (option_copied page.entry))) }
+{
+    match page {
+        Some(page) => keys_of(alloc, page),
+        None => Ok(List::new(alloc)),
+    }
+}
+
+/// Whether a series has points and is not among others.
+fn is_lacking(alloc: Global, others: &mut SeriesPlaces, key: &SeriesKey) -> Result<bool, Memory>
+    ensures lacking { IfOk result (λ lacking. lacking ≡ spec.is_lacking others.old key.now) }
+    ensures others { others.new ≡ others.old }
+{
+    if !has_points(key.kind) {
+        return Ok(false);
+    }
+    Ok(others.find(alloc, key)?.is_none())
+}
+
+/// The series with points that are not among others.
+fn lacking(
+    alloc: Global,
+    keys: &[SeriesKey],
+    others: &mut SeriesPlaces,
+) -> Result<Vec<SeriesKey>, Memory>
+    ensures { IfOk result (λ lacking. lacking.items ≡ filter (spec.is_lacking others.old) keys.now) }
+{
+    let mut lacking = Vec::new(alloc);
+    for key in keys {
+        if is_lacking(alloc, others, key)? {
+            lacking.push(key.copy()?)?;
+        }
+    }
+    Ok(lacking)
+}
+
+/// The series with points that the page before has and the page now lacks, in the order of the page before; all of
+/// them where there is no page now, since the scrape failed. Each key is hashed at most once. Want of memory is the
+/// only error (OTLP 1.x, "DataPointFlags"; Prometheus, "Staleness").
+pub fn vanished(alloc: Global, before: &Page, now: Option<&Page>) -> Result<List<SeriesKey>, Memory>
+    ensures { IfOk result (λ keys. keys ≡ keys_gone before.now (page_or_empty (option_copied now.entry))) }
+{
+    let mut others = SeriesPlaces::of(alloc, keys_of_some(alloc, now)?);
+    let keys = keys_of(alloc, before)?;
+    let gone = lacking(alloc, keys.as_slice(), &mut others)?;
+    List::from_vec(gone)
+}

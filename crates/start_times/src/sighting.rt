@@ -1,0 +1,199 @@
+//! What one page makes of the rows, reading by reading.
+ghost use Rattle.std.specs.Prelude.{◌≡◌, ◌++◌, [], ◌∷◌, Bool, true, false, zip, map, replicate, slice_set, slice_index_or, length, filter_map, slice_get, option_map, option_and_then, MatchOption, IfOk, OnOk};
+ghost use Rattle.std.specs.List.{IsDistinct, flat_map};
+ghost use Rattle.std.specs.Option.{option_copied, option_to_list};
+ghost use Rattle.label_sets.specs.declared.series_key.SeriesKey.{SeriesKey as Key};
+ghost use Rattle.label_sets.specs.Keys.{key_eq};
+ghost use Rattle.page_model.specs.declared.page.Family.{Family as OneFamily};
+ghost use Rattle.start_times.specs.declared.row.Row.{Row as OneRow};
+ghost use Rattle.start_times.specs.Rows.{kept_start};
+ghost use Rattle.start_times.specs.Sightings.{Sees, missed_entry};
+
+use crate::entries::Entries;
+use crate::row::{Row, next_row, older_row};
+use crate::values::has_start;
+use label_sets::{List, Memory, SeriesKey};
+use packed_keys::SeriesPlaces;
+use page_model::{Family, Reading};
+use std::alloc::Global;
+
+/// What was seen of a page so far.
+#[derive(Drop)]
+pub(crate) struct Sighting {
+    /// The starts of its readings.
+    pub(crate) starts: Vec<Option<u64>>,
+    /// The rows that they make.
+    pub(crate) entries: Entries,
+    /// Which of the rows before it they are of.
+    pub(crate) found: Vec<bool>,
+}
+
+/// Nothing seen of a page, before which there were so many rows.
+pub(crate) fn nothing(alloc: Global, rows: usize) -> Result<Sighting, Memory>
+    ensures { IfOk result (λ s. (s.starts.items ≡ []) × (s.entries ≡ []) × (s.found.items ≡ replicate rows false)) }
+{
+    Ok(Sighting {
+        starts: Vec::new(alloc),
+        entries: Entries::new(alloc),
+        found: vec![in alloc; false; rows]?,
+    })
+}
+
+/// The row at a place.
+fn row_at(rows: &List<Row>, at: Option<usize>) -> Option<&Row>
+    ensures { option_copied result ≡ option_and_then (slice_get rows.now) at }
+{
+    match at {
+        Some(at) => rows.as_slice().get(at),
+        None => None,
+    }
+}
+
+/// The start of the row at a place.
+fn start_at(rows: &List<Row>, at: Option<usize>) -> Option<u64>
+    ensures { result ≡ option_map (λ (row : OneRow). row.start) (option_and_then (slice_get rows.now) at) }
+{
+    row_at(rows, at).map(|row| row.start)
+}
+
+/// The starts of the rows of series, one after the other.
+pub(crate) fn starts_at(
+    alloc: Global,
+    rows: &List<Row>,
+    places: &mut SeriesPlaces,
+    keys: &[SeriesKey],
+) -> Result<Vec<Option<u64>>, Memory>
+    requires { length places.old ≡ length rows.now }
+    ensures { IfOk result (λ starts. IsDistinct key_eq places.old → starts.items ≡ map (kept_start (zip places.old rows.now)) keys.now) }
+{
+    let mut starts = Vec::with_capacity(alloc, keys.len())?;
+    for key in keys {
+        let at = places.find(alloc, key)?;
+        starts.push(start_at(rows, at))?;
+    }
+    Ok(starts)
+}
+
+/// Notes that the row at a place was found, where one was.
+fn mark(found: &mut Vec<bool>, at: Option<usize>)
+    ensures { MatchOption at (found.new.items ≡ found.old.items) (λ place. found.new.items ≡ slice_set found.old.items place true) }
+{
+    let Some(at) = at else {
+        return;
+    };
+    if let Some(mark) = found.get_mut(at) {
+        *mark = true;
+    }
+}
+
+/// Sees a reading beside the rows.
+pub(crate) fn see(
+    alloc: Global,
+    moment: u64,
+    rows: &List<Row>,
+    places: &mut SeriesPlaces,
+    seen: &mut Sighting,
+    reading: &Reading,
+) -> Result<(), Memory>
+    requires { length places.old ≡ length rows.now }
+    ensures places { places.new ≡ places.old }
+    ensures seen { OnOk result (Sees (zip places.old rows.now) moment (reading.now ∷ []) seen.old seen.new) }
+{
+    if !has_start(reading.key.kind) {
+        seen.starts.push(None)?;
+        return Ok(());
+    }
+    let at = places.find(alloc, &reading.key)?;
+    let row = next_row(alloc, row_at(rows, at), moment, reading)?;
+    let key = reading.key.copy()?;
+    seen.starts.push(Some(row.start))?;
+    seen.entries.push(key, row)?;
+    mark(&mut seen.found, at);
+    Ok(())
+}
+
+/// Sees the readings of a family.
+fn see_all(
+    alloc: Global,
+    moment: u64,
+    rows: &List<Row>,
+    places: &mut SeriesPlaces,
+    seen: &mut Sighting,
+    readings: &[Reading],
+) -> Result<(), Memory>
+    requires { length places.old ≡ length rows.now }
+    ensures places { places.new ≡ places.old }
+    ensures seen { OnOk result (Sees (zip places.old rows.now) moment readings.now seen.old seen.new) }
+{
+    for reading in readings {
+        see(alloc, moment, rows, places, seen, reading)?;
+    }
+    Ok(())
+}
+
+/// Sees the readings of families.
+pub(crate) fn see_families(
+    alloc: Global,
+    moment: u64,
+    rows: &List<Row>,
+    places: &mut SeriesPlaces,
+    seen: &mut Sighting,
+    families: &[Family],
+) -> Result<(), Memory>
+    requires { length places.old ≡ length rows.now }
+    ensures places { places.new ≡ places.old }
+    ensures seen { OnOk result (Sees (zip places.old rows.now) moment (flat_map (λ (f : OneFamily). f.readings) families.now) seen.old seen.new) }
+{
+    for family in families {
+        see_all(
+            alloc,
+            moment,
+            rows,
+            places,
+            seen,
+            family.readings.as_slice(),
+        )?;
+    }
+    Ok(())
+}
+
+/// Whether the row at a place was found.
+fn is_marked(found: &[bool], at: usize) -> bool
+    ensures { result ≡ slice_index_or found.now at false }
+{
+    match found.get(at) {
+        Some(mark) => *mark,
+        None => false,
+    }
+}
+
+/// Keeps the row of a series one scrape longer, where it may be kept.
+fn keep_missed(keep: u32, entries: &mut Entries, key: &SeriesKey, row: &Row) -> Result<(), Memory>
+    ensures { OnOk result (entries.new ≡ entries.old ++ option_to_list (missed_entry keep (λ _. false) (key.now, row.now))) }
+{
+    if let Some(row) = older_row(keep, row)? {
+        entries.push(key.copy()?, row)?;
+    }
+    Ok(())
+}
+
+/// Keeps the rows that were not found one scrape longer, where they may be kept.
+pub(crate) fn keep_others(
+    keep: u32,
+    keys: &List<SeriesKey>,
+    rows: &List<Row>,
+    found: &[bool],
+    entries: &mut Entries,
+) -> Result<(), Memory>
+    requires { length keys.now ≡ length rows.now }
+    ensures { OnOk result ((present : Key → Bool) → found.now ≡ map present keys.now → entries.new ≡ entries.old ++ filter_map (missed_entry keep present) (zip keys.now rows.now)) }
+{
+    let keys = keys.as_slice();
+    let rows = rows.as_slice();
+    for at in 0..rows.len() {
+        if !is_marked(found, at) {
+            keep_missed(keep, entries, &keys[at], &rows[at])?;
+        }
+    }
+    Ok(())
+}

@@ -1,0 +1,105 @@
+//! The rows of a target's series.
+ghost use Rattle.std.specs.Prelude.{◌≡◌, ◌+◌, ◌*◌, ◌≤◌, List as Seq, [], length, take, map, IfOk};
+ghost use Rattle.std.specs.List.{IsDistinct};
+ghost use Rattle.std.specs.Map.{keys_of};
+ghost use Rattle.label_sets.specs.Keys.{key_eq};
+ghost use Rattle.start_times.specs.Scrapes.{Scrape};
+ghost use Rattle.start_times.specs.Starts.{Tracking};
+ghost use Rattle.start_times.specs.Rows.{Tracks, kept_start, most_readings};
+ghost use Rattle.start_times.specs.Advancing.{Advances};
+
+use crate::row::{Row, Starts};
+use crate::sighting::{keep_others, nothing, see_families, starts_at};
+use label_sets::{List, Memory, SeriesKey};
+use packed_keys::SeriesPlaces;
+use page_model::Page;
+use std::alloc::Global;
+use std::marker::Model;
+
+/// What is remembered of a target's series: a row for each that can still come back.
+#[derive(Drop)]
+pub struct Tracker {
+    keep: u32,
+    /// The keys of the rows, in the same order.
+    keys: List<SeriesKey>,
+    rows: List<Row>,
+}
+
+impl Model for Tracker {
+    ghost use Rattle.std.specs.Prelude.{◌≡◌, zip, length};
+    ghost use Rattle.start_times.specs.Rows.{Tracked};
+
+    ghost Value = { Tracked };
+
+    ghost view = { λ t. record { keep = t.keep; rows = zip t.keys t.rows } };
+
+    ghost invariant = { λ t. length t.keys ≡ length t.rows };
+}
+
+impl Tracker {
+    /// No rows, to be kept over so many scrapes that miss a series. It takes no memory.
+    pub fn new(alloc: Global, keep: u32) -> Tracker
+        requires { keep ≤ 4 }
+        ensures { Tracks (record { keep = keep }) result [] }
+    {
+        Tracker {
+            keep,
+            keys: List::new(alloc),
+            rows: List::new(alloc),
+        }
+    }
+
+    /// The same rows, with one owner more.
+    pub fn copy(&self) -> Result<Tracker, Memory>
+        ensures { IfOk result (λ tracker. tracker ≡ self.now) }
+    {
+        let keys = self.keys.copy()?;
+        let rows = self.rows.copy()?;
+        Ok(Tracker {
+            keep: self.keep,
+            keys,
+            rows,
+        })
+    }
+
+    /// The starts of a page's readings at this moment, and the rows behind it. A moment is in nanoseconds since the
+    /// Unix epoch, and later than those of the pages before. Want of memory is the only error.
+    pub fn advance(
+        &self,
+        alloc: Global,
+        page: &Page,
+        moment: u64,
+    ) -> Result<(Starts, Tracker), Memory>
+        ensures { IfOk result (λ r. Advances self.now page.now moment r.0 r.1) }
+    {
+        let mut places = SeriesPlaces::of(alloc, self.keys.copy()?);
+        let mut seen = nothing(alloc, self.rows.len())?;
+        let families = page.families.as_slice();
+        see_families(alloc, moment, &self.rows, &mut places, &mut seen, families)?;
+        let found = seen.found.as_slice();
+        keep_others(self.keep, &self.keys, &self.rows, found, &mut seen.entries)?;
+        let (keys, rows) = seen.entries.into_lists()?;
+        let list = List::from_vec(seen.starts)?;
+        let keep = self.keep;
+        Ok((Starts { list }, Tracker { keep, keys, rows }))
+    }
+
+    /// How many rows there are.
+    pub fn rows(&self) -> u64
+        ensures rows { result ≡ length self.now.rows }
+        ensures few { (t : Tracking) (past : Seq Scrape) → Tracks t self.now past → result ≤ (t.keep + 1) * most_readings (take (t.keep + 1) past) }
+    {
+        self.rows.len() as u64
+    }
+
+    /// Since when the values of series count, one after the other; none for a series that has no row. Want of
+    /// memory is the only error.
+    pub fn starts_of(&self, alloc: Global, keys: &List<SeriesKey>) -> Result<Starts, Memory>
+        ensures { IfOk result (λ starts. IsDistinct key_eq (keys_of self.now.rows) → starts.list ≡ map (kept_start self.now.rows) keys.now) }
+    {
+        let mut places = SeriesPlaces::of(alloc, self.keys.copy()?);
+        let starts = starts_at(alloc, &self.rows, &mut places, keys.as_slice())?;
+        let list = List::from_vec(starts)?;
+        Ok(Starts { list })
+    }
+}

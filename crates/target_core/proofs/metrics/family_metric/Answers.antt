@@ -1,0 +1,14 @@
+use Rattle.std.proofs.Common.{◌∙◌, sym, Some, None}
+use Rattle.target_core.proofs.FamilyMetrics.{metric_is}
+use Rattle.target_core.proofs.metrics.family_metric.Goals as goal
+
+pub returns-in_default-2 : goal.returns-in_default-2
+returns-in_default-2 c = λ start own.
+    metric_is start c.args.moment c.args.family.now c.args.starts.now c.args.markers.now c.as_slice-readings.result.now c.in-Some.first.now None c.as_slice-readings.ensures c.in-Some.ensures.value
+    (sym c.in_default-2.is ∙ c.in_ok-shape.ensures) own
+
+pub returns : goal.returns
+returns c = λ start own.
+    (λ i. Some record { name = (c.into_text.ensures ∙ c.in_ok-name.ensures) i; description = c.in_ok-description.ensures i; unit = c.in_ok-unit.ensures i; shape = c.in-Some-2.shape })
+    ∙ metric_is start c.args.moment c.args.family.now c.args.starts.now c.args.markers.now c.as_slice-readings.result.now c.in-Some.first.now (Some c.in-Some-2.shape) c.as_slice-readings.ensures c.in-Some.ensures.value
+    (sym c.in-Some-2.is ∙ c.in_ok-shape.ensures) own

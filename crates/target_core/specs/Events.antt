@@ -1,0 +1,54 @@
+-- The tree of an event behind the earlier events of its target, the nearest first, and what the target shows then.
+-- OpenTelemetry metrics data model, "Resets and Gaps"; OTLP 1.x, "DataPointFlags" (no recorded value).
+use Rattle.std.specs.Prelude.{ℕ, List, [], ◌∷◌, map, unwrap_or, Option, Some, None, if◌then◌else◌}
+use Rattle.label_sets.specs.declared.series_key.SeriesKey.{SeriesKey}
+use Rattle.page_model.specs.declared.page.Reading.{Reading}
+use Rattle.page_model.specs.declared.event.Outcome.{Outcome}
+use Rattle.page_model.specs.declared.event.Event.{Event}
+use Rattle.page_model.specs.declared.event.Shown.{Shown}
+use Rattle.start_times.specs.Scrapes.{Scrape, last_moment, last_page, scrape_after, scrapes_of}
+use Rattle.start_times.specs.Starts.{Tracking, has_start, created_at, reading_start, start_there}
+use Rattle.staleness.specs.Vanished.{keys_gone}
+use Rattle.otlp_tree.specs.declared.tree.Request.{Request}
+use Rattle.bridge_ports.specs.Targets.{Scraped}
+use Rattle.target_core.specs.declared.markers.Marker.{Marker}
+use Rattle.target_core.specs.Trees.{request_with}
+
+-- the marker of a series that is gone, with the start that it had
+unfoldable pub marker_with : (SeriesKey → Option ℕ) → ℕ → SeriesKey → Marker
+marker_with start moment key = record { key = key; start = start key; time = moment }
+
+-- the markers of a scrape: of each series that the scrape before had and this one lacks, with the start that it had there
+abbrev pub markers_at : Tracking → List Scrape → Scrape → List Marker
+markers_at t past now = map (marker_with (start_there t past) now.moment) (keys_gone (last_page past) now.page)
+
+-- the tree of an event behind these earlier events
+unfoldable pub request_after : Scraped → Tracking → List Event → Event → Request
+request_after target t earlier e =
+    let past = scrapes_of earlier in
+    let now = scrape_after past e in
+    request_with target (reading_start t past now.moment) (markers_at t past now) now.moment e.outcome
+
+-- the trees of all these events, the last first
+abbrev pub requests_of : Scraped → Tracking → List Event → List Request
+requests_of target t [] = []
+requests_of target t (e ∷ earlier) = request_after target t earlier e ∷ requests_of target t earlier
+
+-- what a target shows behind these events: the page of the last one, and its moment
+unfoldable pub latest_shown : Scraped → List Event → Shown
+latest_shown target events = record {
+  job = target.job;
+  instance = target.instance;
+  moment = last_moment (scrapes_of events);
+  page = last_page (scrapes_of events);
+}
+
+-- ---- the first event
+
+-- the start of a reading without a past, where its kind has starts
+unfoldable pub first_start : ℕ → Reading → Option ℕ
+first_start moment r = if has_start r.key.kind then Some (unwrap_or (created_at moment r) moment) else None
+
+-- the tree of the event of a target without a past, at this moment
+unfoldable pub event_request : Scraped → ℕ → Outcome → Request
+event_request target moment outcome = request_with target (first_start moment) [] moment outcome

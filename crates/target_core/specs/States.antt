@@ -1,0 +1,46 @@
+-- What a target's state stands for.
+-- The bridge's own.
+use Rattle.std.specs.Prelude.{◌≡◌, ℕ, ◌<◌, ◌-◌, ◌^◌, Bool, true, false, List, [], ◌∷◌, Option, Some, None, ⊤}
+use Rattle.page_model.specs.declared.page.Page.{Page}
+use Rattle.page_model.specs.declared.event.Event.{Event}
+use Rattle.page_model.specs.Presence.{page_of_outcome}
+use Rattle.start_times.specs.Scrapes.{Scrape, last_moment, last_page, scrapes_of}
+use Rattle.start_times.specs.Starts.{Tracking}
+use Rattle.start_times.specs.Rows.{Tracked, Tracks}
+use Rattle.start_times.specs.Advancing.{HasDistinctKeys}
+use Rattle.otlp_tree.specs.declared.tree.Request.{Request}
+use Rattle.bridge_ports.specs.Targets.{Scraped}
+use Rattle.target_core.specs.Events.{request_after}
+
+-- a state as its contracts see it: the target, what is kept of its series, whether its last page is still to be put among that,
+-- that page, and its last moment, where there was one
+pub record Following : Type 0 where
+  pub target : Scraped
+  pub tracked : Tracked
+  pub pending : Bool
+  pub page : Page
+  pub moment : Option ℕ
+
+-- the scrapes behind which the rows stand: all, or all but the last
+abbrev pub told_scrapes : Bool → List Scrape → List Scrape
+told_scrapes false past = past
+told_scrapes true [] = []
+told_scrapes true (last ∷ before) = before
+
+-- the state stands for these events of a target, the nearest first
+pub record StandsFor (target : Scraped) (t : Tracking) (s : Following) (events : List Event) : Type 0 where
+  pub target_is : s.target ≡ target
+  pub tracks : Tracks t s.tracked (told_scrapes s.pending (scrapes_of events))
+  pub distinct : s.pending ≡ true → HasDistinctKeys s.page
+  pub page_is : s.page ≡ last_page (scrapes_of events)
+  pub moment_is : s.moment ≡ last_moment (scrapes_of events)
+
+-- a further moment fits behind the last one
+abbrev pub HasNextMoment : Option ℕ → Type 0
+HasNextMoment None = ⊤
+HasNextMoment (Some moment) = moment < 2 ^ 64 - 1
+
+-- behind all events for which the state stood: the tree is that of the event, and the state that follows stands for one event more
+abbrev pub Steps : Following → Event → Request → Following → Type 0
+Steps before e request after = (target : Scraped) (t : Tracking) (earlier : List Event) → StandsFor target t before earlier → HasDistinctKeys (page_of_outcome e.outcome)
+    → (request ≡ request_after target t earlier e) × StandsFor target t after (e ∷ earlier)

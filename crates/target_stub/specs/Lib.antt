@@ -1,4 +1,0 @@
-pub mod Starts
-pub mod Scrapes
-pub mod Events
-pub mod States

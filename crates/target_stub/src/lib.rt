@@ -1,6 +1,0 @@
-//! A stub.
-#![tactic(auto)]
-
-mod state;
-
-pub use state::TargetState;
