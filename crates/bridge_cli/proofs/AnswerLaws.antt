@@ -7,18 +7,17 @@ use Rattle.bridge_ports.specs.Causes.{Rose}
 use Rattle.bridge_cli.specs.declared.status.Status.{Status}
 use Rattle.bridge_cli.specs.declared.status.Status.TheVariants as statuses
 use Rattle.bridge_cli.specs.declared.stop.Stop.{Stop}
-use Rattle.bridge_cli.specs.declared.stop.Stop.TheVariants.{NoForm, Refused, TooLong, Read, Memory}
+use Rattle.bridge_cli.specs.declared.stop.Stop.TheVariants.{NoForm, Refused, BadScript, TooLong, Read, Memory}
 use Rattle.bridge_cli.specs.declared.words.Command.{Command}
-use Rattle.bridge_cli.specs.Limits.{most_page}
-use Rattle.bridge_cli.specs.Statuses.{code_of, IsStatus, IsTold, IsUntold}
-use Rattle.bridge_cli.specs.CommandWords.{IsCommand, FitNoForm, AskFor, reads_page}
+use Rattle.bridge_cli.specs.Statuses.{code_of, IsTold, IsUntold}
+use Rattle.bridge_cli.specs.CommandWords.{IsCommand, FitNoForm}
 use Rattle.bridge_cli.specs.Inputs.{TookAtMost, IsReadThrough}
 use Rattle.bridge_cli.specs.Stops.{StopCause, no_form_text}
 use Rattle.bridge_cli.specs.PageInputs.{StopLeaves}
 use Rattle.bridge_cli.specs.Answers.{IsFixedAnswer, Answers, IsAnswer, no_form, answers}
 use Rattle.bridge_cli.specs.ProgramOutputs.{WroteFront, HasAnswer, Answered, IsOnlyAnswer, TellsFault}
 use Rattle.bridge_cli.specs.StopAnswers.{IsStopAnswer, said, wanting, StopsAs}
-use Rattle.bridge_cli.proofs.CommandLaws.{one_command, one_answer, same_input}
+use Rattle.bridge_cli.proofs.CommandLaws.{one_answer, same_input}
 
 -- ---- answers
 
@@ -44,13 +43,10 @@ words_answer words command left status text is has = record { bytes = has.bytes;
 pub words_stop : (words : List (List ℕ)) (command : Command) (left : Option (List ℕ)) (stop : Stop) → IsCommand words command → StopsAs (Answers command) left stop → StopsAs (IsAnswer words) left stop
 words_stop words command left NoForm is has = words_answer words command left _ _ is has
 words_stop words command left (Refused line rule) is has = words_answer words command left _ _ is has
+words_stop words command left (BadScript line) is has = words_answer words command left _ _ is has
 words_stop words command left TooLong is has = words_answer words command left _ _ is has
 words_stop words command left Read is has = tt
 words_stop words command left Memory is has = tt
-
--- the command that words ask for reads a page
-pub asked_page : (words : List (List ℕ)) (command : Command) → IsCommand words command → AskFor reads_page words → reads_page command ≡ true
-asked_page words command is asks = ap reads_page (one_command words command asks.0 is asks.1) ∙ asks.2
 
 -- ---- where a command stops
 
@@ -59,6 +55,7 @@ pub stop_told : (Says : List ℕ → ℕ → List ℕ → Type 0) (left : Option
     → IsTold (code_of status) → HasAnswer Says left (code_of status) text
 stop_told Says left NoForm status text said has told = has
 stop_told Says left (Refused line rule) status text said has told = has
+stop_told Says left (BadScript line) status text said has told = has
 stop_told Says left TooLong status text said has told = has
 stop_told Says left Read status text said has told = absurd (told.0 refl)
 stop_told Says left Memory status text said has told = absurd (told.2 refl)
@@ -68,30 +65,33 @@ stop_told Says left stop status text (wanting takes) has told = absurd (told.2 r
 pub stop_untold : (stop : Stop) (status : Status) (text : List ℕ) → IsStopAnswer stop status text → IsUntold (code_of status) → text ≡ []
 stop_untold NoForm status text said untold = absurd (omega (arith, untold))
 stop_untold (Refused line rule) status text said untold = absurd (omega (arith, untold))
+stop_untold (BadScript line) status text said untold = absurd (omega (arith, untold))
 stop_untold TooLong status text said untold = absurd (omega (arith, untold))
 stop_untold Read status text said untold = refl
 stop_untold Memory status text said untold = refl
 stop_untold stop status text (wanting takes) untold = refl
 
--- at the statuses with a text a page was read through
-pub stop_through : (left after : Option (List ℕ)) (before now : ℕ) (stop : Stop) (status : Status) (text : List ℕ) → IsStopAnswer stop status text → StopLeaves left after before now stop
-    → IsTold (code_of status) → IsReadThrough most_page left after
-stop_through left after before now NoForm status text said leaves told = absurd leaves.0
-stop_through left after before now (Refused line rule) status text said leaves told = inl leaves.0
-stop_through left after before now TooLong status text said leaves told = inr leaves.0
-stop_through left after before now Read status text said leaves told = absurd (told.0 refl)
-stop_through left after before now Memory status text said leaves told = absurd (told.2 refl)
-stop_through left after before now stop status text (wanting takes) leaves told = absurd (told.2 refl)
+-- at the statuses with a text the input was read through
+pub stop_through : (most : ℕ) (left after : Option (List ℕ)) (before now : ℕ) (stop : Stop) (status : Status) (text : List ℕ) → IsStopAnswer stop status text → StopLeaves most left after before now stop
+    → IsTold (code_of status) → IsReadThrough most left after
+stop_through most left after before now NoForm status text said leaves told = absurd leaves.0
+stop_through most left after before now (Refused line rule) status text said leaves told = inl leaves.0
+stop_through most left after before now (BadScript line) status text said leaves told = inl leaves.0
+stop_through most left after before now TooLong status text said leaves told = inr leaves.0
+stop_through most left after before now Read status text said leaves told = absurd (told.0 refl)
+stop_through most left after before now Memory status text said leaves told = absurd (told.2 refl)
+stop_through most left after before now stop status text (wanting takes) leaves told = absurd (told.2 refl)
 
--- at the others no more was taken than a page has
-pub stop_in_part : (left after : Option (List ℕ)) (before now : ℕ) (stop : Stop) (status : Status) (text : List ℕ) → IsStopAnswer stop status text → StopLeaves left after before now stop
-    → IsUntold (code_of status) → TookAtMost most_page left after
-stop_in_part left after before now NoForm status text answer leaves untold = absurd leaves.0
-stop_in_part left after before now (Refused line rule) status text answer leaves untold = leaves.0.took
-stop_in_part left after before now TooLong status text said leaves untold = absurd (omega (arith, untold))
-stop_in_part left after before now TooLong status text (wanting takes) leaves untold = absurd takes
-stop_in_part left after before now Read status text answer leaves untold = leaves.0
-stop_in_part left after before now Memory status text answer leaves untold = leaves.0
+-- unless it was too long, no more was taken than the limit
+pub stop_in_part : (most : ℕ) (left after : Option (List ℕ)) (before now : ℕ) (stop : Stop) (status : Status) (text : List ℕ) → IsStopAnswer stop status text → StopLeaves most left after before now stop
+    → status ≢ statuses.TooLong → TookAtMost most left after
+stop_in_part most left after before now NoForm status text answer leaves other = absurd leaves.0
+stop_in_part most left after before now (Refused line rule) status text answer leaves other = leaves.0.took
+stop_in_part most left after before now (BadScript line) status text answer leaves other = leaves.0.took
+stop_in_part most left after before now TooLong status text said leaves other = absurd (other refl)
+stop_in_part most left after before now TooLong status text (wanting takes) leaves other = absurd takes
+stop_in_part most left after before now Read status text answer leaves other = leaves.0
+stop_in_part most left after before now Memory status text answer leaves other = leaves.0
 
 -- ---- causes
 
@@ -112,21 +112,18 @@ pub stop_fault : (before now : ℕ) (stop : Stop) (status : Status) (text : List
     → TellsFault (code_of statuses.ReadFailed) (code_of status) before now
 stop_fault before now NoForm status text said cause = no_fault _ _ before now (λ e. omega (arith, e)) cause
 stop_fault before now (Refused line rule) status text said cause = no_fault _ _ before now (λ e. omega (arith, e)) cause
+stop_fault before now (BadScript line) status text said cause = no_fault _ _ before now (λ e. omega (arith, e)) cause
 stop_fault before now TooLong status text said cause = no_fault _ _ before now (λ e. omega (arith, e)) cause
 stop_fault before now Read status text said cause = tells_fault _ _ before now (λ _. cause) (λ other. absurd (other refl))
 stop_fault before now Memory status text said cause = no_fault _ _ before now (λ e. omega (arith, e)) cause
 stop_fault before now (Refused line rule) status text (wanting takes) cause = no_fault _ _ before now (λ e. omega (arith, e)) cause
+stop_fault before now (BadScript line) status text (wanting takes) cause = no_fault _ _ before now (λ e. omega (arith, e)) cause
 stop_fault before now Memory status text (wanting takes) cause = no_fault _ _ before now (λ e. omega (arith, e)) cause
 stop_fault before now NoForm status text (wanting takes) cause = absurd takes
 stop_fault before now TooLong status text (wanting takes) cause = absurd takes
 stop_fault before now Read status text (wanting takes) cause = absurd takes
 
 -- ---- the program
-
--- the status is that of the answer or of a failed write
-pub is_status : (status : Status) (result : ℕ) → (result ≡ code_of status) ⊎ (result ≡ code_of statuses.WriteFailed) → IsStatus result
-is_status status result (inl same) = (status, same)
-is_status status result (inr failed) = (statuses.WriteFailed, failed)
 
 -- what was answered is the only answer
 pub only_answer : (words : List (List ℕ)) (left before after : Option (List ℕ)) (status : ℕ) → Answered words left status before after → IsOnlyAnswer words left status before after
@@ -140,27 +137,15 @@ only_answer words left before after status answered = λ told bytes other text o
 pub form_told : (status : ℕ) → status ≡ code_of statuses.NoForm → IsTold status
 form_told status e = (λ f. omega (arith, e, f), λ f. omega (arith, e, f), λ f. omega (arith, e, f))
 
--- an answer that was printed whole
-pub printed_whole : (words : List (List ℕ)) (left before after : Option (List ℕ)) (status : Status) (result : ℕ) (text : List ℕ)
-    → (IsTold (code_of status) → HasAnswer (IsAnswer words) left (code_of status) text) → (result ≡ code_of status) ⊎ (result ≡ code_of statuses.WriteFailed)
-    → (result ≢ code_of statuses.WriteFailed → Appends before after text) → IsTold result → Answered words left result before after
-printed_whole words left before after status result text answer which written told =
-    let Told : ℕ → Type 0 = λ s. IsTold s in
-    let Answer : ℕ → Type 0 = λ s. HasAnswer (IsAnswer words) left s text in
-    record {
-      text = text;
-      answer = elim which [ inl same ↦ subst Answer (sym same) (answer (subst Told same told)) | inr failed ↦ absurd (told.1 failed) ];
-      written = written told.1;
-    }
-
 -- each status but that of a failed write has a text or none
-told_or_not : (status : Status) → status ≢ statuses.WriteFailed → IsTold (code_of status) ⊎ IsUntold (code_of status)
+pub told_or_not : (status : Status) → status ≢ statuses.WriteFailed → IsTold (code_of status) ⊎ IsUntold (code_of status)
 told_or_not statuses.Done other = inl (omega arith, omega arith, omega arith)
 told_or_not statuses.Refused other = inl (omega arith, omega arith, omega arith)
 told_or_not statuses.NoForm other = inl (omega arith, omega arith, omega arith)
 told_or_not statuses.ReadFailed other = inr (inl refl)
 told_or_not statuses.WriteFailed other = absurd (other refl)
 told_or_not statuses.WantOfMemory other = inr (inr refl)
+told_or_not statuses.ScriptRefused other = inl (omega arith, omega arith, omega arith)
 told_or_not statuses.TooLong other = inl (omega arith, omega arith, omega arith)
 
 -- nothing is left of an empty text
@@ -169,19 +154,5 @@ none_left [] rest e = sym e
 none_left (x ∷ xs) rest e = cc
 
 -- of an empty text no front is written that leaves something
-no_front : (before after : Option (List ℕ)) (text : List ℕ) → WroteFront before after text → text ≡ [] → ⊥
+pub no_front : (before after : Option (List ℕ)) (text : List ℕ) → WroteFront before after text → text ≡ [] → ⊥
 no_front before after text wrote none = wrote.some_left (none_left wrote.front wrote.rest (sym none ∙ wrote.text))
-
--- what is true at the statuses with a text is true where the text was written, whole or in part
-pub printed_through : (Through : Type 0) (before after : Option (List ℕ)) (status : Status) (result : ℕ) (text : List ℕ) → status ≢ statuses.WriteFailed → (IsTold (code_of status) → Through)
-    → (IsUntold (code_of status) → text ≡ []) → (result ≡ code_of status) ⊎ (result ≡ code_of statuses.WriteFailed) → (result ≡ code_of statuses.WriteFailed → WroteFront before after text)
-    → ¬ IsUntold result → Through
-printed_through Through before after status result text other through none which front some =
-    let Untold : ℕ → Type 0 = λ s. IsUntold s in
-    elim (told_or_not status other) [
-      | inl told ↦ through told
-      | inr untold ↦ elim which [
-        | inl same ↦ absurd (some (subst Untold (sym same) untold))
-        | inr failed ↦ absurd (no_front before after text (front failed) (none untold))
-      ]
-    ]

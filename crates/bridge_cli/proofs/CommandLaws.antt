@@ -1,5 +1,5 @@
 -- The laws that have a line for each command, and what follows: words ask for one command, and there is one answer.
-use Rattle.std.proofs.Common.{◌≡◌, ◌≢◌, ℕ, true, cond, List, [], ◌∷◌, Option, Some, None, refl, sym, ap, subst, ◌∙◌, arith}
+use Rattle.std.proofs.Common.{◌≡◌, ◌≢◌, ℕ, true, false, cond, List, [], ◌∷◌, Option, Some, None, refl, sym, ap, subst, ◌∙◌, arith}
 use Rattle.std.specs.Prelude.{codes, bytes_eq, IsSome}
 use Rattle.std.specs.Fmt.{decimal}
 use Rattle.std.specs.Str.Parse.{digits_value}
@@ -8,14 +8,18 @@ use Rattle.bridge_cli.specs.declared.status.Status.TheVariants.{NoForm}
 use Rattle.page_model.specs.declared.format.Format.{Format}
 use Rattle.page_model.specs.declared.format.Format.TheVariants.{Text, OpenMetrics}
 use Rattle.bridge_cli.specs.declared.words.Command.{Command}
-use Rattle.bridge_cli.specs.declared.words.Command.TheVariants.{Help, Version, Check, Convert}
+use Rattle.bridge_cli.specs.declared.words.Command.TheVariants.{Help, Version, Check, Convert, Replay}
 use Rattle.bridge_cli.specs.Statuses.{code_of}
-use Rattle.bridge_cli.specs.CommandWords.{format_word, words_of, IsInLimits, IsCommand, FitNoForm, AskFor, reads_page}
+use Rattle.bridge_cli.specs.CommandWords.{format_word, words_of, IsInLimits, IsCommand, FitNoForm, AskFor, reads_input, prints_pieces, takes_memory}
 use Rattle.bridge_cli.specs.Inputs.{IsInput}
 use Rattle.bridge_cli.specs.PageAnswers.{page_setting}
 use Rattle.bridge_cli.specs.CheckTexts.{checked_text}
 use Rattle.bridge_cli.specs.ConvertTexts.{converted_text}
 use Rattle.bridge_cli.specs.Answers.{Answers, IsAnswer, no_form, answers}
+use Rattle.std.proofs.lemmas.Bool.{true≢false}
+use Rattle.bridge_cli.specs.Replays.{IsReplay}
+use Rattle.bridge_cli.proofs.ReplayLaws.{replay_once}
+use Rattle.bridge_cli.proofs.ScriptAnswerLaws.{script_once_at, script_form}
 use Rattle.bridge_cli.proofs.PlaceLaws.{target_of, told_target}
 use Rattle.bridge_cli.proofs.PageAnswerLaws.{AreSame, fixed_once, fixed_form, page_once_at, page_form}
 
@@ -23,7 +27,7 @@ use Rattle.bridge_cli.proofs.PageAnswerLaws.{AreSame, fixed_once, fixed_form, pa
 
 -- the command of one word
 abbrev lone_command : List ℕ → Command
-lone_command word = cond (bytes_eq word (codes "--version")) Version Help
+lone_command word = cond (bytes_eq word (codes "--version")) Version (cond (bytes_eq word (codes "replay")) Replay Help)
 
 -- the format of a word
 abbrev told_format : List ℕ → Format
@@ -45,18 +49,20 @@ told_by _ = Help
 told : (command : Command) → IsInLimits command → told_by (words_of command) ≡ command
 told Help limits = refl
 told Version limits = refl
+told Replay limits = refl
 told (Check format) limits = ap Check (format_told format)
 told (Convert format target nanos) limits =
     ap (λ f. Convert f (target_of target.job target.instance) (digits_value 10 (decimal nanos))) (format_told format)
     ∙ ap (λ t. Convert format t (digits_value 10 (decimal nanos))) (told_target target limits.0) ∙ ap (Convert format target) (decimal_is_IsNumeral nanos (omega (arith, limits.1))).1
 
 -- a command has one answer; where it reads nothing, to all bytes
-command_once : (command : Command) (bytes others : List ℕ) (s r : ℕ) (t u : List ℕ) → (reads_page command ≡ true → bytes ≡ others) → Answers command bytes s t → Answers command others r u
+command_once : (command : Command) (bytes others : List ℕ) (s r : ℕ) (t u : List ℕ) → (reads_input command ≡ true → bytes ≡ others) → Answers command bytes s t → Answers command others r u
     → AreSame s r t u
 command_once Help bytes others s r t u same a b = fixed_once _ s r t u a b
 command_once Version bytes others s r t u same a b = fixed_once _ s r t u a b
 command_once (Check format) bytes others s r t u same a b = page_once_at (page_setting format) checked_text bytes others s r t u (same refl) a b
 command_once (Convert format target nanos) bytes others s r t u same a b = page_once_at (page_setting format) (converted_text target nanos) bytes others s r t u (same refl) a b
+command_once Replay bytes others s r t u same a b = script_once_at IsReplay replay_once bytes others s r t u (same refl) a b
 
 -- a command doesn't answer that the words fit no form
 command_form : (command : Command) (bytes : List ℕ) (status : ℕ) (text : List ℕ) → Answers command bytes status text → status ≢ code_of NoForm
@@ -64,6 +70,15 @@ command_form Help bytes status text says e = fixed_form _ status text says e
 command_form Version bytes status text says e = fixed_form _ status text says e
 command_form (Check format) bytes status text says e = page_form _ _ bytes status text says e
 command_form (Convert format target nanos) bytes status text says e = page_form _ _ bytes status text says e
+command_form Replay bytes status text says e = script_form IsReplay bytes status text says e
+
+-- what prints in pieces takes memory
+pub pieces_take : (command : Command) → takes_memory command ≡ false → prints_pieces command ≡ false
+pieces_take Help e = refl
+pieces_take Version e = refl
+pieces_take (Check format) e = refl
+pieces_take (Convert format target nanos) e = refl
+pieces_take Replay e = absurd (true≢false e)
 
 -- ---- what follows
 
@@ -72,7 +87,7 @@ pub one_command : (words : List (List ℕ)) (c d : Command) → IsCommand words 
 one_command words c d a b = sym (told c a.limits) ∙ ap told_by (sym a.spelled ∙ b.spelled) ∙ told d b.limits
 
 -- words have one answer
-pub one_answer : (words : List (List ℕ)) (bytes others : List ℕ) (s r : ℕ) (t u : List ℕ) → (AskFor reads_page words → bytes ≡ others) → IsAnswer words bytes s t → IsAnswer words others r u
+pub one_answer : (words : List (List ℕ)) (bytes others : List ℕ) (s r : ℕ) (t u : List ℕ) → (AskFor reads_input words → bytes ≡ others) → IsAnswer words bytes s t → IsAnswer words others r u
     → AreSame s r t u
 one_answer words bytes others s r t u same (no_form none) (no_form none2) = (refl, refl)
 one_answer words bytes others s r t u same (no_form none) (answers command r2 u2 is b) = absurd (none command is)

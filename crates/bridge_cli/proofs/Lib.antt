@@ -3,5 +3,9 @@ mod PlaceLaws
 mod IoLaws
 mod PageLaws
 mod PageAnswerLaws
+mod ScriptAnswerLaws
+mod ReplayLaws
+mod ScriptLaws
 mod CommandLaws
 mod AnswerLaws
+mod PrintLaws

@@ -82,14 +82,14 @@ stop_has P (Ok x) stop is has = absurd is
 stop_has P (Err s) stop is has = subst P (sym is) has
 
 -- a result that is a stop leaves the input as that stop does
-pub stop_leaves : {T : Type 0} (left after : Option (List ℕ)) (before now : ℕ) (r : Result T Stop) (stop : Stop) → IsErrAnd r (λ s. s ≡ stop) → StopLeaves left after before now stop
-    → Leaves left after before now r
-stop_leaves left after before now (Ok x) stop is leaves = absurd is
-stop_leaves left after before now (Err s) stop is leaves =
-    let At : Stop → Type 0 = λ t. StopLeaves left after before now t in subst At (sym is) leaves
+pub stop_leaves : {T : Type 0} (most : ℕ) (left after : Option (List ℕ)) (before now : ℕ) (r : Result T Stop) (stop : Stop) → IsErrAnd r (λ s. s ≡ stop) → StopLeaves most left after before now stop
+    → Leaves most left after before now r
+stop_leaves most left after before now (Ok x) stop is leaves = absurd is
+stop_leaves most left after before now (Err s) stop is leaves =
+    let At : Stop → Type 0 = λ t. StopLeaves most left after before now t in subst At (sym is) leaves
 
 -- a read failed
-pub read_failed : {G : Type 0} (f : Format) (a b c : Option (List ℕ)) (before at now taken : ℕ) (page : FedPage G) → WasFed f a b taken page → at ≡ before → Keeps b c → Rose at now → StopLeaves a c before now Read
+pub read_failed : {G : Type 0} (f : Format) (a b c : Option (List ℕ)) (before at now taken : ℕ) (page : FedPage G) → WasFed f a b taken page → at ≡ before → Keeps b c → Rose at now → StopLeaves most_page a c before now Read
 read_failed f a b c before at now taken page was same kept rose = (
   record { bytes = was.took.bytes; from = consumes_keeps a b c was.took.bytes was.took.from kept; few = omega (arith, was.took.count, was.few) },
   (let From : ℕ → Type 0 = λ n. Rose n now in subst From same rose),
@@ -97,7 +97,7 @@ read_failed f a b c before at now taken page was same kept rose = (
 
 -- memory was wanted for a block
 pub memory_wanted : {G : Type 0} (f : Format) (a b c : Option (List ℕ)) (before at now taken count : ℕ) (block : List ℕ) (page : FedPage G) → WasFed f a b taken page → at ≡ before → Consumes b c (take count block)
-    → count ≤ length block → count ≤ most_page - taken → now ≡ at → StopLeaves a c before now Memory
+    → count ≤ length block → count ≤ most_page - taken → now ≡ at → StopLeaves most_page a c before now Memory
 memory_wanted f a b c before at now taken count block page was same more inside few kept =
     let all = took_more a b c taken count block was.took more inside in
     (record { bytes = all.bytes; from = all.from; few = omega (arith, all.count, was.few) }, kept ∙ same)

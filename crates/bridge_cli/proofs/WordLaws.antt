@@ -13,7 +13,7 @@ use Rattle.page_model.specs.declared.format.Format.{Format}
 use Rattle.bridge_cli.specs.Limits.{most_job, most_nanos}
 use Rattle.bridge_cli.specs.CommandWords.{IsPlace, IsCommand, FitNoForm, place_target, format_word, words_of}
 use Rattle.bridge_cli.specs.declared.words.Command.{Command}
-use Rattle.bridge_cli.specs.declared.words.Command.TheVariants.{Help, Version, Check, Convert}
+use Rattle.bridge_cli.specs.declared.words.Command.TheVariants.{Help, Version, Check, Convert, Replay}
 
 -- a text that isn't read as a number is no number's
 pub unread : {E : Type 0} (bs : List ℕ) (r : Result ℕ E) (fault : E) → ParsesUnsigned 64 10 bs r → r ≡ Err fault → (most : ℕ) → most < 2 ^ 64 → (n : ℕ) → n ≤ most → bs ≢ decimal n
@@ -102,6 +102,7 @@ no_format bytes xs a b c d e format low high at0 at1 at2 at3 at4 is none command
     by : (command : Command) → bytes a ∷ bytes b ∷ bytes c ∷ bytes d ∷ bytes e ∷ [] ≡ words_of command → ⊥
     by Help spelled = absurd cc
     by Version spelled = absurd cc
+    by Replay spelled = absurd cc
     by (Check f) spelled = absurd cc
     by (Convert f target nanos) spelled = let named : bytes b ≡ format_word f = cc in none f (is ∙ named)
 

@@ -1,20 +1,35 @@
 -- What the program answers to words and to the bytes on its input: a status and a text. The bridge's own.
-use Rattle.std.specs.Prelude.{◌≡◌, ℕ, List}
-use Rattle.bridge_cli.specs.declared.status.Status.TheVariants.{Done, NoForm}
+use Rattle.std.specs.Prelude.{◌≡◌, ℕ, ◌<◌, ◌≤◌, List, length}
+use Rattle.replay_script.specs.declared.script.Script.{Script}
+use Rattle.replay_script.specs.Scripts.{IsScript, HasScriptFault}
+use Rattle.bridge_cli.specs.declared.status.Status.TheVariants.{Done, NoForm, ScriptRefused, TooLong}
 use Rattle.bridge_cli.specs.declared.words.Command.{Command}
-use Rattle.bridge_cli.specs.declared.words.Command.TheVariants.{Help, Version, Check, Convert}
+use Rattle.bridge_cli.specs.declared.words.Command.TheVariants.{Help, Version, Check, Convert, Replay}
 use Rattle.bridge_cli.specs.Statuses.{code_of}
 use Rattle.bridge_cli.specs.CommandWords.{IsCommand, FitNoForm}
-use Rattle.bridge_cli.specs.Stops.{no_form_text}
+use Rattle.bridge_cli.specs.Stops.{no_form_text, script_text, too_long_text}
 use Rattle.bridge_cli.specs.HelpTexts.{help_text, version_text}
 use Rattle.bridge_cli.specs.PageAnswers.{page_setting, IsPageAnswer}
 use Rattle.bridge_cli.specs.CheckTexts.{checked_text}
 use Rattle.bridge_cli.specs.ConvertTexts.{converted_text}
+use Rattle.bridge_cli.specs.Limits.{most_script}
+use Rattle.bridge_cli.specs.Replays.{IsReplay, IsReplayOfSome}
 
 -- what a command that prints always the same answers
 pub record IsFixedAnswer (fixed : List ℕ) (status : ℕ) (text : List ℕ) : Type 0 where
   pub done : status ≡ code_of Done
   pub says : text ≡ fixed
+
+-- the bytes on the input are this script
+pub record IsScriptInput (script : Script) (bytes : List ℕ) : Type 0 where
+  pub short : length bytes ≤ most_script
+  pub is : IsScript bytes script
+
+-- what a command that prints a text of a script answers to the bytes on the input: a status and a text
+pub data IsScriptAnswer (Prints : Script → List ℕ → Type 0) (bytes : List ℕ) : ℕ → List ℕ → Type 0 where
+  script_done : (script : Script) (text : List ℕ) → IsScriptInput script bytes → Prints script text → IsScriptAnswer Prints bytes (code_of Done) text
+  script_refused : (line : ℕ) → length bytes ≤ most_script → HasScriptFault bytes line → IsScriptAnswer Prints bytes (code_of ScriptRefused) (script_text line)
+  script_too_long : most_script < length bytes → IsScriptAnswer Prints bytes (code_of TooLong) too_long_text
 
 -- what a command answers to the bytes on the input
 abbrev pub Answers : Command → List ℕ → ℕ → List ℕ → Type 0
@@ -22,8 +37,19 @@ Answers Help bytes = IsFixedAnswer help_text
 Answers Version bytes = IsFixedAnswer version_text
 Answers (Check format) bytes = IsPageAnswer (page_setting format) checked_text bytes
 Answers (Convert format target nanos) bytes = IsPageAnswer (page_setting format) (converted_text target nanos) bytes
+Answers Replay bytes = IsScriptAnswer IsReplay bytes
 
 -- what the program answers: the words fit no form, or a command answers
 pub data IsAnswer (words : List (List ℕ)) (bytes : List ℕ) : ℕ → List ℕ → Type 0 where
   no_form : FitNoForm words → IsAnswer words bytes (code_of NoForm) no_form_text
   answers : (command : Command) (status : ℕ) (text : List ℕ) → IsCommand words command → Answers command bytes status text → IsAnswer words bytes status text
+
+-- what a command that prints in pieces has printed where it is cut off: a text of some of the events
+abbrev pub CutAnswers : Command → List ℕ → List ℕ → Type 0
+CutAnswers Replay bytes text = (script : Script) × IsScriptInput script bytes × IsReplayOfSome script text
+CutAnswers _ bytes text = ⊥
+
+-- a text of which a front may be written: that of an answer, or of a command that is cut off
+pub data IsCutAnswer (words : List (List ℕ)) (bytes : List ℕ) : List ℕ → Type 0 where
+  whole : (status : ℕ) (text : List ℕ) → IsAnswer words bytes status text → IsCutAnswer words bytes text
+  cut_off : (command : Command) (text : List ℕ) → IsCommand words command → CutAnswers command bytes text → IsCutAnswer words bytes text

@@ -7,8 +7,8 @@ use Rattle.page_model.specs.declared.format.Format.{Format}
 use Rattle.page_model.specs.declared.format.Format.TheVariants.{Text, OpenMetrics}
 use Rattle.bridge_ports.specs.Targets.{Scraped}
 use Rattle.bridge_cli.specs.declared.words.Command.{Command}
-use Rattle.bridge_cli.specs.declared.words.Command.TheVariants.{Help, Version, Check, Convert}
-use Rattle.bridge_cli.specs.Limits.{most_nanos, most_job, most_host, most_port}
+use Rattle.bridge_cli.specs.declared.words.Command.TheVariants.{Help, Version, Check, Convert, Replay}
+use Rattle.bridge_cli.specs.Limits.{most_page, most_script, most_nanos, most_job, most_host, most_port}
 
 -- a host's characters: the visible ones of ASCII
 abbrev pub is_host_char : ℕ → Bool
@@ -48,6 +48,7 @@ words_of Help = codes "--help" ∷ []
 words_of Version = codes "--version" ∷ []
 words_of (Check format) = codes "check" ∷ format_word format ∷ []
 words_of (Convert format target nanos) = codes "convert" ∷ format_word format ∷ target.job ∷ target.instance ∷ decimal nanos ∷ []
+words_of Replay = codes "replay" ∷ []
 
 -- the ranges of a command's arguments
 abbrev pub IsInLimits : Command → Type 0
@@ -55,13 +56,31 @@ IsInLimits Help = ⊤
 IsInLimits Version = ⊤
 IsInLimits (Check format) = ⊤
 IsInLimits (Convert format target nanos) = IsTarget target × (nanos ≤ most_nanos)
+IsInLimits Replay = ⊤
 
--- the command reads a page on the input
-abbrev pub reads_page : Command → Bool
-reads_page Help = false
-reads_page Version = false
-reads_page (Check format) = true
-reads_page (Convert format target nanos) = true
+-- the command reads the input
+abbrev pub reads_input : Command → Bool
+reads_input Help = false
+reads_input Version = false
+reads_input (Check format) = true
+reads_input (Convert format target nanos) = true
+reads_input Replay = true
+
+-- the most bytes of the input that the command reads
+abbrev pub most_input : Command → ℕ
+most_input Help = 0
+most_input Version = 0
+most_input (Check format) = most_page
+most_input (Convert format target nanos) = most_page
+most_input Replay = most_script
+
+-- the command prints its text in pieces, as they are made
+abbrev pub prints_pieces : Command → Bool
+prints_pieces Help = false
+prints_pieces Version = false
+prints_pieces (Check format) = false
+prints_pieces (Convert format target nanos) = false
+prints_pieces Replay = true
 
 -- the command takes memory
 abbrev pub takes_memory : Command → Bool
@@ -69,6 +88,7 @@ takes_memory Help = false
 takes_memory Version = false
 takes_memory (Check format) = true
 takes_memory (Convert format target nanos) = true
+takes_memory Replay = true
 
 -- ---- what words ask for
 
@@ -88,3 +108,7 @@ AskFor test words = (command : Command) × IsCommand words command × (test comm
 -- the words ask for no command that passes a test
 abbrev pub AskForNo : (Command → Bool) → List (List ℕ) → Type 0
 AskForNo test words = (command : Command) → IsCommand words command → test command ≡ false
+
+-- of the command that the words ask for, where it reads the input, this holds at the most bytes that it reads
+abbrev pub WhereRead : List (List ℕ) → (ℕ → Type 0) → Type 0
+WhereRead words Holds = (command : Command) → IsCommand words command → reads_input command ≡ true → Holds (most_input command)

@@ -8,6 +8,8 @@ pub mod PageAnswers
 pub mod PageInputs
 pub mod CheckTexts
 pub mod ConvertTexts
+pub mod Replays
 pub mod Answers
 pub mod ProgramOutputs
 pub mod StopAnswers
+pub mod Printed

@@ -5,6 +5,10 @@ use Rattle.std.specs.Prelude.{ℕ, ◌^◌}
 abbrev pub most_page : ℕ
 most_page = 2 ^ 26
 
+-- the most bytes of a script: 256 MiB
+abbrev pub most_script : ℕ
+most_script = 2 ^ 28
+
 -- the most bytes that one read takes: 64 KiB
 abbrev pub most_block : ℕ
 most_block = 2 ^ 16
@@ -28,3 +32,7 @@ most_host = 255
 -- the greatest port
 abbrev pub most_port : ℕ
 most_port = 65535
+
+-- the most scrapes of a target of a script
+abbrev pub most_rounds : ℕ
+most_rounds = 1000000

@@ -51,19 +51,20 @@ pub record HoldsCounts (f : Format) (left : Option (List ℕ)) (counts : PageCou
   pub holds : HoldsPage f left page
   pub counted : counts ≡ counts_of page
 
--- how far the input of a page was taken by a command that stops: through, or not past its limit
-abbrev pub StopsReading : Option (List ℕ) → Option (List ℕ) → Stop → Type 0
-StopsReading left after stops.NoForm = ⊥
-StopsReading left after (stops.Refused line rule) = EndsWithin most_page left after
-StopsReading left after stops.TooLong = IsOverlong most_page left after
-StopsReading left after stops.Read = TookAtMost most_page left after
-StopsReading left after stops.Memory = TookAtMost most_page left after
+-- how far an input was taken by a command that stops: through, or not past its limit
+abbrev pub StopsReading : ℕ → Option (List ℕ) → Option (List ℕ) → Stop → Type 0
+StopsReading most left after stops.NoForm = ⊥
+StopsReading most left after (stops.Refused line rule) = EndsWithin most left after
+StopsReading most left after (stops.BadScript line) = EndsWithin most left after
+StopsReading most left after stops.TooLong = IsOverlong most left after
+StopsReading most left after stops.Read = TookAtMost most left after
+StopsReading most left after stops.Memory = TookAtMost most left after
 
--- how a command that stops leaves the input of a page, and the count of its faults
-abbrev pub StopLeaves : Option (List ℕ) → Option (List ℕ) → ℕ → ℕ → Stop → Type 0
-StopLeaves left after before now stop = StopsReading left after stop × StopCause before now stop
+-- how a command that stops leaves an input of at most so many bytes, and the count of its faults
+abbrev pub StopLeaves : ℕ → Option (List ℕ) → Option (List ℕ) → ℕ → ℕ → Stop → Type 0
+StopLeaves most left after before now stop = StopsReading most left after stop × StopCause before now stop
 
--- how a command leaves the input of a page, and the count of its faults
-abbrev pub Leaves : {T : Type 0} → Option (List ℕ) → Option (List ℕ) → ℕ → ℕ → Result T Stop → Type 0
-Leaves left after before now (Ok x) = EndsWithin most_page left after × (now ≡ before)
-Leaves left after before now (Err stop) = StopLeaves left after before now stop
+-- how a command leaves an input of at most so many bytes, and the count of its faults
+abbrev pub Leaves : {T : Type 0} → ℕ → Option (List ℕ) → Option (List ℕ) → ℕ → ℕ → Result T Stop → Type 0
+Leaves most left after before now (Ok x) = EndsWithin most left after × (now ≡ before)
+Leaves most left after before now (Err stop) = StopLeaves most left after before now stop

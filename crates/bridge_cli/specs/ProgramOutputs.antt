@@ -2,9 +2,9 @@
 use Rattle.std.specs.Prelude.{◌≡◌, ◌≢◌, ℕ, ◌<◌, List, [], ◌++◌, Option, IsSome}
 use Rattle.std.specs.Io.KnownBytes.{Appends}
 use Rattle.bridge_ports.specs.Causes.{Rose}
-use Rattle.bridge_cli.specs.CommandWords.{AskFor, reads_page}
+use Rattle.bridge_cli.specs.CommandWords.{AskFor, reads_input}
 use Rattle.bridge_cli.specs.Inputs.{IsInput}
-use Rattle.bridge_cli.specs.Answers.{IsAnswer}
+use Rattle.bridge_cli.specs.Answers.{IsAnswer, IsCutAnswer}
 
 -- a front of a text was written, and something of it was left
 pub record WroteFront (before after : Option (List ℕ)) (whole : List ℕ) : Type 0 where
@@ -26,16 +26,27 @@ pub record Answered (words : List (List ℕ)) (left : Option (List ℕ)) (status
   pub answer : HasAnswer (IsAnswer words) left status text
   pub written : Appends before after text
 
--- a front of the answer was written, and something of it was left
+-- some bytes that may have been on the input give a text of which a front may be written
+pub record HasCutAnswer (words : List (List ℕ)) (left : Option (List ℕ)) (text : List ℕ) : Type 0 where
+  pub bytes : List ℕ
+  pub on_input : IsInput left bytes
+  pub says : IsCutAnswer words bytes text
+
+-- a front of the answer was written, and something of it was left; of an answer in pieces that front ends in the last piece that was made
 pub record AnsweredInPart (words : List (List ℕ)) (left before after : Option (List ℕ)) : Type 0 where
-  pub status : ℕ
   pub text : List ℕ
-  pub answer : HasAnswer (IsAnswer words) left status text
+  pub answer : HasCutAnswer words left text
   pub written : WroteFront before after text
+
+-- the pieces of an answer that were made were written whole
+pub record AnsweredInPieces (words : List (List ℕ)) (left before after : Option (List ℕ)) : Type 0 where
+  pub text : List ℕ
+  pub answer : HasCutAnswer words left text
+  pub written : Appends before after text
 
 -- what the words ask to be read is told
 abbrev pub IsAllTold : List (List ℕ) → Option (List ℕ) → Type 0
-IsAllTold words left = AskFor reads_page words → IsSome left
+IsAllTold words left = AskFor reads_input words → IsSome left
 
 -- where all that is read is told, every answer has this status, and its text is what was written
 abbrev pub IsOnlyAnswer : List (List ℕ) → Option (List ℕ) → ℕ → Option (List ℕ) → Option (List ℕ) → Type 0

@@ -1,7 +1,7 @@
 -- The statuses that the program ends with. The bridge's own.
 use Rattle.std.specs.Prelude.{◌≡◌, ◌≢◌, ◌⊎◌, ℕ}
 use Rattle.bridge_cli.specs.declared.status.Status.{Status}
-use Rattle.bridge_cli.specs.declared.status.Status.TheVariants.{Done, Refused, NoForm, ReadFailed, WriteFailed, WantOfMemory, TooLong}
+use Rattle.bridge_cli.specs.declared.status.Status.TheVariants.{Done, Refused, NoForm, ReadFailed, WriteFailed, WantOfMemory, ScriptRefused, TooLong}
 
 -- the status of the process
 abbrev pub code_of : Status → ℕ
@@ -11,6 +11,7 @@ code_of NoForm = 2
 code_of ReadFailed = 3
 code_of WriteFailed = 4
 code_of WantOfMemory = 6
+code_of ScriptRefused = 7
 code_of TooLong = 8
 
 -- a status of the process that the program has

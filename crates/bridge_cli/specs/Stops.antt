@@ -5,11 +5,13 @@ use Rattle.page_model.specs.declared.fault.PageFault.{PageFault}
 use Rattle.page_model.specs.declared.fault.PageFault.TheVariants as faults
 use Rattle.page_model.specs.declared.rule.Rule.{Rule}
 use Rattle.page_model.specs.RuleNames.{rule_number, rule_name}
+use Rattle.replay_script.specs.declared.fault.ScriptFault.{ScriptFault}
+use Rattle.replay_script.specs.declared.fault.ScriptFault.TheVariants as script_faults
 use Rattle.bridge_ports.specs.Causes.{Rose}
 use Rattle.bridge_cli.specs.declared.status.Status.{Status}
 use Rattle.bridge_cli.specs.declared.status.Status.TheVariants as statuses
 use Rattle.bridge_cli.specs.declared.stop.Stop.{Stop}
-use Rattle.bridge_cli.specs.declared.stop.Stop.TheVariants.{NoForm, Refused, TooLong, Read, Memory}
+use Rattle.bridge_cli.specs.declared.stop.Stop.TheVariants.{NoForm, Refused, BadScript, TooLong, Read, Memory}
 
 -- the line of words that fit no form
 unfoldable pub no_form_text : List ℕ
@@ -19,6 +21,10 @@ no_form_text = codes "words\n"
 unfoldable pub refused_text : ℕ → Rule → List ℕ
 refused_text line rule = codes "refused line " ++ decimal line ++ codes " rule " ++ decimal (rule_number rule) ++ codes " " ++ rule_name rule ++ codes "\n"
 
+-- the line of a script with a fault
+unfoldable pub script_text : ℕ → List ℕ
+script_text line = codes "script line " ++ decimal line ++ codes "\n"
+
 -- the line of an input that is too long
 unfoldable pub too_long_text : List ℕ
 too_long_text = codes "input too long\n"
@@ -27,6 +33,7 @@ too_long_text = codes "input too long\n"
 abbrev pub stop_text : Stop → List ℕ
 stop_text NoForm = no_form_text
 stop_text (Refused line rule) = refused_text line rule
+stop_text (BadScript line) = script_text line
 stop_text TooLong = too_long_text
 stop_text Read = []
 stop_text Memory = []
@@ -35,6 +42,7 @@ stop_text Memory = []
 abbrev pub stop_status : Stop → Status
 stop_status NoForm = statuses.NoForm
 stop_status (Refused line rule) = statuses.Refused
+stop_status (BadScript line) = statuses.ScriptRefused
 stop_status TooLong = statuses.TooLong
 stop_status Read = statuses.ReadFailed
 stop_status Memory = statuses.WantOfMemory
@@ -43,6 +51,11 @@ stop_status Memory = statuses.WantOfMemory
 abbrev pub stop_of : PageFault → Stop
 stop_of (faults.Refused line rule) = Refused line rule
 stop_of faults.Memory = Memory
+
+-- a fault of a script stops the command that reads it
+abbrev pub script_stop : ScriptFault → Stop
+script_stop (script_faults.Line line) = BadScript line
+script_stop script_faults.Memory = Memory
 
 -- a stop is a failed read where the count of reads that failed rose, and only there
 abbrev pub StopCause : ℕ → ℕ → Stop → Type 0
@@ -63,5 +76,6 @@ IsUnread _ = ⊥
 -- a stop that comes of want of memory, or whose text takes memory
 abbrev pub TakesMemory : Stop → Type 0
 TakesMemory (Refused line rule) = ⊤
+TakesMemory (BadScript line) = ⊤
 TakesMemory Memory = ⊤
 TakesMemory _ = ⊥

@@ -2,21 +2,31 @@
 ghost use Rattle.std.specs.Prelude.{◌≡◌, ◌++◌, [], IfOk, OnErr};
 ghost use Rattle.std.specs.Cow.{cow_slice_items};
 ghost use Rattle.bridge_cli.specs.Stops as spec;
-ghost use Rattle.bridge_cli.specs.StopAnswers.{IsStopAnswer};
+ghost use Rattle.bridge_cli.specs.Printed.{IsStopPrinted};
 ghost use Rattle.bridge_cli.specs.Stops.{TakesMemory};
 
 use crate::digits::push_number;
 use crate::status::Status;
 use crate::stop::Stop;
 use page_model::Rule;
+use replay_script::Script;
 use std::alloc::{AllocError, Global};
 use std::borrow::CowSlice;
+
+/// What is to be printed.
+#[derive(Drop)]
+pub(crate) enum Printed {
+    /// A text.
+    Whole(CowSlice<'static, u8>),
+    /// The bodies of a script, each of which is made when the one before it is printed.
+    Bodies(Script),
+}
 
 /// What the program prints, and the status that it ends with.
 #[derive(Drop)]
 pub(crate) struct Answer {
     pub(crate) status: Status,
-    pub(crate) text: CowSlice<'static, u8>,
+    pub(crate) printed: Printed,
 }
 
 /// The line of a page with a fault.
@@ -35,6 +45,18 @@ fn refused_text(alloc: Global, line: u32, rule: Rule) -> Result<Vec<u8>, AllocEr
     Ok(text)
 }
 
+/// The line of a script with a fault.
+#[tactic(auto, unfolding(crate::specs::Stops::script_text))]
+fn script_text(alloc: Global, line: u64) -> Result<Vec<u8>, AllocError>
+    ensures { IfOk result (λ text. text.items ≡ spec.script_text line) }
+{
+    let mut text = Vec::new(alloc);
+    text.extend_from_slice(b"script line ")?;
+    push_number(&mut text, line)?;
+    text.extend_from_slice(b"\n")?;
+    Ok(text)
+}
+
 /// What is printed where a command stops. Only a fault's line takes memory.
 #[tactic(auto, unfolding(crate::specs::Stops::no_form_text, crate::specs::Stops::too_long_text))]
 fn stop_text(alloc: Global, stop: Stop) -> Result<CowSlice<'static, u8>, AllocError>
@@ -44,6 +66,7 @@ fn stop_text(alloc: Global, stop: Stop) -> Result<CowSlice<'static, u8>, AllocEr
     match stop {
         Stop::NoForm => Ok(CowSlice::Borrowed(b"words\n")),
         Stop::Refused { line, rule } => Ok(CowSlice::Owned(refused_text(alloc, line, rule)?)),
+        Stop::BadScript { line } => Ok(CowSlice::Owned(script_text(alloc, line)?)),
         Stop::TooLong => Ok(CowSlice::Borrowed(b"input too long\n")),
         Stop::Read => Ok(CowSlice::Borrowed(b"")),
         Stop::Memory => Ok(CowSlice::Borrowed(b"")),
@@ -52,16 +75,16 @@ fn stop_text(alloc: Global, stop: Stop) -> Result<CowSlice<'static, u8>, AllocEr
 
 /// The answer where a command stops.
 pub(crate) fn stop_answer(alloc: Global, stop: Stop) -> Answer
-    ensures { IsStopAnswer stop result.status (cow_slice_items result.text) }
+    ensures { IsStopPrinted stop result.status result.printed }
 {
     match stop_text(alloc, stop) {
         Ok(text) => Answer {
             status: stop.status(),
-            text,
+            printed: Printed::Whole(text),
         },
         Err(AllocError) => Answer {
             status: Status::WantOfMemory,
-            text: CowSlice::Borrowed(b""),
+            printed: Printed::Whole(CowSlice::Borrowed(b"")),
         },
     }
 }

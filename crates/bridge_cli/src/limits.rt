@@ -3,6 +3,9 @@
 /// The most bytes of a page: 64 MiB.
 pub(crate) const MOST_PAGE_BYTES: usize = 1 << 26;
 
+/// The most bytes of a script: 256 MiB.
+pub(crate) const MOST_SCRIPT_BYTES: usize = 1 << 28;
+
 /// The most bytes that one read takes.
 pub(crate) const BLOCK_BYTES: usize = 1 << 16;
 

@@ -3,7 +3,7 @@ ghost use Rattle.std.specs.Prelude.{◌≡◌, ◌++◌, [], ℕ, List, length, 
 ghost use Rattle.page_model.specs.declared.page.Page.{Page as AnyPage};
 ghost use Rattle.page_model.specs.declared.format.Treatment.TheVariants.{Scraped};
 ghost use Rattle.page_feeding.specs.PageFeeding.{Stands, Answers, CountAnswers};
-ghost use Rattle.bridge_cli.specs.Limits.{most_samples};
+ghost use Rattle.bridge_cli.specs.Limits.{most_page, most_samples};
 ghost use Rattle.bridge_cli.specs.declared.stop.Stop.TheVariants.{Memory};
 ghost use Rattle.bridge_cli.specs.PageAnswers.{page_setting, IsPageAnswer};
 ghost use Rattle.bridge_cli.specs.PageInputs.{IsFed, HasRoomFor, IsFedWhole, HoldsPage, HoldsCounts, Leaves};
@@ -74,7 +74,7 @@ fn read_page<I: Source, G: Grammar>(
     requires { Stands G.format Scraped most_samples [] reader }
     ensures fed { IfOk result (IsFedWhole G.format (I.left input.old)) }
     ensures stop { (text_of : AnyPage → List ℕ) → IfErr result (StopsAs (IsPageAnswer (page_setting G.format) text_of) (I.left input.old)) }
-    ensures input { Leaves (I.left input.old) (I.left input.new)
+    ensures input { Leaves most_page (I.left input.old) (I.left input.new)
         (I.read_faults input.old) (I.read_faults input.new) result }
 {
     let mut page = FedPage::Reading(reader);
@@ -97,7 +97,7 @@ fn read_page<I: Source, G: Grammar>(
 fn page_of<I: Source, G: Grammar>(alloc: Global, input: &mut I) -> Result<Page, Stop>
     ensures page { IfOk result (HoldsPage G.format (I.left input.old)) }
     ensures stop { (text_of : AnyPage → List ℕ) → IfErr result (StopsAs (IsPageAnswer (page_setting G.format) text_of) (I.left input.old)) }
-    ensures input { Leaves (I.left input.old) (I.left input.new)
+    ensures input { Leaves most_page (I.left input.old) (I.left input.new)
         (I.read_faults input.old) (I.read_faults input.new) result }
 {
     let reader = PageReader::<G>::new(alloc, Treatment::Scraped, MOST_SAMPLES)?;
@@ -109,7 +109,7 @@ fn page_of<I: Source, G: Grammar>(alloc: Global, input: &mut I) -> Result<Page, 
 fn counts_of<I: Source, G: Grammar>(alloc: Global, input: &mut I) -> Result<PageCounts, Stop>
     ensures counts { IfOk result (HoldsCounts G.format (I.left input.old)) }
     ensures stop { (text_of : AnyPage → List ℕ) → IfErr result (StopsAs (IsPageAnswer (page_setting G.format) text_of) (I.left input.old)) }
-    ensures input { Leaves (I.left input.old) (I.left input.new)
+    ensures input { Leaves most_page (I.left input.old) (I.left input.new)
         (I.read_faults input.old) (I.read_faults input.new) result }
 {
     let reader = PageReader::<G>::counting(alloc, Treatment::Scraped, MOST_SAMPLES)?;
@@ -125,7 +125,7 @@ pub(crate) fn whole_page<I: Source>(
 ) -> Result<Page, Stop>
     ensures page { IfOk result (HoldsPage format (I.left input.old)) }
     ensures stop { (text_of : AnyPage → List ℕ) → IfErr result (StopsAs (IsPageAnswer (page_setting format) text_of) (I.left input.old)) }
-    ensures input { Leaves (I.left input.old) (I.left input.new)
+    ensures input { Leaves most_page (I.left input.old) (I.left input.new)
         (I.read_faults input.old) (I.read_faults input.new) result }
 {
     match format {
@@ -142,7 +142,7 @@ pub(crate) fn page_counts<I: Source>(
 ) -> Result<PageCounts, Stop>
     ensures counts { IfOk result (HoldsCounts format (I.left input.old)) }
     ensures stop { (text_of : AnyPage → List ℕ) → IfErr result (StopsAs (IsPageAnswer (page_setting format) text_of) (I.left input.old)) }
-    ensures input { Leaves (I.left input.old) (I.left input.new)
+    ensures input { Leaves most_page (I.left input.old) (I.left input.new)
         (I.read_faults input.old) (I.read_faults input.new) result }
 {
     match format {

@@ -17,6 +17,8 @@ pub enum Status {
     WriteFailed = 4,
     /// Memory was wanted.
     WantOfMemory = 6,
+    /// The script on the input has a fault, whose line the output names.
+    ScriptRefused = 7,
     /// The input is too long.
     TooLong = 8,
 }

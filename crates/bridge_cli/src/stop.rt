@@ -1,11 +1,12 @@
 //! Why a command ends without its text.
 ghost use Rattle.std.specs.Prelude.{◌≡◌};
 ghost use Rattle.bridge_cli.specs.declared.stop.Stop.TheVariants.{Memory, Read};
-ghost use Rattle.bridge_cli.specs.Stops.{stop_status, stop_of};
+ghost use Rattle.bridge_cli.specs.Stops.{stop_status, stop_of, script_stop};
 
 use crate::status::Status;
 use bridge_ports::Failed;
 use page_model::{PageFault, Rule};
+use replay_script::ScriptFault;
 use std::alloc::AllocError;
 
 /// Why a command ends without its text.
@@ -15,6 +16,8 @@ pub(crate) enum Stop {
     NoForm,
     /// The page on the input has a fault: its line, and the rule that it breaks.
     Refused { line: u32, rule: Rule },
+    /// The script on the input has a fault: the line of its first head line that breaks a rule.
+    BadScript { line: u64 },
     /// The input is too long.
     TooLong,
     /// A read failed.
@@ -31,6 +34,7 @@ impl Stop {
         match self {
             Stop::NoForm => Status::NoForm,
             Stop::Refused { .. } => Status::Refused,
+            Stop::BadScript { .. } => Status::ScriptRefused,
             Stop::TooLong => Status::TooLong,
             Stop::Read => Status::ReadFailed,
             Stop::Memory => Status::WantOfMemory,
@@ -51,6 +55,17 @@ impl From<Failed> for Stop {
 
     fn from(_: Failed) -> Stop {
         Stop::Read
+    }
+}
+
+impl From<ScriptFault> for Stop {
+    ghost from_gives = { λ fault stop. stop ≡ script_stop fault };
+
+    fn from(fault: ScriptFault) -> Stop {
+        match fault {
+            ScriptFault::Line(line) => Stop::BadScript { line },
+            ScriptFault::Memory => Stop::Memory,
+        }
     }
 }
 

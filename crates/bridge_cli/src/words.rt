@@ -29,4 +29,6 @@ pub enum Command {
         /// The time of the event, in nanoseconds since the Unix epoch, at most 2^62.
         nanos: u64,
     },
+    /// What the scrapes of a script become.
+    Replay,
 }

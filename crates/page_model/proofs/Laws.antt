@@ -7,3 +7,4 @@ pub use Rattle.page_model.proofs.Prefixes.{fault_from-append, too_long_fault}
 pub use Rattle.page_model.proofs.Least.{none_found}
 pub use Rattle.page_model.proofs.KindLaws.{kind_of_page}
 pub use Rattle.page_model.proofs.Texts.{items_make_text}
+pub use Rattle.page_model.proofs.DistinctKeys.{page-distinct_keys}

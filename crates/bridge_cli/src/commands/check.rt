@@ -5,6 +5,7 @@ ghost use Rattle.bridge_cli.specs.declared.words.Command.TheVariants.{Check};
 ghost use Rattle.bridge_cli.specs.Statuses.{code_of};
 ghost use Rattle.bridge_cli.specs.Answers.{Answers};
 ghost use Rattle.bridge_cli.specs.CheckTexts as spec;
+ghost use Rattle.bridge_cli.specs.Limits.{most_page};
 ghost use Rattle.bridge_cli.specs.PageInputs.{Leaves};
 ghost use Rattle.bridge_cli.specs.ProgramOutputs.{HasAnswer};
 ghost use Rattle.bridge_cli.specs.StopAnswers.{StopsAs};
@@ -38,7 +39,7 @@ pub(super) fn check<I: Source>(
 ) -> Result<Vec<u8>, Stop>
     ensures text { IfOk result (λ text. HasAnswer (Answers (Check format)) (I.left input.old) (code_of Done) text.items) }
     ensures stop { IfErr result (StopsAs (Answers (Check format)) (I.left input.old)) }
-    ensures input { Leaves (I.left input.old) (I.left input.new)
+    ensures input { Leaves most_page (I.left input.old) (I.left input.new)
         (I.read_faults input.old) (I.read_faults input.new) result }
 {
     let counts = page_counts(alloc, format, input)?;

@@ -8,6 +8,7 @@ ghost use Rattle.bridge_cli.specs.declared.words.Command.TheVariants.{Convert};
 ghost use Rattle.bridge_cli.specs.Statuses.{code_of};
 ghost use Rattle.bridge_cli.specs.Answers.{Answers};
 ghost use Rattle.bridge_cli.specs.ConvertTexts as spec;
+ghost use Rattle.bridge_cli.specs.Limits.{most_page};
 ghost use Rattle.bridge_cli.specs.PageInputs.{Leaves};
 ghost use Rattle.bridge_cli.specs.ProgramOutputs.{HasAnswer};
 ghost use Rattle.bridge_cli.specs.StopAnswers.{StopsAs};
@@ -67,7 +68,7 @@ pub(super) fn convert<I: Source>(
     ensures text { IfOk result (λ text. HasAnswer (Answers (Convert format target.now nanos))
         (I.left input.old) (code_of Done) text.items) }
     ensures stop { IfErr result (StopsAs (Answers (Convert format target.now nanos)) (I.left input.old)) }
-    ensures input { Leaves (I.left input.old) (I.left input.new)
+    ensures input { Leaves most_page (I.left input.old) (I.left input.new)
         (I.read_faults input.old) (I.read_faults input.new) result }
 {
     let page = whole_page(alloc, format, input)?;

@@ -11,6 +11,9 @@ bridge check FORMAT
 bridge convert FORMAT JOB INSTANCE NANOS
     reads a page on the input and prints the OTLP JSON text of one event
     bridge convert openmetrics app localhost:8000 1700000000000000000
+bridge replay
+    reads a script on the input and prints the OTLP JSON text of each of its scrapes
+    bridge replay
 bridge --help
     prints these lines
 bridge --version

@@ -22,6 +22,9 @@ fn lone_word(word: &str) -> Option<Command>
     if word == "--version" {
         return Some(Command::Version);
     }
+    if word == "replay" {
+        return Some(Command::Replay);
+    }
     None
 }
 

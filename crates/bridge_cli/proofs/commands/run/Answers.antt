@@ -1,9 +1,33 @@
+use Rattle.std.proofs.Common.{◌∙◌}
+use Rattle.bridge_cli.specs.declared.words.Command.TheVariants.{Help, Version, Check, Convert}
 use Rattle.bridge_cli.specs.HelpTexts.{help_text, version_text}
+use Rattle.bridge_cli.specs.Answers.{Answers, IsScriptAnswer}
+use Rattle.bridge_cli.specs.Replays.{IsReplay}
+use Rattle.bridge_cli.specs.StopAnswers.{StopsAs}
 use Rattle.bridge_cli.proofs.AnswerLaws.{fixed_answer}
+use Rattle.bridge_cli.proofs.PageLaws.{stop_has}
+use Rattle.bridge_cli.proofs.PrintLaws.{same_text, whole_printed, bodies_printed}
 use Rattle.bridge_cli.proofs.commands.run.Goals as goal
 
 pub returns-in-Help-clause-text : goal.returns-in-Help-clause-text
-returns-in-Help-clause-text g c = rw c.in-Help.is (fixed_answer _ help_text _ c.help.ensures)
+returns-in-Help-clause-text g c = rw c.in-Help.is (whole_printed Help _ _ tt (λ text e. fixed_answer _ help_text text (e ∙ c.help.ensures)))
 
 pub returns-in-Version-clause-text : goal.returns-in-Version-clause-text
-returns-in-Version-clause-text g c = rw c.in-Version.is (fixed_answer _ version_text _ c.version.ensures)
+returns-in-Version-clause-text g c = rw c.in-Version.is (whole_printed Version _ _ tt (λ text e. fixed_answer _ version_text text (e ∙ c.version.ensures)))
+
+pub returns-in_ok-check-in-Check-clause-text : goal.returns-in_ok-check-in-Check-clause-text
+returns-in_ok-check-in-Check-clause-text g c =
+    rw c.in-Check.is (whole_printed (Check c.in-Check.format) _ _ tt (λ text e. same_text (Answers (Check c.in-Check.format)) _ _ _ text c.in_ok-check-in-Check.ensures.text e))
+
+pub returns-in_ok-convert-in-Convert-clause-text : goal.returns-in_ok-convert-in-Convert-clause-text
+returns-in_ok-convert-in-Convert-clause-text g c =
+    rw c.in-Convert.is (
+    whole_printed (Convert c.in-Convert.format c.in-Convert.target c.in-Convert.nanos) _ _ tt
+    (λ text e. same_text (Answers (Convert c.in-Convert.format c.in-Convert.target c.in-Convert.nanos)) _ _ _ text c.in_ok-convert-in-Convert.ensures.text e))
+
+pub returns-in_ok-whole_script-in-Replay-clause-text : goal.returns-in_ok-whole_script-in-Replay-clause-text
+returns-in_ok-whole_script-in-Replay-clause-text g c = rw c.in-Replay.is (bodies_printed _ c.in_ok-whole_script-in-Replay.field-0 c.in_ok-whole_script-in-Replay.ensures.script)
+
+pub returns-in_err-whole_script-in-Replay-clause-stop : goal.returns-in_err-whole_script-in-Replay-clause-stop
+returns-in_err-whole_script-in-Replay-clause-stop g c =
+    rw c.in-Replay.is (stop_has (StopsAs (IsScriptAnswer IsReplay) _) _ _ c.from_residual-in_err-whole_script-in-Replay.ensures.1 c.in_err-whole_script-in-Replay.ensures.stop)

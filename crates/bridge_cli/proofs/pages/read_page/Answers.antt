@@ -8,7 +8,7 @@ loop-page-init g c = (fed_nothing _ _ _ c.requires, refl)
 
 pub returns-in_err-count-clause-input : goal.returns-in_err-count-clause-input
 returns-in_err-count-clause-input g c =
-    stop_leaves _ _ _ _ _ Read c.from_residual.ensures.1
+    stop_leaves _ _ _ _ _ _ Read c.from_residual.ensures.1
     (read_failed _ _ _ _ _ _ _ c.loop-page.taken _ c.loop-page.invariant.0 c.loop-page.invariant.1 c.in_err-count.ensures.bytes c.in_err-count.ensures.cause.failed)
 
 pub returns-then-count-eq0-clause-fed : goal.returns-then-count-eq0-clause-fed
@@ -28,7 +28,7 @@ returns-then-count-taken-clause-stop g c = λ text_of. too_long_answer _ _ _ tex
 
 pub returns-in_err-page-clause-input : goal.returns-in_err-page-clause-input
 returns-in_err-page-clause-input g c =
-    stop_leaves _ _ _ _ _ c.in_err-page.field-0.0 c.from_residual-in_err-page.ensures.1
+    stop_leaves _ _ _ _ _ _ c.in_err-page.field-0.0 c.from_residual-in_err-page.ensures.1
     (rw c.in_err-page.ensures.memory (
     memory_wanted _ _ _ _ _ _ _ c.loop-page.taken c.in_ok-count.field-0 c.read.new.into _ c.loop-page.invariant.0 c.loop-page.invariant.1 c.in_ok-count.ensures.bytes.0
     (omega (arith, c.in_ok-count.ensures.bound.0)) (omega arith) c.in_ok-count.ensures.cause.kept))

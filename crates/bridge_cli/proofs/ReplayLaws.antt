@@ -1,0 +1,274 @@
+-- What a script's records come to is one text, and how it grows by one body.
+use Rattle.std.proofs.Common.{◌≡◌, ◌≢◌, ℕ, zero, suc, ◌+◌, ◌-◌, ◌^◌, ◌<◌, ◌≤◌, List, [], ◌∷◌, ◌++◌, length, get_or, Option, Some, None, Result, Ok, Err, refl, sym, ap, subst, ◌∙◌, arith, append_assoc, append-nil}
+use Rattle.std.specs.Prelude.{slice_get, OnOk, codes, ⊤}
+use Rattle.page_model.specs.declared.format.Format.{Format}
+use Rattle.otlp_json.specs.Texts.{request_text}
+use Rattle.target_core.specs.Events.{request_after}
+use Rattle.std.specs.Io.KnownBytes.{Appends, Keeps}
+use Rattle.std.proofs.lemmas.Option.{same_Some, none-some}
+use Rattle.page_model.specs.declared.event.Event.{Event}
+use Rattle.page_model.specs.declared.event.Outcome.{Outcome}
+use Rattle.page_model.specs.declared.event.Outcome.TheVariants as outcomes
+use Rattle.page_model.specs.declared.event.Cause.TheVariants as causes
+use Rattle.page_model.specs.declared.page.Page.{Page}
+use Rattle.page_model.specs.declared.rule.Rule.{Rule}
+use Rattle.page_model.specs.declared.fault.PageFault.{PageFault}
+use Rattle.page_model.specs.declared.fault.PageFault.TheVariants as faults
+use Rattle.page_model.specs.Written.{Setting}
+use Rattle.page_model.specs.Pages.{FirstFault}
+use Rattle.page_model.specs.Presence.{page_of_outcome}
+use Rattle.page_model.proofs.Laws.{first_fault_once, page_of_once, fault_or_page, page-distinct_keys}
+use Rattle.page_feeding.specs.PageFeeding.{Answers, Refuses}
+use Rattle.bridge_ports.specs.Targets.{Scraped}
+use Rattle.start_times.specs.Scrapes.{last_moment, moment_after, scrape_after, scrapes_of}
+use Rattle.start_times.specs.Advancing.{HasDistinctKeys}
+use Rattle.target_core.specs.States.{Following, StandsFor, HasNextMoment}
+use Rattle.replay_script.specs.declared.header.Header.{Header}
+use Rattle.replay_script.specs.declared.script.PageRecord.{PageRecord}
+use Rattle.replay_script.specs.declared.script.ScriptTarget.{ScriptTarget}
+use Rattle.replay_script.specs.declared.script.Script.{Script}
+use Rattle.bridge_cli.specs.declared.replaying.Cut.{Cut}
+use Rattle.bridge_cli.specs.declared.replaying.Cut.TheVariants as cuts
+use Rattle.bridge_cli.specs.Limits.{most_rounds}
+use Rattle.bridge_cli.specs.Replays.{tracking_of, limited_setting, IsOutcomeOf, gives_page, has_fault, ComesTo, too_long, is_read, IsEventOf, IsEventAt, AreEvents, body_after, bodies_of, IsTextOfSome, IsTextOf, IsTextAt, AreTexts, joined_texts, IsReplay, IsReplayOfSome}
+use Rattle.bridge_cli.specs.Printed.{MakesBody, PrintsNext, PrintsTarget, PrintsScript, PrintedSome, PrintedTargets}
+use Rattle.bridge_cli.specs.ProgramOutputs.{WroteFront}
+
+-- ---- one text
+
+-- a page comes to one outcome
+outcome_once : (st : Setting) (body : List ℕ) (a b : Outcome) → IsOutcomeOf st body a → IsOutcomeOf st body b → a ≡ b
+outcome_once st body a b (gives_page p x) (gives_page q y) = ap outcomes.Page (page_of_once st body p q x y)
+outcome_once st body a b (gives_page p x) (has_fault l r y) = absurd (fault_or_page st body (l, r) p y x)
+outcome_once st body a b (has_fault l r x) (gives_page p y) = absurd (fault_or_page st body (l, r) p x y)
+outcome_once st body a b (has_fault l r x) (has_fault m s y) = ap (λ (f : ℕ × Rule). outcomes.Failed (causes.Page f.0 f.1)) (first_fault_once st body (l, r) (m, s) x y)
+
+comes_once : (h : Header) (r : PageRecord) (a b : Outcome) → ComesTo h r a → ComesTo h r b → a ≡ b
+comes_once h r a b (too_long x) (too_long y) = refl
+comes_once h r a b (too_long x) (is_read o short y) = absurd (omega (arith, x, short))
+comes_once h r a b (is_read o short x) (too_long y) = absurd (omega (arith, y, short))
+comes_once h r a b (is_read o short x) (is_read p also y) = outcome_once _ r.body o p x y
+
+event_once : (h : Header) (r s : PageRecord) (e f : Event) → r ≡ s → IsEventOf h r e → IsEventOf h s f → e ≡ f
+event_once h r s e f same a b =
+    let At : PageRecord → Type 0 = λ x. IsEventOf h x e in
+    let moved = subst At same a in
+    let time : e.reading ≡ f.reading = moved.time ∙ sym b.time in
+    let outcome : e.outcome ≡ f.outcome = comes_once h s e.outcome f.outcome moved.comes_to b.comes_to in
+    let all : record { reading = e.reading; outcome = e.outcome } ≡ record { reading = f.reading; outcome = f.outcome } = cc in
+    all
+
+-- records come to one list of events, where there are as many
+events_once : (h : Header) (records : List PageRecord) (xs ys : List Event) → length xs ≡ length ys → AreEvents h records xs → AreEvents h records ys → xs ≡ ys
+events_once h records [] [] same a b = refl
+events_once h records [] (y ∷ ys) same a b = absurd (omega (arith, same))
+events_once h records (x ∷ xs) [] same a b = absurd (omega (arith, same))
+events_once h records (x ∷ xs) (y ∷ ys) same a b =
+    let shorter : length xs ≡ length ys = omega (arith, same) in
+    let rest = events_once h records xs ys shorter a.1 b.1 in
+    let r = same_Some a.0.scraped b.0.scraped (sym a.0.stands ∙ ap (slice_get records) shorter ∙ b.0.stands) in
+    ap (λ e. e ∷ xs) (event_once h a.0.scraped b.0.scraped x y r a.0.is b.0.is) ∙ ap (λ es. y ∷ es) rest
+
+text_once : (h : Header) (t u : ScriptTarget) (a b : List ℕ) → t ≡ u → IsTextOf h t a → IsTextOf h u b → a ≡ b
+text_once h t u a b same x y =
+    let At : ScriptTarget → Type 0 = λ v. IsTextOf h v a in
+    let moved = subst At same x in
+    let events = events_once h u.scrapes moved.events y.events (moved.all ∙ sym y.all) moved.are y.are in
+    moved.says ∙ ap (bodies_of h u.target) events ∙ sym y.says
+
+texts_once : (s : Script) (xs ys : List (List ℕ)) → length xs ≡ length ys → AreTexts s xs → AreTexts s ys → xs ≡ ys
+texts_once s [] [] same a b = refl
+texts_once s [] (y ∷ ys) same a b = absurd (omega (arith, same))
+texts_once s (x ∷ xs) [] same a b = absurd (omega (arith, same))
+texts_once s (x ∷ xs) (y ∷ ys) same a b =
+    let shorter : length xs ≡ length ys = omega (arith, same) in
+    let rest = texts_once s xs ys shorter a.1 b.1 in
+    let t = same_Some a.0.target b.0.target (sym a.0.stands ∙ ap (slice_get s.targets) shorter ∙ b.0.stands) in
+    ap (λ e. e ∷ xs) (text_once s.header a.0.target b.0.target x y t a.0.is b.0.is) ∙ ap (λ es. y ∷ es) rest
+
+-- a script has one text
+pub replay_once : (s : Script) (a b : List ℕ) → IsReplay s a → IsReplay s b → a ≡ b
+replay_once s a b x y = x.says ∙ ap joined_texts (texts_once s x.texts y.texts (x.all ∙ sym y.all) x.are y.are) ∙ sym y.says
+
+-- ---- outcomes
+
+-- what a reader answers of a page that it was fed whole
+pub whole_answer : (st : Setting) (body : List ℕ) (fault : PageFault) → Refuses st body fault → Answers st body (Err fault)
+whole_answer st body (faults.Refused line rule) refuses =
+    let At : List ℕ → Type 0 = λ bs. FirstFault st bs (line, rule) in subst At (append-nil body) (refuses [])
+whole_answer st body faults.Memory refuses = tt
+
+-- the keys of what a record comes to are distinct
+pub outcome_keys : (h : Header) (r : PageRecord) (o : Outcome) → ComesTo h r o → HasDistinctKeys (page_of_outcome o)
+unfolding Rattle.std.specs.List.IsDistinct
+outcome_keys h r o (too_long x) = tt
+outcome_keys h r o (is_read p short x) = go p x
+  where
+    go : (p : Outcome) → IsOutcomeOf (record { format = r.format; treatment = Rattle.page_model.specs.declared.format.Treatment.TheVariants.Scraped; limit = h.limit }) r.body p → HasDistinctKeys (page_of_outcome p)
+    go p (gives_page page is) = page-distinct_keys _ r.body page is
+    go p (has_fault line rule has) = tt
+
+-- ---- moments
+
+-- a moment is not far behind the greatest reading
+abbrev IsNear : ℕ → Option ℕ → Type 0
+IsNear n None = ⊤
+IsNear n (Some moment) = moment ≤ 2 ^ 62 + n
+
+after_near : (n : ℕ) (before : Option ℕ) (reading : ℕ) → IsNear n before → moment_after before reading ≤ 2 ^ 62 + suc n
+after_near n None reading near = omega arith
+after_near n (Some moment) reading near = omega (arith, near)
+
+last_near : (events : List Event) → IsNear (length events) (last_moment (scrapes_of events))
+unfolding scrape_after
+last_near [] = tt
+last_near (e ∷ earlier) = after_near (length earlier) (last_moment (scrapes_of earlier)) e.reading (last_near earlier)
+
+near_next : (n : ℕ) (o : Option ℕ) → n ≤ most_rounds → IsNear n o → HasNextMoment o
+near_next n None few near = tt
+near_next n (Some moment) few near = omega (arith, few, near)
+
+-- behind the events of a script a further moment fits
+pub next_moment : (target : Scraped) (h : Header) (s : Following) (events : List Event) → StandsFor target (tracking_of h) s events → length events ≤ most_rounds → HasNextMoment s.moment
+next_moment target h s events stands few = subst HasNextMoment (sym stands.moment_is) (near_next (length events) (last_moment (scrapes_of events)) few (last_near events))
+
+-- ---- one body more
+
+-- the element at a place
+pub at_place : {A : Type 0} (xs : List A) (i : ℕ) (x : A) → i < length xs → x ≡ get_or xs i x → slice_get xs i ≡ Some x
+at_place [] i x inside e = absurd (omega arith)
+at_place (y ∷ ys) zero x inside e = ap Some (sym e)
+at_place (y ∷ ys) (suc i) x inside e = at_place ys i x (omega (arith, inside)) e
+
+-- bytes that grow twice
+pub grown_twice : (a b c : Option (List ℕ)) (xs ys : List ℕ) → Appends a b xs → Appends b c ys → Appends a c (xs ++ ys)
+grown_twice None b c xs ys first second = tt
+grown_twice (Some us) None c xs ys first second = absurd first
+grown_twice (Some us) (Some bs) None xs ys first second = absurd second
+grown_twice (Some us) (Some bs) (Some cs) xs ys first second = second ∙ ap (λ zs. zs ++ ys) first ∙ append_assoc us xs ys
+
+-- a text was written, and a front of what follows
+pub front_behind : (a b c : Option (List ℕ)) (text piece : List ℕ) → Appends a b text → WroteFront b c piece → WroteFront a c (text ++ piece)
+front_behind a b c text piece first front = record {
+  front = text ++ front.front;
+  rest = front.rest;
+  text = ap (λ t. text ++ t) front.text ∙ sym (append_assoc text front.front front.rest);
+  some_left = front.some_left;
+  written = grown_twice a b c text front.front first front.written;
+}
+
+-- nothing grows
+pub grown_none : (a : Option (List ℕ)) → Appends a a []
+grown_none None = tt
+grown_none (Some xs) = sym (append-nil xs)
+
+-- nothing was printed of a target
+pub printed_none : (h : Header) (t : ScriptTarget) (state : Following) (held : Option (List ℕ)) → StandsFor t.target (tracking_of h) state [] → PrintedSome h t 0 state held held
+printed_none h t state held stands = record { events = []; are = tt; count = refl; stands = stands; written = grown_none held }
+
+-- the event behind those that were printed
+next_event : (h : Header) (t : ScriptTarget) (at : ℕ) (state : Following) (a b : Option (List ℕ)) (r : PageRecord) (e : Event) → (was : PrintedSome h t at state a b) → slice_get t.scrapes at ≡ Some r → IsEventOf h r e
+    → IsEventAt h t.scrapes (length was.events) e
+next_event h t at state a b r e was stands is = record { scraped = r; stands = ap (slice_get t.scrapes) was.count ∙ stands; is = is }
+
+-- a body more was printed
+pub printed_more : (h : Header) (t : ScriptTarget) (at : ℕ) (old new : Following) (a b c : Option (List ℕ)) (r : PageRecord) (e : Event) → (was : PrintedSome h t at old a b) → slice_get t.scrapes at ≡ Some r
+    → IsEventOf h r e → StandsFor t.target (tracking_of h) new (e ∷ was.events) → Appends b c (body_after h t.target was.events e) → PrintedSome h t (at + 1) new a c
+printed_more h t at old new a b c r e was stands is state more = record {
+  events = e ∷ was.events;
+  are = (next_event h t at old a b r e was stands is, was.are);
+  count = omega (arith, was.count);
+  stands = state;
+  written = grown_twice a b c (bodies_of h t.target was.events) (body_after h t.target was.events e) was.written more;
+}
+
+-- all bodies of a target were printed
+pub printed_all : (h : Header) (t : ScriptTarget) (at : ℕ) (state : Following) (a b : Option (List ℕ)) → PrintedSome h t at state a b → at ≡ length t.scrapes
+    → (text : List ℕ) × IsTextOf h t text × Appends a b text
+printed_all h t at state a b was all =
+    (bodies_of h t.target was.events, record { events = was.events; are = was.are; all = was.count ∙ all; says = refl }, was.written)
+
+-- a front of the next body was written
+pub printed_front : (h : Header) (t : ScriptTarget) (at : ℕ) (state : Following) (a b c : Option (List ℕ)) (r : PageRecord) (e : Event) → (was : PrintedSome h t at state a b) → slice_get t.scrapes at ≡ Some r
+    → IsEventOf h r e → WroteFront b c (body_after h t.target was.events e) → (text : List ℕ) × IsTextOfSome h t text × WroteFront a c text
+printed_front h t at state a b c r e was stands is front = (
+  bodies_of h t.target (e ∷ was.events),
+  record { events = e ∷ was.events; are = (next_event h t at state a b r e was stands is, was.are); says = refl },
+  front_behind a b c (bodies_of h t.target was.events) (body_after h t.target was.events e) was.written front,
+)
+
+-- memory was wanted for the next body
+pub printed_stop : (h : Header) (t : ScriptTarget) (at : ℕ) (state : Following) (a b c : Option (List ℕ)) → PrintedSome h t at state a b → Appends b c [] → (text : List ℕ) × IsTextOfSome h t text × Appends a c text
+printed_stop h t at state a b c was none =
+    let Grown : List ℕ → Type 0 = λ t. Appends a c t in (
+      bodies_of h t.target was.events,
+      record { events = was.events; are = was.are; says = refl },
+      subst Grown (append-nil (bodies_of h t.target was.events)) (grown_twice a b c (bodies_of h t.target was.events) [] was.written none),
+    )
+
+-- ---- one target more
+
+pub targets_none : (s : Script) (held : Option (List ℕ)) → PrintedTargets s 0 held held
+targets_none s held = record { texts = []; are = tt; count = refl; written = grown_none held }
+
+pub targets_more : (s : Script) (at : ℕ) (a b c : Option (List ℕ)) (t : ScriptTarget) (text : List ℕ) → PrintedTargets s at a b → slice_get s.targets at ≡ Some t → IsTextOf s.header t text → Appends b c text
+    → PrintedTargets s (at + 1) a c
+targets_more s at a b c t text was stands is more = record {
+  texts = text ∷ was.texts;
+  are = (record { target = t; stands = ap (slice_get s.targets) was.count ∙ stands; is = is }, was.are);
+  count = omega (arith, was.count);
+  written = grown_twice a b c (joined_texts was.texts) text was.written more;
+}
+
+pub targets_all : (s : Script) (at : ℕ) (a b : Option (List ℕ)) → PrintedTargets s at a b → at ≡ length s.targets → (text : List ℕ) × IsReplay s text × Appends a b text
+targets_all s at a b was all = (joined_texts was.texts, record { texts = was.texts; are = was.are; all = was.count ∙ all; says = refl }, was.written)
+
+some_of : (s : Script) (at : ℕ) (a b : Option (List ℕ)) (t : ScriptTarget) (part : List ℕ) → (was : PrintedTargets s at a b) → slice_get s.targets at ≡ Some t → IsTextOfSome s.header t part
+    → IsReplayOfSome s (joined_texts was.texts ++ part)
+some_of s at a b t part was stands is = record { texts = was.texts; are = was.are; target = t; stands = ap (slice_get s.targets) was.count ∙ stands; part = part; is_part = is; says = refl }
+
+pub targets_front : (s : Script) (at : ℕ) (a b c : Option (List ℕ)) (t : ScriptTarget) (part : List ℕ) → PrintedTargets s at a b → slice_get s.targets at ≡ Some t → IsTextOfSome s.header t part → WroteFront b c part
+    → (text : List ℕ) × IsReplayOfSome s text × WroteFront a c text
+targets_front s at a b c t part was stands is front =
+    (joined_texts was.texts ++ part, some_of s at a b t part was stands is, front_behind a b c (joined_texts was.texts) part was.written front)
+
+pub targets_stop : (s : Script) (at : ℕ) (a b c : Option (List ℕ)) (t : ScriptTarget) (part : List ℕ) → PrintedTargets s at a b → slice_get s.targets at ≡ Some t → IsTextOfSome s.header t part → Appends b c part
+    → (text : List ℕ) × IsReplayOfSome s text × Appends a c text
+targets_stop s at a b c t part was stands is more =
+    (joined_texts was.texts ++ part, some_of s at a b t part was stands is, grown_twice a b c (joined_texts was.texts) part was.written more)
+
+-- ---- what is made
+
+-- what is read of a record in its format
+pub read_as : (h : Header) (r : PageRecord) (f : Format) (bytes : List ℕ) (o : Outcome) → r.format ≡ f → bytes ≡ r.body → length r.body ≤ h.max_page → IsOutcomeOf (limited_setting h.limit f) bytes o → ComesTo h r o
+read_as h r f bytes o format body short is =
+    let AtFormat : Format → Type 0 = λ g. IsOutcomeOf (limited_setting h.limit g) bytes o in
+    let AtBody : List ℕ → Type 0 = λ bs. IsOutcomeOf (limited_setting h.limit r.format) bs o in
+    is_read o short (subst AtBody body (subst AtFormat (sym format) is))
+
+-- a body that was made
+pub made_body : {E : Type 0} (h : Header) (target : Scraped) (r : PageRecord) (earlier : List Event) (new : Following) (body before text : List ℕ) (result : Result ⊤ E) (e : Event) → IsEventOf h r e
+    → text ≡ request_text (request_after target (tracking_of h) earlier e) → StandsFor target (tracking_of h) new (e ∷ earlier) → before ≡ [] → OnOk result (body ≡ before ++ text ++ codes "\n")
+    → MakesBody h target r earlier new body result
+unfolding body_after
+made_body h target r earlier new body before text (Ok done) e is same stands none made =
+    (e, is, stands, made ∙ ap (λ b. b ++ text ++ codes "\n") none ∙ ap (λ t. t ++ codes "\n") same)
+made_body h target r earlier new body before text (Err wanting) e is same stands none made = tt
+
+-- ---- where printing is cut off
+
+-- printing a target was cut off at this record
+pub target_cut : (h : Header) (t : ScriptTarget) (at : ℕ) (old new : Following) (a b c : Option (List ℕ)) (r : PageRecord) (cut : Cut) → (was : PrintedSome h t at old a b) → slice_get t.scrapes at ≡ Some r
+    → PrintsNext h t.target r was.events new b c (Err cut) → PrintsTarget h t a c (Err cut)
+target_cut h t at old new a b c r cuts.Write was stands next = printed_front h t at old a b c r next.0 was stands next.1 next.2
+target_cut h t at old new a b c r cuts.Memory was stands next = printed_stop h t at old a b c was next
+
+-- printing a script was cut off at this target
+pub script_cut : (s : Script) (at : ℕ) (a b c : Option (List ℕ)) (t : ScriptTarget) (cut : Cut) → PrintedTargets s at a b → slice_get s.targets at ≡ Some t → PrintsTarget s.header t b c (Err cut)
+    → PrintsScript s a c (Err cut)
+script_cut s at a b c t cuts.Write was stands next = targets_front s at a b c t next.0 was stands next.1 next.2
+script_cut s at a b c t cuts.Memory was stands next = targets_stop s at a b c t next.0 was stands next.1 next.2
+
+-- a place in values that are the same
+pub place_in_same : {A : Type 0} (xs ys : List A) (i : ℕ) (x : A) → xs ≡ ys → i < length xs → x ≡ get_or xs i x → slice_get ys i ≡ Some x
+place_in_same xs ys i x same inside e = sym (ap (λ zs. slice_get zs i) same) ∙ at_place xs i x inside e

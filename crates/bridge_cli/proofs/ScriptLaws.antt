@@ -1,0 +1,60 @@
+-- What an input comes to that holds a script.
+use Rattle.std.proofs.Common.{◌≡◌, ℕ, ◌+◌, ◌<◌, ◌≤◌, List, ◌++◌, length, take, Option, Some, None, refl, sym, ap, subst, ◌∙◌, arith, length-append}
+use Rattle.std.specs.Io.KnownBytes.{Consumes}
+use Rattle.std.proofs.lemmas.List.{length-take}
+use Rattle.replay_script.specs.declared.script.Script.{Script}
+use Rattle.replay_script.specs.declared.fault.ScriptFault.{ScriptFault}
+use Rattle.replay_script.specs.declared.fault.ScriptFault.TheVariants as faults
+use Rattle.replay_script.specs.Scripts.{IsScript}
+use Rattle.replay_script.specs.Progresses.{IsFaultOf}
+use Rattle.replay_script.proofs.Laws.{scripts_are_right}
+use Rattle.bridge_cli.specs.declared.status.Status.TheVariants.{TooLong}
+use Rattle.bridge_cli.specs.Limits.{most_script, most_block}
+use Rattle.bridge_cli.specs.Statuses.{code_of}
+use Rattle.bridge_cli.specs.Stops.{too_long_text, script_stop}
+use Rattle.bridge_cli.specs.Inputs.{TookAtMost, IsOverlong}
+use Rattle.bridge_cli.specs.Answers.{IsScriptAnswer, script_refused, script_too_long}
+use Rattle.bridge_cli.specs.Replays.{IsReplay}
+use Rattle.bridge_cli.specs.ProgramOutputs.{HasAnswer}
+use Rattle.bridge_cli.specs.StopAnswers.{StopsAs}
+use Rattle.bridge_cli.specs.Printed.{HoldsBytes, HoldsScript}
+use Rattle.bridge_cli.proofs.IoLaws.{consumes_twice}
+
+-- a block more is too much
+pub block_too_much : (most : ℕ) (a b c : Option (List ℕ)) (bytes block : List ℕ) (count : ℕ) → Consumes a b bytes → Consumes b c (take count block) → length bytes ≤ most → count ≤ length block
+    → most < length bytes + count → count ≤ most_block → IsOverlong most a c
+block_too_much most a b c bytes block count was more few inside many small = record {
+  bytes = bytes ++ take count block;
+  from = consumes_twice a b c bytes (take count block) was more;
+  many = omega (arith, length-append bytes (take count block), length-take count block, many, inside);
+  soon = omega (arith, length-append bytes (take count block), length-take count block, few, small);
+}
+
+-- a block more was taken
+pub block_more : (most : ℕ) (a b c : Option (List ℕ)) (bytes block : List ℕ) (count : ℕ) → Consumes a b bytes → Consumes b c (take count block) → count ≤ length block → length bytes + count ≤ most → TookAtMost most a c
+block_more most a b c bytes block count was more inside few = record {
+  bytes = bytes ++ take count block;
+  from = consumes_twice a b c bytes (take count block) was more;
+  few = omega (arith, length-append bytes (take count block), length-take count block, few);
+}
+
+-- the answer to an input that is too long
+pub too_long_script : (left after : Option (List ℕ)) → IsOverlong most_script left after → HasAnswer (IsScriptAnswer IsReplay) left (code_of TooLong) too_long_text
+too_long_script None after over = record { bytes = over.bytes; on_input = tt; says = script_too_long over.many }
+too_long_script (Some bytes) None over = absurd over.from
+too_long_script (Some bytes) (Some rest) over =
+    record { bytes = bytes; on_input = refl; says = script_too_long (omega (arith, over.many, ap (length {A = ℕ}) over.from, length-append over.bytes rest)) }
+
+-- the answer to a script with a fault
+pub script_fault : (left : Option (List ℕ)) (bytes read : List ℕ) (fault : ScriptFault) → HoldsBytes most_script left bytes → read ≡ bytes → IsFaultOf read fault → StopsAs (IsScriptAnswer IsReplay) left (script_stop fault)
+script_fault left bytes read (faults.Line line) holds same is =
+    let has = subst (λ bs. IsFaultOf bs (faults.Line line)) same is in
+    record { bytes = bytes; on_input = holds.on_input; says = script_refused line holds.short has }
+script_fault left bytes read faults.Memory holds same is = tt
+
+-- the script that an input holds
+pub holds_script : (left : Option (List ℕ)) (bytes read : List ℕ) (script : Script) → HoldsBytes most_script left bytes → read ≡ bytes → IsScript read script → HoldsScript left script
+holds_script left bytes read script holds same is =
+    let At : List ℕ → Type 0 = λ bs. IsScript bs script in
+    let moved = subst At same is in
+    record { bytes = bytes; on_input = holds.on_input; is = record { short = holds.short; is = moved }; right = scripts_are_right bytes script moved }

@@ -1,0 +1,18 @@
+use Rattle.std.proofs.Common.{◌∙◌, arith}
+use Rattle.bridge_cli.proofs.ReplayLaws.{place_in_same, targets_more, script_cut}
+use Rattle.bridge_cli.proofs.replaying.print_script.Goals as goal
+
+pub loop-at-preserved : goal.loop-at-preserved
+loop-at-preserved g c =
+    let stands = place_in_same _ _ c.loop-at.at c.index-targets-at.result c.loop-at.invariant.1 c.loop-at-test.true c.index-targets-at.is in
+    let next = c.in-Ok.ensures.printed in (
+      omega (arith, c.loop-at-test.true),
+      c.loop-at.invariant.1,
+      targets_more c.args.script.now c.loop-at.at _ _ _ c.index-targets-at.result next.0 c.loop-at.invariant.2 stands next.1 next.2,
+      c.in-Ok.ensures.cause ∙ c.loop-at.invariant.3,
+    )
+
+pub returns-in-Err-clause-printed : goal.returns-in-Err-clause-printed
+returns-in-Err-clause-printed g c =
+    let stands = place_in_same _ _ c.loop-at.at c.index-targets-at.result c.loop-at.invariant.1 c.loop-at-test.true c.index-targets-at.is in
+    script_cut c.args.script.now c.loop-at.at _ _ _ c.index-targets-at.result c.in-Err.cut c.loop-at.invariant.2 stands c.in-Err.ensures.printed

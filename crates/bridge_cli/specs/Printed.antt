@@ -1,0 +1,155 @@
+-- What is to be printed, and what was.
+-- The bridge's own.
+use Rattle.std.specs.Prelude.{◌≡◌, ℕ, ◌<◌, ◌≤◌, ◌++◌, false, ◌∷◌, List, [], length, codes, Option, Result, Ok, Err, slice_get, Some, ⊤}
+use Rattle.std.specs.Cow.{cow_slice_items}
+use Rattle.std.specs.Io.KnownBytes.{Appends}
+use Rattle.page_model.specs.declared.event.Event.{Event}
+use Rattle.bridge_ports.specs.Causes.{Rose}
+use Rattle.bridge_ports.specs.Targets.{Scraped}
+use Rattle.target_core.specs.States.{Following, StandsFor}
+use Rattle.replay_script.specs.declared.header.Header.{Header}
+use Rattle.replay_script.specs.declared.script.PageRecord.{PageRecord}
+use Rattle.replay_script.specs.declared.script.ScriptTarget.{ScriptTarget}
+use Rattle.replay_script.specs.declared.script.Script.{Script}
+use Rattle.replay_script.specs.RightScripts.{IsRightScript}
+use Rattle.bridge_cli.specs.declared.answer.Printed.{Printed}
+use Rattle.bridge_cli.specs.declared.answer.Printed.TheVariants.{Whole, Bodies}
+use Rattle.bridge_cli.specs.declared.replaying.Cut.{Cut}
+use Rattle.bridge_cli.specs.declared.replaying.Cut.TheVariants.{Write, Memory}
+use Rattle.bridge_cli.specs.declared.status.Status.{Status}
+use Rattle.bridge_cli.specs.declared.status.Status.TheVariants.{Done, WriteFailed, WantOfMemory}
+use Rattle.bridge_cli.specs.Statuses.{code_of, IsTold}
+use Rattle.bridge_cli.specs.Replays.{tracking_of, IsEventOf, AreEvents, body_after, bodies_of, IsTextOfSome, IsTextOf, AreTexts, joined_texts, IsReplay, IsReplayOfSome}
+use Rattle.bridge_cli.specs.declared.stop.Stop.{Stop}
+use Rattle.bridge_cli.specs.declared.words.Command.{Command}
+use Rattle.bridge_cli.specs.CommandWords.{AskForNo, prints_pieces}
+use Rattle.bridge_cli.specs.Inputs.{IsInput}
+use Rattle.bridge_cli.specs.StopAnswers.{IsStopAnswer}
+use Rattle.bridge_cli.specs.Answers.{IsScriptInput, Answers, CutAnswers, IsAnswer}
+use Rattle.bridge_cli.specs.ProgramOutputs.{WroteFront, HasAnswer, HasCutAnswer}
+
+-- this is the text that is to be printed
+abbrev pub Gives : Printed → List ℕ → Type 0
+Gives (Whole t) text = text ≡ cow_slice_items t
+Gives (Bodies script) text = IsReplay script text
+
+-- this is a text of which a front may be printed
+abbrev pub GivesPart : Printed → List ℕ → Type 0
+GivesPart (Whole t) text = text ≡ cow_slice_items t
+GivesPart (Bodies script) text = IsReplayOfSome script text
+
+-- nothing is to be printed
+abbrev pub IsNothing : Printed → Type 0
+IsNothing (Whole t) = cow_slice_items t ≡ []
+IsNothing (Bodies script) = ⊥
+
+-- what is printed in pieces is a right script, and the command is done
+abbrev pub IsPrintable : Status → Printed → Type 0
+IsPrintable status (Whole t) = ⊤
+IsPrintable status (Bodies script) = IsRightScript script × (status ≡ Done)
+
+-- what is printed isn't made in pieces
+abbrev pub IsWhole : Printed → Type 0
+IsWhole (Whole t) = ⊤
+IsWhole (Bodies script) = ⊥
+
+-- the status where printing in pieces is cut off
+abbrev pub cut_status : Cut → Status
+cut_status Write = WriteFailed
+cut_status Memory = WantOfMemory
+
+-- the count of writes that failed rose only where that cut off what is printed
+abbrev pub CutCause : ℕ → ℕ → Result ⊤ Cut → Type 0
+CutCause before now (Ok done) = now ≡ before
+CutCause before now (Err Write) = Rose before now
+CutCause before now (Err Memory) = now ≡ before
+
+-- what making the body of the next record came to, behind these events
+abbrev pub MakesBody : {E : Type 0} → Header → Scraped → PageRecord → List Event → Following → List ℕ → Result ⊤ E → Type 0
+MakesBody h target r earlier new body (Ok done) =
+    (e : Event) × IsEventOf h r e × StandsFor target (tracking_of h) new (e ∷ earlier) × (body ≡ body_after h target earlier e)
+MakesBody h target r earlier new body (Err wanting) = ⊤
+
+-- what printing the body of the next record came to, behind these events: it is printed, or a front of it, or nothing
+abbrev pub PrintsNext : Header → Scraped → PageRecord → List Event → Following → Option (List ℕ) → Option (List ℕ) → Result ⊤ Cut → Type 0
+PrintsNext h target r earlier new before after (Ok done) =
+    (e : Event) × IsEventOf h r e × StandsFor target (tracking_of h) new (e ∷ earlier) × Appends before after (body_after h target earlier e)
+PrintsNext h target r earlier new before after (Err Write) = (e : Event) × IsEventOf h r e × WroteFront before after (body_after h target earlier e)
+PrintsNext h target r earlier new before after (Err Memory) = Appends before after []
+
+-- so much of the texts of a target was printed
+pub record PrintedSome (h : Header) (t : ScriptTarget) (at : ℕ) (state : Following) (before after : Option (List ℕ)) : Type 0 where
+  pub events : List Event
+  pub are : AreEvents h t.scrapes events
+  pub count : length events ≡ at
+  pub stands : StandsFor t.target (tracking_of h) state events
+  pub written : Appends before after (bodies_of h t.target events)
+
+-- what printing the bodies of a target came to: all are printed, or a front of those that were made
+abbrev pub PrintsTarget : Header → ScriptTarget → Option (List ℕ) → Option (List ℕ) → Result ⊤ Cut → Type 0
+PrintsTarget h t before after (Ok done) = (text : List ℕ) × IsTextOf h t text × Appends before after text
+PrintsTarget h t before after (Err Write) = (text : List ℕ) × IsTextOfSome h t text × WroteFront before after text
+PrintsTarget h t before after (Err Memory) = (text : List ℕ) × IsTextOfSome h t text × Appends before after text
+
+-- the texts of so many targets were printed
+pub record PrintedTargets (s : Script) (at : ℕ) (before after : Option (List ℕ)) : Type 0 where
+  pub texts : List (List ℕ)
+  pub are : AreTexts s texts
+  pub count : length texts ≡ at
+  pub written : Appends before after (joined_texts texts)
+
+-- how printing ended: the text is printed; a write failed; or memory was wanted for the next piece
+pub data Ended (status : Status) (p : Printed) (before after : Option (List ℕ)) : ℕ → Type 0 where
+  printed : (text : List ℕ) → Gives p text → Appends before after text → Ended status p before after (code_of status)
+  stopped : (text : List ℕ) → GivesPart p text → WroteFront before after text → Ended status p before after (code_of WriteFailed)
+  wanting : (text : List ℕ) → GivesPart p text → Appends before after text → ¬ IsWhole p → Ended status p before after (code_of WantOfMemory)
+
+-- what printing the bodies of a script came to
+abbrev pub PrintsScript : Script → Option (List ℕ) → Option (List ℕ) → Result ⊤ Cut → Type 0
+PrintsScript s before after (Ok done) = (text : List ℕ) × IsReplay s text × Appends before after text
+PrintsScript s before after (Err Write) = (text : List ℕ) × IsReplayOfSome s text × WroteFront before after text
+PrintsScript s before after (Err Memory) = (text : List ℕ) × IsReplayOfSome s text × Appends before after text
+
+-- ---- what a command and words have printed
+
+-- a text is an answer of a command, or of the part that it has printed
+pub data IsPartOf (command : Command) (bytes : List ℕ) : List ℕ → Type 0 where
+  part_of_whole : (status : ℕ) (text : List ℕ) → Answers command bytes status text → IsPartOf command bytes text
+  part_of_some : (text : List ℕ) → CutAnswers command bytes text → IsPartOf command bytes text
+
+-- some bytes that may have been on the input give a text of which a command prints a front
+pub record HasPartOf (command : Command) (left : Option (List ℕ)) (text : List ℕ) : Type 0 where
+  pub bytes : List ℕ
+  pub on_input : IsInput left bytes
+  pub says : IsPartOf command bytes text
+
+-- what a command that is done has to print
+pub record IsPrintedOf (command : Command) (left : Option (List ℕ)) (p : Printed) : Type 0 where
+  pub gives : (text : List ℕ) → Gives p text → HasAnswer (Answers command) left (code_of Done) text
+  pub parts : (text : List ℕ) → GivesPart p text → HasPartOf command left text
+  pub printable : IsPrintable Done p
+  pub whole : prints_pieces command ≡ false → IsWhole p
+
+-- what words that ask for a command that is done have to print
+pub record IsPrintedFor (words : List (List ℕ)) (left : Option (List ℕ)) (status : Status) (p : Printed) : Type 0 where
+  pub gives : IsTold (code_of status) → (text : List ℕ) → Gives p text → HasAnswer (IsAnswer words) left (code_of status) text
+  pub parts : IsTold (code_of status) → (text : List ℕ) → GivesPart p text → HasCutAnswer words left text
+  pub printable : IsPrintable status p
+  pub whole : AskForNo prints_pieces words → IsWhole p
+
+-- the answer to a stop is printed whole
+abbrev pub IsStopPrinted : Stop → Status → Printed → Type 0
+IsStopPrinted stop status (Whole t) = IsStopAnswer stop status (cow_slice_items t)
+IsStopPrinted stop status (Bodies script) = ⊥
+
+-- the bytes on the input are these, and no more than so many
+pub record HoldsBytes (most : ℕ) (left : Option (List ℕ)) (bytes : List ℕ) : Type 0 where
+  pub on_input : IsInput left bytes
+  pub short : length bytes ≤ most
+
+-- the bytes on the input are this script, which is right
+pub record HoldsScript (left : Option (List ℕ)) (script : Script) : Type 0 where
+  pub bytes : List ℕ
+  pub on_input : IsInput left bytes
+  pub is : IsScriptInput script bytes
+  pub right : IsRightScript script

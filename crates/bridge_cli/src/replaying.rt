@@ -1,0 +1,166 @@
+//! The bodies of a script's events, which are printed one after the other as they are made.
+ghost use Rattle.std.specs.Prelude.{◌≡◌, ◌≤◌, [], List as Seq, length, IfOk};
+ghost use Rattle.bridge_ports.specs.Targets.{Scraped};
+ghost use Rattle.page_model.specs.declared.event.Event.{Event as AnyEvent};
+ghost use Rattle.target_core.specs.States.{StandsFor, HasNextMoment};
+ghost use Rattle.replay_script.specs.RightScripts.{IsRightHeader, IsRightScript};
+ghost use Rattle.bridge_cli.specs.Limits.{most_rounds};
+ghost use Rattle.bridge_cli.specs.Replays.{tracking_of};
+ghost use Rattle.bridge_cli.specs.Printed.{cut_status, CutCause, MakesBody, PrintsNext, PrintsTarget, PrintsScript};
+
+use crate::outcomes::outcome;
+use crate::output::write_all;
+use crate::status::Status;
+use bridge_ports::{Failed, Sink};
+use page_model::Event;
+use replay_script::{Header, PageRecord, Script, ScriptTarget};
+use std::alloc::{AllocError, Global};
+use target_core::TargetState;
+
+/// Why printing in pieces was cut off.
+#[derive(Clone, Copy, Debug, PartialEq, Eq)]
+pub(crate) enum Cut {
+    /// A write failed.
+    Write,
+    /// Memory was wanted for the next piece.
+    Memory,
+}
+
+impl Cut {
+    /// The status that the program ends with.
+    pub(crate) fn status(self) -> Status
+        ensures { result ≡ cut_status self }
+    {
+        match self {
+            Cut::Write => Status::WriteFailed,
+            Cut::Memory => Status::WantOfMemory,
+        }
+    }
+}
+
+/// Makes the body of the event of a record, with a line feed, in place of the last one.
+fn make_body(
+    alloc: Global,
+    header: &Header,
+    page: &PageRecord,
+    state: &mut TargetState,
+    body: &mut Vec<u8>,
+) -> Result<(), AllocError>
+    requires right { IsRightHeader header.now }
+    requires next { HasNextMoment state.old.moment }
+    ensures { (target : Scraped) (earlier : Seq AnyEvent) → StandsFor target (tracking_of header.now) state.old earlier
+        → MakesBody header.now target page.now earlier state.new body.new.items result }
+{
+    let outcome = outcome(alloc, header, page)?;
+    let event = Event {
+        reading: page.at,
+        outcome,
+    };
+    let request = state.step(alloc, event)?;
+    body.clear();
+    otlp_json::write_line(&request, body)
+}
+
+/// Prints the body of the event of a record.
+fn print_next<O: Sink>(
+    alloc: Global,
+    header: &Header,
+    page: &PageRecord,
+    state: &mut TargetState,
+    body: &mut Vec<u8>,
+    output: &mut O,
+) -> Result<(), Cut>
+    requires right { IsRightHeader header.now }
+    requires next { HasNextMoment state.old.moment }
+    ensures printed { (target : Scraped) (earlier : Seq AnyEvent) → StandsFor target (tracking_of header.now) state.old earlier
+        → PrintsNext header.now target page.now earlier state.new (O.held output.old) (O.held output.new) result }
+    ensures cause { CutCause (O.write_faults output.old) (O.write_faults output.new) result }
+{
+    match make_body(alloc, header, page, state, body) {
+        Ok(()) => {}
+        Err(AllocError) => return Err(Cut::Memory),
+    }
+    match write_all(output, body.as_slice()) {
+        Ok(()) => Ok(()),
+        Err(Failed) => Err(Cut::Write),
+    }
+}
+
+/// Prints the bodies of a target, over a state that stands for no event.
+fn print_records<O: Sink>(
+    alloc: Global,
+    header: &Header,
+    target: &ScriptTarget,
+    start: TargetState,
+    output: &mut O,
+) -> Result<(), Cut>
+    requires right { IsRightHeader header.now }
+    requires few { length target.now.scrapes ≤ most_rounds }
+    requires fresh { StandsFor target.now.target (tracking_of header.now) start [] }
+    ensures printed { PrintsTarget header.now target.now (O.held output.old) (O.held output.new) result }
+    ensures cause { CutCause (O.write_faults output.old) (O.write_faults output.new) result }
+{
+    let mut state = start;
+    let mut body = Vec::new(alloc);
+    let records = target.scrapes.as_slice();
+    let mut at = 0usize;
+    while at < records.len() {
+        match print_next(alloc, header, &records[at], &mut state, &mut body, output) {
+            Ok(()) => at += 1,
+            Err(cut) => return Err(cut),
+        }
+    }
+    Ok(())
+}
+
+/// Prints the bodies of a target.
+fn print_target<O: Sink>(
+    alloc: Global,
+    header: &Header,
+    target: &ScriptTarget,
+    output: &mut O,
+) -> Result<(), Cut>
+    requires right { IsRightHeader header.now }
+    requires few { length target.now.scrapes ≤ most_rounds }
+    ensures printed { PrintsTarget header.now target.now (O.held output.old) (O.held output.new) result }
+    ensures cause { CutCause (O.write_faults output.old) (O.write_faults output.new) result }
+{
+    match new_state(alloc, header, target) {
+        Ok(state) => print_records(alloc, header, target, state, output),
+        Err(AllocError) => Err(Cut::Memory),
+    }
+}
+
+/// The state of a target that was not scraped.
+fn new_state(
+    alloc: Global,
+    header: &Header,
+    target: &ScriptTarget,
+) -> Result<TargetState, AllocError>
+    requires { IsRightHeader header.now }
+    ensures { IfOk result (λ state. StandsFor target.now.target (tracking_of header.now) state []) }
+{
+    let copied = target.target.copy()?;
+    TargetState::new(alloc, copied, header.keep)
+}
+
+/// Prints the bodies of a script.
+pub(crate) fn print_script<O: Sink>(
+    alloc: Global,
+    script: &Script,
+    output: &mut O,
+) -> Result<(), Cut>
+    requires { IsRightScript script.now }
+    ensures printed { PrintsScript script.now (O.held output.old) (O.held output.new) result }
+    ensures cause { CutCause (O.write_faults output.old) (O.write_faults output.new) result }
+{
+    let targets = script.targets.as_slice();
+    let mut at = 0usize;
+    while at < targets.len() {
+        match print_target(alloc, &script.header, &targets[at], output) {
+            Ok(()) => at += 1,
+            Err(cut) => return Err(cut),
+        }
+    }
+    Ok(())
+}

@@ -1,0 +1,46 @@
+//! The script on an input.
+ghost use Rattle.std.specs.Prelude.{◌≡◌, IfOk, IfErr};
+ghost use Rattle.bridge_cli.specs.Limits.{most_script};
+ghost use Rattle.bridge_cli.specs.Answers.{IsScriptAnswer};
+ghost use Rattle.bridge_cli.specs.PageInputs.{Leaves};
+ghost use Rattle.bridge_cli.specs.Printed.{HoldsBytes, HoldsScript};
+ghost use Rattle.bridge_cli.specs.Replays.{IsReplay};
+ghost use Rattle.bridge_cli.specs.StopAnswers.{StopsAs};
+
+use crate::limits::{BLOCK_BYTES, MOST_SCRIPT_BYTES};
+use crate::stop::Stop;
+use bridge_ports::Source;
+use replay_script::{Script, read};
+use std::alloc::Global;
+
+/// The bytes of a script on an input.
+fn script_bytes<I: Source>(alloc: Global, input: &mut I) -> Result<Vec<u8>, Stop>
+    ensures bytes { IfOk result (λ bytes. HoldsBytes most_script (I.left input.old) bytes.items) }
+    ensures stop { IfErr result (StopsAs (IsScriptAnswer IsReplay) (I.left input.old)) }
+    ensures input { Leaves most_script (I.left input.old) (I.left input.new)
+        (I.read_faults input.old) (I.read_faults input.new) result }
+{
+    let mut bytes = Vec::new(alloc);
+    let mut block = [0u8; BLOCK_BYTES];
+    loop {
+        let count = input.read(&mut block)? as usize;
+        if count == 0 {
+            return Ok(bytes);
+        }
+        if count > MOST_SCRIPT_BYTES - bytes.len() {
+            return Err(Stop::TooLong);
+        }
+        bytes.extend_from_slice(&block[..count])?;
+    }
+}
+
+/// The script on an input.
+pub(crate) fn whole_script<I: Source>(alloc: Global, input: &mut I) -> Result<Script, Stop>
+    ensures script { IfOk result (HoldsScript (I.left input.old)) }
+    ensures stop { IfErr result (StopsAs (IsScriptAnswer IsReplay) (I.left input.old)) }
+    ensures input { Leaves most_script (I.left input.old) (I.left input.new)
+        (I.read_faults input.old) (I.read_faults input.new) result }
+{
+    let bytes = script_bytes(alloc, input)?;
+    Ok(read(alloc, bytes.as_slice())?)
+}
