@@ -8,3 +8,6 @@ mod talk;
 
 pub use bridge_ports::Target;
 pub use one_scrape::{outcome, scrape};
+
+#[cfg(test)]
+mod tests;
