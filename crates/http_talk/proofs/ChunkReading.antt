@@ -1,20 +1,20 @@
 -- Each body in chunks is read to its end.
 use Rattle.std.proofs.Common.{◌≡◌, ℕ, ◌+◌, ◌-◌, ◌*◌, ◌≤◌, ◌<◌, Bool, true, false, List, [], ◌∷◌, ◌++◌, length, Option, Some, None, refl, sym, ap, ◌∙◌, subst, arith, inl, inr, append_assoc, append-nil}
-use Rattle.std.specs.Prelude.{◌≢◌, ◌⊎◌, ◌||◌, ◌&&◌, ◌==◌, not, nat_lt, nat_le, if◌then◌else◌, fold, flat_map, All}
+use Rattle.std.specs.Prelude.{◌⊎◌, ◌&&◌, ◌==◌, if◌then◌else◌, fold, flat_map, All}
 use Rattle.std.specs.List.{list_all}
 use Rattle.std.specs.Char.{is_ascii_hexdigit, digit_value}
-use Rattle.std.specs.Str.Parse.{digits_value, digits_value_after}
+use Rattle.std.specs.Str.Parse.{digits_value_after}
 use Rattle.std.proofs.lemmas.List.{length-append}
 use Rattle.std.proofs.lemmas.List.Concat.{flat_map-cons}
 use Rattle.std.proofs.lemmas.List.Sums.{list_all-from_AllPass}
 use Rattle.std.proofs.lemmas.List.Elements.{All-head, All-tail}
-use Rattle.std.proofs.lemmas.Bool.{le-leb, lt-ltb, eqb-true, eq-eqb}
+use Rattle.std.proofs.lemmas.Bool.{le-leb, lt-ltb}
 use Rattle.std.proofs.lemmas.Bool.Decides.{nat_tests}
-use Rattle.httparse.specs.Grammar.{ChunkLine, IsChunkLine, print_chunk_line, print_extension, IsExtension, chunk_size, is_extension_byte, is_ows, print_end, crlf}
+use Rattle.httparse.specs.Grammar.{ChunkLine, print_chunk_line, print_extension, IsExtension, chunk_size, is_extension_byte, is_ows, print_end, crlf}
 use Rattle.http_talk.specs.declared.chunk_place.ChunkPlace.{ChunkPlace}
-use Rattle.http_talk.specs.declared.chunk_place.ChunkPlace.TheVariants.{Digits, Blanks, Extension, SizeEnd, Bytes, BytesEnd, BytesFeed, Trailer, TrailerEnd, Whole, Wrong}
-use Rattle.http_talk.specs.Chunks.{Chunks, no_chunks, with_byte, place_after, behind_size, fits_line, fits_trailers, held_after}
-use Rattle.http_talk.specs.ChunkGrammar.{Chunk, ChunkedBody, IsShortLine, IsChunk, IsTrailer, IsChunkedBody, print_chunk, print_trailer, print_body, held_by, chunks_of, BodiesAreRead}
+use Rattle.http_talk.specs.declared.chunk_place.ChunkPlace.TheVariants.{Digits, Blanks, Extension, SizeEnd, Bytes, BytesEnd, Trailer, Whole}
+use Rattle.http_talk.specs.Chunks.{Chunks, no_chunks, with_byte, place_after, behind_size, held_after}
+use Rattle.http_talk.specs.ChunkGrammar.{Chunk, IsShortLine, IsChunk, IsTrailer, print_chunk, print_trailer, print_body, held_by, BodiesAreRead}
 
 abbrev at : ChunkPlace → List ℕ → ℕ → Chunks
 at place held got = record { place = place; held = held; got = got }

@@ -1,6 +1,6 @@
 -- Steps over the bytes of a body in chunks.
 use Rattle.std.proofs.Common.{◌≡◌, ℕ, ◌+◌, ◌-◌, ◌*◌, ◌^◌, ◌≤◌, ◌<◌, Bool, true, false, List, [], ◌∷◌, ◌++◌, length, take, drop, refl, sym, ap, ◌∙◌, arith, append_assoc, append-nil, subst}
-use Rattle.std.specs.Prelude.{◌≢◌, ◌||◌, zero, suc, nat_lt, if◌then◌else◌}
+use Rattle.std.specs.Prelude.{◌||◌, zero, suc, nat_lt, if◌then◌else◌}
 use Rattle.std.proofs.Math.Nat.{pow-le-pow_right}
 use Rattle.std.proofs.lemmas.Grind.{pow_more}
 use Rattle.std.proofs.lemmas.Bool.{lt-ltb, le-ltb, ltb-true, ltb-false}
@@ -8,8 +8,8 @@ use Rattle.std.proofs.lemmas.List.{length-append, length-drop, length-take, take
 use Rattle.std.proofs.lemmas.Grind.{common_steps}
 use Rattle.http_talk.proofs.GoesOn.{with_bytes-append}
 use Rattle.http_talk.specs.declared.chunk_place.ChunkPlace.{ChunkPlace}
-use Rattle.http_talk.specs.declared.chunk_place.ChunkPlace.TheVariants.{Digits, Blanks, Extension, SizeEnd, Bytes, BytesEnd, BytesFeed, Trailer, TrailerEnd, Whole, Wrong}
-use Rattle.http_talk.specs.Chunks.{Chunks, place_after, held_after, with_byte, with_bytes, is_certain, is_body_end, is_wrong}
+use Rattle.http_talk.specs.declared.chunk_place.ChunkPlace.TheVariants.{Bytes, BytesEnd}
+use Rattle.http_talk.specs.Chunks.{Chunks, place_after, with_bytes, is_certain, is_body_end, is_wrong}
 use Rattle.http_talk.specs.ChunkFeeding.{IsChunkPlace, behind_bytes}
 
 -- one more digit fits
@@ -56,20 +56,6 @@ run (b ∷ piece) (suc (suc count)) most left got held some few in_piece fits sh
     rw (uncertain most left got held (omega (arith, fits)) (omega (arith, short)), lt-ltb 1 left many)
     (rest ∙ same_chunks _ _ _ _ _ _ (behind_step left (suc count) many) (append_assoc held (b ∷ []) (take (suc count) piece)) taken)
 
--- a byte that is none of a chunk's changes what the chunks hold by nothing
-pub held_so : (p : ChunkPlace) (held : List ℕ) (b : ℕ) → ((left : ℕ) → p ≢ Bytes left) → held_after p held b ≡ held
-held_so (Digits count size) held b other = refl
-held_so (Blanks line size) held b other = refl
-held_so (Extension line size) held b other = refl
-held_so (SizeEnd size) held b other = refl
-held_so (Bytes left) held b other = absurd (other left refl)
-held_so BytesEnd held b other = refl
-held_so BytesFeed held b other = refl
-held_so (Trailer before line) held b other = refl
-held_so (TrailerEnd before line) held b other = refl
-held_so Whole held b other = refl
-held_so Wrong held b other = refl
-
 -- the bytes from a place on, once some of them were taken
 pub bytes_on : (most : ℕ) (c d : Chunks) (piece : List ℕ) (at count : ℕ) → at ≤ length piece → d ≡ with_bytes most c (take count (take (length piece - at) (drop at piece)))
     → with_bytes most d (drop (at + count) piece) ≡ with_bytes most c (drop at piece)
@@ -83,10 +69,6 @@ bytes_on most c d piece at count within is =
   where
     drop_drop : (piece : List ℕ) (at count : ℕ) → drop (at + count) piece ≡ drop count (drop at piece)
     drop_drop piece at count = grind (arith, common_steps)
-
--- one byte where nothing is certain
-pub one_byte : (most : ℕ) (c : Chunks) (b : ℕ) → is_certain most c ≡ false → with_bytes most c (b ∷ []) ≡ with_byte c b
-one_byte most c b going = rw going refl
 
 -- where nothing is certain, there is room for a byte more
 pub going_bounds : (most : ℕ) (place : ChunkPlace) (held : List ℕ) (got : ℕ) (c : Chunks) → record { place = place; held = held; got = got } ≡ c → is_certain most c ≡ false

@@ -1,6 +1,6 @@
 -- What the fields of a head say of its body, and the first cause for which it is refused.
-use Rattle.std.proofs.Common.{◌≡◌, ℕ, ◌+◌, ◌-◌, ◌≤◌, ◌<◌, Bool, true, false, not, List, [], ◌∷◌, ◌++◌, length, take, get_or, refl, sym, ap, ◌∙◌, subst, arith, Option, Some, None}
-use Rattle.std.specs.Prelude.{◌≢◌, ◌&&◌, ◌||◌, ◌==◌, map, filter, fold, codes, is_none, Result, Ok, Err, if◌then◌else◌}
+use Rattle.std.proofs.Common.{◌≡◌, ℕ, ◌≤◌, Bool, true, false, not, List, [], ◌∷◌, length, refl, sym, ◌∙◌, subst, arith, Some, None}
+use Rattle.std.specs.Prelude.{◌≢◌, ◌&&◌, ◌||◌, ◌==◌, map, filter, fold, codes, Err, if◌then◌else◌}
 use Rattle.std.specs.List.{list_all}
 use Rattle.std.specs.Str.Parse.{digits_value}
 use Rattle.std.proofs.lemmas.Bool.{le-ltb, eq-eqb, ne_eqb}
@@ -17,7 +17,7 @@ use Rattle.http_talk.specs.declared.head_facts.Media.{Media}
 use Rattle.http_talk.specs.declared.head_facts.Media.TheVariants as medias
 use Rattle.http_talk.specs.declared.head_facts.Lengths.{Lengths}
 use Rattle.http_talk.specs.declared.head_facts.Lengths.TheVariants as lengths
-use Rattle.http_talk.specs.Heads.{is_word, is_length, media_type, format_named, format_by, format_of, values_of, has_content_coding, has_transfer_coding, has_other_coding, is_only_chunked, are_equal_numbers, are_bad_lengths, framing_by, framing_of, is_long, head_cause}
+use Rattle.http_talk.specs.Heads.{is_word, is_length, media_type, format_named, format_of, values_of, has_other_coding, framing_of, is_long, head_cause}
 use Rattle.http_talk.specs.HeadFacts.{no_facts, with_coding, with_transfer, media_by, with_media, with_number, with_length, with_field, facts_by, IsTransfer, IsMedia, AreLengths, AreFactsOf, IsFramed, IsHeadFault, has_bad_lengths}
 
 -- ---- fields of one name, by their values
@@ -66,9 +66,6 @@ coding_is coded (v ∷ values) = coding_is (with_coding coded v) values ∙ or_n
 other_stays : (values : List (List ℕ)) → fold with_transfer transfers.Other values ≡ transfers.Other
 other_stays [] = refl
 other_stays (v ∷ values) = other_stays values
-
-chunked_once : (v : List ℕ) (values : List (List ℕ)) → fold with_transfer transfers.Chunked (v ∷ values) ≡ transfers.Other
-chunked_once v values = other_stays values
 
 transfer_is : (values : List (List ℕ)) → IsTransfer (fold with_transfer transfers.Absent values) values
 transfer_is [] = refl

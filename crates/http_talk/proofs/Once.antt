@@ -1,9 +1,8 @@
 -- One head, one thing known, one verdict, one outcome.
-use Rattle.std.proofs.Common.{◌≡◌, ℕ, ◌+◌, ◌-◌, ◌≤◌, ◌<◌, Bool, true, false, List, [], ◌∷◌, ◌++◌, length, take, drop, Option, Some, None, refl, sym, ap, ◌∙◌, subst, arith, inl, inr}
-use Rattle.std.proofs.lemmas.Grind.{common_steps}
-use Rattle.std.specs.Prelude.{◌⊎◌, ◌≢◌, zero, suc}
+use Rattle.std.proofs.Common.{◌≡◌, ℕ, ◌-◌, ◌≤◌, List, [], ◌∷◌, ◌++◌, length, take, refl, sym, ap, ◌∙◌, subst, arith, inl, inr}
+use Rattle.std.specs.Prelude.{◌⊎◌, zero, suc}
 use Rattle.httparse.specs.Grammar.{ResponseHead, ReadsResponse, print_response, NeverHasResponse}
-use Rattle.httparse.proofs.GrammarLemmas.{response_unique, ReadsResponse-append}
+use Rattle.httparse.proofs.GrammarLemmas.{response_unique}
 use Rattle.bridge_ports.specs.declared.talk.Talk.{Talk}
 use Rattle.bridge_ports.specs.declared.talk.End.{End}
 use Rattle.bridge_ports.specs.declared.talk.End.TheVariants as ends

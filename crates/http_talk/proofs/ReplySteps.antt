@@ -1,10 +1,9 @@
 -- Steps of a reader of a reply.
-use Rattle.std.proofs.Common.{◌≡◌, ℕ, ◌+◌, ◌-◌, ◌*◌, ◌≤◌, ◌<◌, Bool, true, false, List, [], ◌∷◌, ◌++◌, length, take, drop, refl, sym, ap, ◌∙◌, subst, arith, append_assoc, append-nil, Option, Some, None, inl, inr}
-use Rattle.std.specs.Prelude.{◌≢◌, ◌⊎◌, ◌||◌, ◌==◌, codes, min, nat_lt, nat_le, if◌then◌else◌, Result, Ok, Err}
+use Rattle.std.proofs.Common.{◌≡◌, ℕ, ◌+◌, ◌-◌, ◌*◌, ◌≤◌, ◌<◌, Bool, true, false, List, [], ◌∷◌, ◌++◌, length, take, drop, refl, sym, ap, ◌∙◌, subst, arith, append_assoc, append-nil, Option, Some, None}
+use Rattle.std.specs.Prelude.{◌≢◌, ◌||◌, ◌==◌, codes, min, if◌then◌else◌, Result, Ok, Err}
 use Rattle.std.proofs.lemmas.Bool.{le-leb, lt-leb, lt-ltb, le-ltb, eqb-true, eqb-false}
 use Rattle.std.proofs.lemmas.List.{length-append, length-take, length-drop, take-append-drop, take_all}
-use Rattle.httparse.specs.Grammar.{ResponseHead, ReadsResponse, print_response, lf}
-use Rattle.httparse.specs.Spans.{AreFieldsAt, name_and_value, header_bytes}
+use Rattle.httparse.specs.Grammar.{ResponseHead, print_response, lf}
 use Rattle.httparse.specs.declared.spans.HeaderSpan.{HeaderSpan}
 use Rattle.httparse.specs.declared.spans.ResponseSpans.{ResponseSpans}
 use Rattle.httparse.proofs.GrammarLemmas.{ReadsResponse-append}
@@ -27,8 +26,8 @@ use Rattle.http_talk.specs.Chunks.{Chunks, no_chunks, with_bytes, is_certain, is
 use Rattle.http_talk.specs.ChunkFeeding.{part_behind, IsChunkAnswer}
 use Rattle.http_talk.specs.HeadFacts.{IsHeadFault, IsStart, first_part, IsFirstPart}
 use Rattle.http_talk.specs.HeadFeeding.{IsHeadAt, IsBadHead}
-use Rattle.http_talk.specs.Replies.{Judged, waits, goes_on, decided, refused, whole, judged, body_judged, or_waits, chunks_verdict, IsJudged, Verdict, HasVerdict}
-use Rattle.http_talk.specs.ReplyReading.{Reader, HasBody, HasKept, Stands, IsSoundPart, IsRefusal, IsTaken, FeedAnswer, TakesBytes, BeginsBody}
+use Rattle.http_talk.specs.Replies.{waits, goes_on, decided, refused, whole, judged, body_judged, or_waits, chunks_verdict, IsJudged, Verdict, HasVerdict}
+use Rattle.http_talk.specs.ReplyReading.{Reader, HasBody, HasKept, Stands, IsSoundPart, IsRefusal, FeedAnswer, TakesBytes, BeginsBody}
 use Rattle.http_talk.proofs.HeadFronts.{kept_front}
 use Rattle.http_talk.proofs.GoesOn.{head_goes_on, verdict_stays, with_bytes-append}
 use Rattle.http_talk.proofs.HeadTrees.{under_way}
@@ -446,6 +445,3 @@ ends_open r fed is s =
     let within : length k.0.rest ≤ r.most = omega (arith, k.2, ap (length {A = ℕ}) k.1) in
     let on : body_judged r.most (length (print_response k.0.head)) to_the_end r.format k.0.rest ≡ goes_on r.format r.kept = rw (le-ltb r.most (length k.0.rest) within) (ap (λ xs. goes_on r.format xs) (sym k.1)) in
     subst (IsJudged r.most fed) on (body_known r.most fed r.format to_the_end k.0)
-
-pub ends_whole : (r : Reader) (fed : List ℕ) → r.part ≡ parts.Whole → Stands fed r → HasVerdict r.most fed (whole r.format r.kept)
-ends_whole r fed is s = subst (λ p. HasKept p r.most fed r.format r.kept r.got) is s.keeps

@@ -1,19 +1,18 @@
 -- A reply without a verdict is short.
-use Rattle.std.proofs.Common.{◌≡◌, ℕ, ◌+◌, ◌-◌, ◌*◌, ◌≤◌, ◌<◌, Bool, true, false, List, [], ◌∷◌, ◌++◌, length, take, Option, Some, None, refl, sym, ap, ◌∙◌, subst, arith}
+use Rattle.std.proofs.Common.{◌≡◌, ℕ, ◌+◌, ◌*◌, ◌≤◌, ◌<◌, Bool, true, false, List, [], ◌∷◌, length, take, Option, Some, None, refl, sym, ap, subst, arith}
 use Rattle.std.specs.Prelude.{◌||◌, ◌&&◌, ◌==◌, not, is_none, codes, nat_lt, nat_le, if◌then◌else◌}
-use Rattle.std.proofs.lemmas.Bool.{leb-false, ltb-false, leb-true, ltb-true}
+use Rattle.std.proofs.lemmas.Bool.{leb-false, ltb-false}
 use Rattle.std.proofs.lemmas.List.{length-append}
 use Rattle.httparse.specs.Grammar.{ResponseHead, print_response, status_code}
 use Rattle.label_sets.specs.Lists.{first_some, when_true}
 use Rattle.page_model.specs.declared.format.Format.{Format}
 use Rattle.page_model.specs.declared.event.Cause.{Cause}
 use Rattle.page_model.specs.declared.event.Cause.TheVariants as causes
-use Rattle.http_talk.specs.declared.seen.HeadSeen.{HeadSeen}
 use Rattle.http_talk.specs.declared.seen.HeadSeen.TheVariants as seen
 use Rattle.http_talk.specs.Heads.{HeadRead, unfinished, missing, found, HeadIs, head_cause, format_of, framing_of, Framing, in_chunks, to_the_end, of_length, is_long, has_other_coding, has_transfer_coding, are_bad_lengths, values_of, head_seen, Shows}
 use Rattle.http_talk.specs.Chunks.{Chunks, with_bytes, with_byte, no_chunks}
 use Rattle.http_talk.specs.Chunks as chunks
-use Rattle.http_talk.specs.Replies.{Judged, waits, goes_on, decided, refused, whole, judged, head_judged, body_judged, sized_body, open_body, or_waits, chunks_verdict, IsJudged, Verdict, is_decided}
+use Rattle.http_talk.specs.Replies.{Judged, waits, goes_on, decided, refused, whole, judged, head_judged, body_judged, or_waits, chunks_verdict, IsJudged, Verdict, is_decided}
 
 middle_false : (a b w : Bool) → (a || b || w) ≡ false → b ≡ false
 middle_false true b w e = absurd (cc e)

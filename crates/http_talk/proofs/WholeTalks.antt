@@ -1,5 +1,5 @@
 -- Whole talks: their outcomes, and where they were left.
-use Rattle.std.proofs.Common.{◌≡◌, ℕ, Bool, true, false, List, [], ◌∷◌, Option, Some, None, refl, sym, ap, ◌∙◌, subst}
+use Rattle.std.proofs.Common.{◌≡◌, ℕ, true, false, List, Some, None, refl, ap}
 use Rattle.std.specs.Prelude.{◌↔◌}
 use Rattle.bridge_ports.specs.declared.talk.Talk.{Talk}
 use Rattle.bridge_ports.specs.declared.talk.End.{End}
@@ -8,8 +8,6 @@ use Rattle.page_model.specs.declared.format.Format.{Format}
 use Rattle.page_model.specs.declared.event.Cause.TheVariants as causes
 use Rattle.page_model.specs.declared.event.Outcome.{Outcome}
 use Rattle.page_model.specs.declared.event.Outcome.TheVariants as outcomes
-use Rattle.page_model.specs.Faults.{Fault}
-use Rattle.page_model.specs.Written.{Setting}
 use Rattle.page_model.specs.PageReading.{text_fault, text_page}
 use Rattle.page_model.proofs.Laws.{first_fault_read, page_is_read}
 use Rattle.http_talk.specs.Replies.{Judged, waits, goes_on, decided, refused, whole, IsJudged, Verdict, HasVerdict, HasOutcome, IsOutcomeOf, IsOutcomeBy, IsVerdictOutcome, IsEndOutcome, IsPageOutcome, scraped_setting, IsWholeTalk, is_decided}

@@ -1,5 +1,5 @@
 -- Words and numbers in values of fields.
-use Rattle.std.proofs.Common.{◌≡◌, ℕ, ◌+◌, ◌-◌, ◌*◌, ◌^◌, ◌≤◌, ◌<◌, Bool, true, false, List, [], ◌∷◌, ◌++◌, length, take, drop, get_or, refl, sym, ap, ◌∙◌, subst, arith, reverse}
+use Rattle.std.proofs.Common.{◌≡◌, ℕ, ◌+◌, ◌*◌, ◌^◌, ◌≤◌, ◌<◌, Bool, true, false, List, length, take, get_or, refl, sym, ◌∙◌, arith}
 use Rattle.std.specs.Prelude.{◌↔◌, IsTrue, map}
 use Rattle.std.specs.List.{list_all}
 use Rattle.std.specs.Char.{to_ascii_lowercase, is_ascii_digit, digit_value}
@@ -9,7 +9,7 @@ use Rattle.std.proofs.Math.Nat.{pow-le-pow_right}
 use Rattle.std.proofs.lemmas.Grind.{pow_more}
 use Rattle.std.proofs.lemmas.Bool.{and_from}
 use Rattle.std.proofs.lemmas.Slice.Eq.{bytes_eq-Decides}
-use Rattle.std.proofs.lemmas.List.Folds.{list_all_more, list_all_at}
+use Rattle.std.proofs.lemmas.List.Folds.{list_all_more}
 use Rattle.std.proofs.lemmas.Int.Digits.{digits_value_more}
 
 -- `eq_ignore_ascii_case` with a word in small letters
@@ -46,6 +46,3 @@ number_more digits at number digit within value is = rw (value, is) (sym (digits
 
 pub digits_more : (digits : List ℕ) (at : ℕ) → at < length digits → list_all is_ascii_digit (take at digits) ≡ true → is_ascii_digit (get_or digits at 0) ≡ true → list_all is_ascii_digit (take (at + 1) digits) ≡ true
 digits_more digits at within before here = list_all_more is_ascii_digit digits at 0 within ∙ and_from (list_all is_ascii_digit (take at digits)) (is_ascii_digit (get_or digits at 0)) before here
-
-pub no_digit : (digits : List ℕ) (at : ℕ) → at < length digits → is_ascii_digit (get_or digits at 0) ≡ false → list_all is_ascii_digit digits ≡ false
-no_digit digits at within other = list_all_at is_ascii_digit digits at 0 within other

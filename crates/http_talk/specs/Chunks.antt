@@ -1,6 +1,6 @@
 -- Bodies in chunks: which byte may stand where, and what the chunks hold.
 -- RFC 9112, section 7.1 (chunked transfer coding). The limits, 8 digits, 1,024 bytes of a chunk line and 16,384 bytes of trailer lines, are the bridge's own.
-use Rattle.std.specs.Prelude.{ℕ, ◌+◌, ◌-◌, ◌*◌, ◌^◌, Bool, true, false, not, ◌&&◌, ◌||◌, ◌==◌, List, [], ◌∷◌, ◌++◌, length, nat_lt, nat_le, if◌then◌else◌}
+use Rattle.std.specs.Prelude.{ℕ, ◌+◌, ◌-◌, ◌*◌, Bool, true, false, not, ◌&&◌, ◌||◌, ◌==◌, List, [], ◌∷◌, ◌++◌, length, nat_lt, nat_le, if◌then◌else◌}
 use Rattle.std.specs.Char.{is_ascii_hexdigit, digit_value}
 use Rattle.httparse.specs.Grammar.{is_ows}
 use Rattle.http_talk.specs.declared.chunk_place.ChunkPlace.{ChunkPlace}

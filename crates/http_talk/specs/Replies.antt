@@ -1,13 +1,12 @@
 -- What a scraped reply comes to, by its bytes and by the end of the talk.
 -- RFC 9112, section 6 (message body) and section 8 (incomplete messages); the order of causes is the bridge's own.
-use Rattle.std.specs.Prelude.{◌≡◌, ◌↔◌, ℕ, ◌*◌, ◌+◌, Bool, true, false, not, ◌&&◌, List, [], ◌∷◌, ◌++◌, length, take, Option, Some, None, nat_lt, nat_le, if◌then◌else◌, ⊤}
+use Rattle.std.specs.Prelude.{◌≡◌, ◌↔◌, ℕ, Bool, true, false, List, [], ◌∷◌, ◌++◌, length, take, Option, Some, None, nat_lt, nat_le, if◌then◌else◌, ⊤}
 use Rattle.httparse.specs.Grammar.{ResponseHead, print_response}
 use Rattle.label_sets.specs.Lists.{first_some, when_true}
 use Rattle.bridge_ports.specs.declared.talk.End.{End}
 use Rattle.bridge_ports.specs.declared.talk.End.TheVariants as ends
 use Rattle.bridge_ports.specs.declared.talk.Talk.{Talk}
 use Rattle.page_model.specs.declared.format.Format.{Format}
-use Rattle.page_model.specs.declared.format.Format.TheVariants.{Text}
 use Rattle.page_model.specs.declared.format.Treatment.TheVariants.{Scraped}
 use Rattle.page_model.specs.declared.event.Cause.{Cause}
 use Rattle.page_model.specs.declared.event.Cause.TheVariants as causes

@@ -1,6 +1,6 @@
 -- Readers of a reply, and which bytes they were fed.
 -- RFC 9112, sections 4 to 8; the limits are the bridge's own.
-use Rattle.std.specs.Prelude.{◌≡◌, ◌≢◌, ◌⊎◌, ℕ, ◌+◌, ◌-◌, ◌<◌, ◌≤◌, false, List, [], ◌∷◌, ◌++◌, length, take, drop, slice_range, Option, Some, None, Result, Ok, Err, ⊤}
+use Rattle.std.specs.Prelude.{◌≡◌, ◌⊎◌, ℕ, ◌<◌, ◌≤◌, false, List, ◌++◌, length, Option, Some, None, Result, Ok, Err, ⊤}
 use Rattle.httparse.specs.Grammar.{ResponseHead, print_response}
 use Rattle.page_model.specs.declared.format.Format.{Format}
 use Rattle.http_talk.specs.declared.part.Part.{Part}
@@ -18,7 +18,7 @@ use Rattle.http_talk.specs.ChunkFeeding.{IsChunkPlace}
 use Rattle.http_talk.specs.Heads.{head_limit, unfinished, found, HeadIs, head_cause, format_of, framing_of, Framing, in_chunks, to_the_end, of_length}
 use Rattle.http_talk.specs.Chunks.{Chunks, no_chunks, with_bytes}
 use Rattle.http_talk.specs.Chunks as chunks
-use Rattle.http_talk.specs.Replies.{Judged, waits, goes_on, decided, refused, whole, IsJudged, HasVerdict, is_decided, cause_of}
+use Rattle.http_talk.specs.Replies.{Judged, waits, goes_on, decided, refused, whole, IsJudged, HasVerdict, cause_of}
 
 -- a reader: how many bytes a body may have, what it is reading, the format of the body, what it keeps of the head or of the body, how many bytes came in all, and what stopped it
 pub record Reader : Type 0 where

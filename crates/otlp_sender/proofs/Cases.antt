@@ -1,21 +1,18 @@
 -- Tries of a text, by computation.
-use Rattle.std.proofs.Common.{◌≡◌, ℕ, ◌+◌, ◌≤◌, ◌<◌, Bool, true, false, List, [], ◌∷◌, ◌++◌, length, map, Option, Some, None, codes, refl, arith, inl, inr, subst, sym, ap, ◌∙◌}
-use Rattle.std.specs.Prelude.{◌≢◌, ◌↔◌, ◌⊎◌}
-use Rattle.httparse.specs.Grammar.{crlf, lf, ResponseHead, print_response}
+use Rattle.std.proofs.Common.{◌≡◌, ℕ, List, [], ◌∷◌, ◌++◌, map, codes, refl, arith, inl, inr, subst, sym, ap, ◌∙◌}
+use Rattle.std.specs.Prelude.{◌≢◌, ◌↔◌}
 use Rattle.httparse.proofs.OnLiterals.{httparse_on_literals}
 use Rattle.bridge_ports.specs.declared.talk.End.{End}
 use Rattle.bridge_ports.specs.declared.talk.End.TheVariants as ends
 use Rattle.bridge_ports.specs.declared.talk.Talk.{Talk}
-use Rattle.http_talk.specs.declared.seen.HeadSeen.{HeadSeen}
 use Rattle.http_talk.specs.declared.seen.HeadSeen.TheVariants as seen
-use Rattle.http_talk.specs.Heads.{Shows, found, head_seen}
-use Rattle.http_talk.proofs.Laws.{is_head, shows_head, shows_more, bare_head}
+use Rattle.http_talk.specs.Heads.{Shows}
+use Rattle.http_talk.proofs.Laws.{shows_head, shows_more, bare_head}
 use Rattle.otlp_sender.proofs.TryLaws.{try_once}
 use Rattle.otlp_sender.specs.declared.posted.Try.{Try}
 use Rattle.otlp_sender.specs.declared.posted.Try.TheVariants as tries
-use Rattle.otlp_sender.specs.declared.posted.Posted.{Posted}
 use Rattle.otlp_sender.specs.declared.posted.Posted.TheVariants as posted
-use Rattle.otlp_sender.specs.Posting.{IsRightTry, HasPostVerdict, IsOpenTry, AreOpenTries, IsPostRun, posted_of, is_open, try_seen, PostsInOrder, ArePosted}
+use Rattle.otlp_sender.specs.Posting.{IsRightTry, HasPostVerdict, IsOpenTry, IsPostRun, posted_of, is_open, PostsInOrder}
 
 -- ---- what tries come to
 

@@ -1,5 +1,5 @@
 -- Laws on tries.
-use Rattle.std.proofs.Common.{◌≡◌, ℕ, ◌+◌, ◌≤◌, List, [], ◌∷◌, ◌++◌, length, refl, sym, ap, ◌∙◌, arith}
+use Rattle.std.proofs.Common.{◌≡◌, ℕ, ◌≤◌, List, [], ◌∷◌, length, refl, sym, ap, ◌∙◌, arith}
 use Rattle.std.proofs.lemmas.List.{length-append}
 use Rattle.bridge_ports.specs.declared.talk.End.{End}
 use Rattle.bridge_ports.specs.declared.talk.End.TheVariants as ends
@@ -7,7 +7,7 @@ use Rattle.bridge_ports.specs.declared.talk.Talk.{Talk}
 use Rattle.http_talk.proofs.Laws.{shows_once}
 use Rattle.otlp_sender.specs.declared.posted.Try.{Try}
 use Rattle.otlp_sender.specs.declared.posted.Try.TheVariants as tries
-use Rattle.otlp_sender.specs.Posting.{IsRightTry, HasPostVerdict, IsTryBy, IsPostRun, try_seen, ArePosted}
+use Rattle.otlp_sender.specs.Posting.{IsRightTry, HasPostVerdict, IsTryBy, try_seen, ArePosted}
 
 try_by_once : (end : End) (got : List ℕ) (a b : Try) → IsTryBy end got a → IsTryBy end got b → a ≡ b
 try_by_once ends.ConnectFailed got a b x y = x ∙ sym y

@@ -1,13 +1,13 @@
 -- What the steps of a try do to a wire.
-use Rattle.std.proofs.Common.{◌≡◌, ℕ, ◌+◌, ◌-◌, ◌≤◌, ◌<◌, Bool, true, false, List, [], ◌∷◌, ◌++◌, length, take, drop, Option, Some, None, refl, sym, ap, ◌∙◌, subst, arith, inl, inr, append_assoc, append-nil}
-use Rattle.std.specs.Prelude.{◌≢◌, ◌↔◌, ◌⊎◌, option_map, min, ◌^◌}
+use Rattle.std.proofs.Common.{◌≡◌, ℕ, ◌+◌, ◌-◌, ◌≤◌, ◌<◌, true, false, List, [], ◌∷◌, ◌++◌, length, take, drop, Option, Some, None, refl, sym, ap, ◌∙◌, subst, arith, inl, inr, append_assoc, append-nil}
+use Rattle.std.specs.Prelude.{◌≢◌, ◌↔◌, ◌⊎◌, option_map}
 use Rattle.std.proofs.lemmas.List.{length-append, length-take, length-drop, take-append-drop, take_all}
 use Rattle.bridge_ports.specs.declared.talk.End.{End}
 use Rattle.bridge_ports.specs.declared.talk.End.TheVariants as ends
 use Rattle.bridge_ports.specs.declared.talk.Talk.{Talk}
 use Rattle.bridge_ports.specs.declared.talk.Stage.TheVariants as stages
 use Rattle.bridge_ports.specs.Causes.{Rose}
-use Rattle.bridge_ports.specs.Talks.{WireState, Told, Tells, AllowsTalks, begun_at, sent_on, got_on, failed_at, after_read, ended_by, left_at, telling_from, telling_sent, telling_got, telling_end}
+use Rattle.bridge_ports.specs.Talks.{WireState, Told, Tells, begun_at, sent_on, got_on, failed_at, after_read, ended_by, left_at, telling_from, telling_sent, telling_got, telling_end}
 use Rattle.http_talk.specs.declared.seen.HeadSeen.{HeadSeen}
 use Rattle.http_talk.specs.declared.seen.HeadSeen.TheVariants as seen
 use Rattle.http_talk.specs.Heads.{Shows}
@@ -19,7 +19,7 @@ use Rattle.std.proofs.lemmas.List.{take-append-le}
 use borrow.Rule.Slice.PartMut.{put_mid}
 use Rattle.otlp_sender.specs.declared.posted.Try.{Try}
 use Rattle.otlp_sender.specs.declared.posted.Try.TheVariants as tries
-use Rattle.otlp_sender.specs.Posting.{IsRightTry, IsTryBy, IsWireTry, try_seen, AreOpenTries, IsOpenTry, is_open, IsPostRun, GrewByRun, IsPosting, posted_of}
+use Rattle.otlp_sender.specs.Posting.{IsRightTry, IsTryBy, IsWireTry, try_seen, IsOpenTry, is_open, GrewByRun, IsPosting, posted_of}
 use Rattle.otlp_sender.specs.declared.posted.Posted.{Posted}
 use Rattle.otlp_sender.specs.Sending.{BrokeOff, IsHeadTalk, IsExchange, GrewByTry, IsOneTry, GrewByOpenTries, IsUnderWay}
 
@@ -208,13 +208,6 @@ try_unconnected text at old mid new some is failed after rose =
     }
 
 -- ---- the tries of a text
-
-none_made : (t : Option Told) (text : List ℕ) → Tells (GrewByOpenTries text 0) t t
-none_made None text = tt
-none_made (Some t) text = ([], refl, tt, refl)
-
-pub nothing_posted : (text : List ℕ) (w : WireState) → w.stage ≡ stages.Idle → IsUnderWay text 0 w w
-nothing_posted text w free = record { free = free; place = refl; plan = refl; room = refl; later = omega arith; counted = omega arith; told = none_made w.told text }
 
 open_try : (text : List ℕ) (talk : Talk) (t : Try) → IsRightTry text talk → IsTryBy talk.end talk.got t → is_open t ≡ true → IsOpenTry text talk
 open_try text talk t right verdict due = record { right = right; verdict = t; verdict_is = verdict; open_verdict = due }

@@ -1,6 +1,6 @@
 -- The steps of one try of a post over a wire.
 -- The bridge's own.
-use Rattle.std.specs.Prelude.{◌≡◌, ◌≢◌, ◌↔◌, ℕ, ◌+◌, ◌≤◌, ◌<◌, true, List, [], ◌∷◌, ◌++◌, length}
+use Rattle.std.specs.Prelude.{◌≡◌, ◌≢◌, ◌↔◌, ℕ, ◌+◌, ◌≤◌, List, ◌∷◌, ◌++◌, length}
 use Rattle.bridge_ports.specs.declared.talk.End.{End}
 use Rattle.bridge_ports.specs.declared.talk.End.TheVariants as ends
 use Rattle.bridge_ports.specs.declared.talk.Talk.{Talk}

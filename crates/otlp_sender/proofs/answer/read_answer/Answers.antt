@@ -1,7 +1,6 @@
 -- Bytes are read behind those that came, until the head is settled.
-use Rattle.std.proofs.Common.{rules, ◌≡◌, ◌≢◌, ◌≤◌, ◌<◌, ◌+◌, ◌-◌, refl, sym, ap, subst, arith, length, take}
+use Rattle.std.proofs.Common.{rules, ◌≡◌, ◌≢◌, ◌≤◌, ◌<◌, ◌-◌, refl, sym, arith, length}
 use Rattle.http_talk.specs.declared.seen.HeadSeen.TheVariants as seen
-use Rattle.http_talk.specs.Heads.{Shows}
 use Rattle.http_talk.proofs.Laws.{nothing_shown}
 use Rattle.otlp_sender.proofs.WireSteps.{got_none, read_step, shown_more, room_left, left_there}
 use Rattle.otlp_sender.proofs.answer.read_answer.Goals as goal

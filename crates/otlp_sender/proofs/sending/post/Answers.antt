@@ -1,5 +1,5 @@
 -- Tries are made until none is due.
-use Rattle.std.proofs.Common.{rules, ◌≡◌, ◌+◌, ◌∙◌, true, false, sym, arith, inl, inr}
+use Rattle.std.proofs.Common.{rules, ◌≡◌, ◌+◌, true, false, arith, inl, inr}
 use Rattle.std.specs.Prelude.{◌⊎◌}
 use Rattle.otlp_sender.specs.Posting.{is_open}
 use Rattle.otlp_sender.proofs.WireSteps.{posted_all, posted_on}

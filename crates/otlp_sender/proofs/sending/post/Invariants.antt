@@ -1,4 +1,4 @@
-use Rattle.std.proofs.Common.{◌≡◌, ◌-◌, ◌<◌}
+use Rattle.std.proofs.Common.{◌-◌, ◌<◌}
 use Rattle.otlp_sender.specs.Sending.{IsUnderWay}
 use Rattle.otlp_sender.proofs.sending.post.Given as goal
 

@@ -1,5 +1,5 @@
 -- Bytes are sent from the front on.
-use Rattle.std.proofs.Common.{◌≡◌, ◌≤◌, ◌-◌, length, take, drop, arith, length-take, length-drop}
+use Rattle.std.proofs.Common.{◌≤◌, ◌-◌, length, take, drop, arith, length-take, length-drop}
 use Rattle.otlp_sender.proofs.WireSteps.{sent_step, broke_off}
 use Rattle.otlp_sender.proofs.sending.send.Goals as goal
 

@@ -1,5 +1,5 @@
 -- The wire was made ready.
-use Rattle.std.proofs.Common.{rules, ◌≡◌, ap, sym, subst, arith}
+use Rattle.std.proofs.Common.{◌≡◌, sym, subst, arith}
 use Rattle.bridge_ports.specs.Plans.{seen_of}
 use Rattle.bridge_ports.specs.Talks.{WireState, AllowsTalks, made_ready}
 use Rattle.otlp_sender.proofs.tests.posted.Goals as goal

@@ -1,6 +1,6 @@
 -- What is left of the piece comes to the same.
-use Rattle.std.proofs.Common.{rules, ◌≡◌, ◌∙◌, ◌≤◌, length, drop, ◌-◌, take, true, sym, arith}
-use Rattle.http_talk.specs.Chunks.{with_bytes, is_certain}
+use Rattle.std.proofs.Common.{rules, ◌≡◌, ◌∙◌, drop, true, sym}
+use Rattle.http_talk.specs.Chunks.{is_certain}
 use Rattle.http_talk.proofs.GoesOn.{with_bytes-decided}
 use Rattle.http_talk.proofs.ChunkRuns.{bytes_on, short_rest}
 use Rattle.http_talk.proofs.chunk_reader.ChunkReader.take_piece.Goals as goal

@@ -1,5 +1,5 @@
 -- A run of the bytes of a chunk.
-use Rattle.std.proofs.Common.{rules, ◌≡◌, ◌++◌, ◌<◌, length, take, arith}
+use Rattle.std.proofs.Common.{rules, ◌≡◌, ◌++◌, take, arith}
 use Rattle.http_talk.proofs.ChunkRuns.{run_of, going_bounds, left_some}
 use Rattle.http_talk.proofs.chunk_reader.ChunkReader.take_run.Goals as goal
 

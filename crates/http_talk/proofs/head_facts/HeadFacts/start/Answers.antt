@@ -1,6 +1,5 @@
 -- The causes in their order.
-use Rattle.std.proofs.Common.{◌≡◌, ◌∙◌, sym, ap, true, false, Some, None, refl}
-use Rattle.std.specs.Prelude.{is_none}
+use Rattle.std.proofs.Common.{◌∙◌, sym}
 use Rattle.http_talk.proofs.FactLaws.{cause_status, cause_coding, cause_media, cause_framed, no_cause}
 use Rattle.http_talk.proofs.head_facts.HeadFacts.start.Goals as goal
 

@@ -1,8 +1,8 @@
 -- The head's cause, or the first bytes of the body.
-use Rattle.std.proofs.Common.{rules, ◌≡◌, ◌++◌, ◌∙◌, ◌-◌, sym, ap, subst, arith, take, drop, length, [], map}
+use Rattle.std.proofs.Common.{rules, ◌≡◌, ◌++◌, ◌∙◌, ◌-◌, sym, ap, subst, take, drop, length, [], map}
 use Rattle.httparse.specs.Spans.{header_bytes}
-use Rattle.http_talk.specs.HeadFacts.{facts_by, AreFactsOf}
-use Rattle.http_talk.specs.ReplyReading.{Stands, FeedAnswer, IsSoundPart}
+use Rattle.http_talk.specs.HeadFacts.{facts_by}
+use Rattle.http_talk.specs.ReplyReading.{IsSoundPart}
 use Rattle.http_talk.proofs.FactLaws.{are_facts}
 use Rattle.http_talk.proofs.ReplySteps.{refused_head, head_and_more, first_sound, first_body, body_begins, body_begins_badly}
 use Rattle.http_talk.proofs.reply.Reply.begin.Goals as goal

@@ -1,7 +1,6 @@
 -- What the chunks come to.
-use Rattle.std.proofs.Common.{rules, ◌≡◌, ◌∙◌, ap, subst}
-use Rattle.http_talk.specs.Chunks.{Chunks, with_bytes}
-use Rattle.http_talk.specs.ChunkFeeding.{part_behind}
+use Rattle.std.proofs.Common.{rules, ◌≡◌, ◌∙◌, ap}
+use Rattle.http_talk.specs.Chunks.{with_bytes}
 use Rattle.http_talk.proofs.ReplySteps.{takes_from, chunks_taken}
 use Rattle.http_talk.proofs.reply.Reply.take_chunks.Goals as goal
 

@@ -1,5 +1,5 @@
 -- Bytes of a head.
-use Rattle.std.proofs.Common.{rules, ◌≡◌, ◌++◌, ◌-◌, ◌∙◌, sym, ap, subst, arith, take, length, min}
+use Rattle.std.proofs.Common.{rules, ◌≡◌, ◌++◌, ◌∙◌, sym, ap, subst, arith, take}
 use Rattle.http_talk.specs.HeadFeeding.{IsHeadAt}
 use Rattle.http_talk.proofs.ReplySteps.{takes_from, head_takes_more, head_takes_bad, head_takes_body}
 use Rattle.http_talk.proofs.reply.Reply.take_head.Goals as goal

@@ -1,5 +1,5 @@
 -- A body that goes to the end.
-use Rattle.std.proofs.Common.{rules, ◌≡◌, ◌++◌, ◌∙◌, sym, ap, subst, arith}
+use Rattle.std.proofs.Common.{rules, ◌≡◌, ◌++◌, ◌∙◌, sym, ap, arith}
 use Rattle.http_talk.proofs.ReplySteps.{takes_from, open_long, open_more}
 use Rattle.http_talk.proofs.reply.Reply.take_open.Goals as goal
 

@@ -1,5 +1,5 @@
 -- A body of a length.
-use Rattle.std.proofs.Common.{rules, ◌≡◌, ◌≢◌, ◌++◌, ◌-◌, ◌∙◌, sym, ap, subst, arith, take, length, min}
+use Rattle.std.proofs.Common.{rules, ◌≡◌, ◌≢◌, ◌++◌, ◌-◌, ◌∙◌, ap, arith, take, length}
 use Rattle.http_talk.proofs.ReplySteps.{takes_from, sized_whole, sized_more}
 use Rattle.http_talk.proofs.reply.Reply.take_sized.Goals as goal
 
