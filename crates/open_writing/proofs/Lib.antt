@@ -1,3 +1,4 @@
+pub mod Laws
 pub mod Escapes
 pub mod LineCounts
 pub mod Places

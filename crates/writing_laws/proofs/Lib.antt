@@ -21,3 +21,4 @@ pub mod ValuesRead
 pub mod FamiliesBack
 pub mod ReadBack
 pub mod ThinnerPages
+pub mod FewLines

@@ -1,10 +1,11 @@
 -- Laws of writing. Each is proved, and a call of the crate stands for it.
 -- OpenMetrics 1.0, "Text Format". The statements are the bridge's own.
-use Rattle.std.specs.Prelude.{◌≡◌, ℕ, ◌≤◌, List}
+use Rattle.std.specs.Prelude.{◌≡◌, ℕ, ◌≤◌, ◌+◌, List}
 use Rattle.page_model.specs.declared.format.Treatment.TheVariants.{Written}
 use Rattle.page_model.specs.declared.page.Family.{Family}
-use Rattle.page_model.specs.Written.{open_setting}
-use Rattle.page_model.specs.Pages.{IsPageOf, AreThinnerFamilies, AreSomeOf}
+use Rattle.page_model.specs.declared.page.Page.{Page}
+use Rattle.page_model.specs.Written.{Setting, open_setting}
+use Rattle.page_model.specs.Pages.{IsPageOf, IsPageRead, AreThinnerFamilies, AreSomeOf}
 use Rattle.open_writing.specs.Writing.{written_text, page_with, sample_lines}
 use Rattle.open_writing.specs.OpenForms.{IsOpenForm, AreWritable}
 
@@ -24,3 +25,7 @@ ThinnerAreWritable = (whole thin : List Family) → AreWritable whole → AreThi
 -- and without some of the families
 abbrev pub FewerAreWritable : Type 0
 FewerAreWritable = (whole fewer : List Family) → AreWritable whole → AreSomeOf (λ f g. g ≡ f) whole fewer → AreWritable fewer
+
+-- a page that was read has at most twice as many written sample lines as it was read from
+abbrev pub WritesFewLines : Type 0
+WritesFewLines = (st : Setting) (page : Page) → IsPageRead st page → sample_lines page.families ≤ page.samples + page.samples

@@ -1,7 +1,7 @@
 //! That what is written reads back: laws of the definitions, each carried by a call that does nothing.
 #![tactic(auto)]
 
-ghost use Rattle.writing_laws.specs.WritingLaws.{ReadsBack, WritablesAreOpenForms, ThinnerAreWritable, FewerAreWritable};
+ghost use Rattle.writing_laws.specs.WritingLaws.{ReadsBack, WritablesAreOpenForms, ThinnerAreWritable, FewerAreWritable, WritesFewLines};
 
 /// The text of families that can be written reads back as their page.
 ///
@@ -20,4 +20,9 @@ pub fn open_forms()
 pub fn thinner_pages()
     ensures readings { ThinnerAreWritable }
     ensures families { FewerAreWritable }
+{}
+
+/// A page that was read has at most twice as many written sample lines as it was read from.
+pub fn written_sizes()
+    ensures lines { WritesFewLines }
 {}
