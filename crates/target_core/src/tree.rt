@@ -122,7 +122,13 @@ fn event_metrics(
         → starts.now ≡ map start (all_readings page.now) → groups ≡ marker_groups [] ms
         → IfOk result (λ metrics. metrics.items ≡ trees.event_metrics start ms moment page.now) }
 {
-    let mut metrics = page_metrics(alloc, moment, page.families().as_slice(), starts, &mut groups)?;
+    let mut metrics = page_metrics(
+        alloc,
+        moment,
+        page.families().as_slice(),
+        starts,
+        &mut groups,
+    )?;
     push_alone(alloc, groups.as_slice(), &mut metrics)?;
     Ok(metrics)
 }
