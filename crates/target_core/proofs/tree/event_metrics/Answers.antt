@@ -4,5 +4,6 @@ use Rattle.target_core.proofs.tree.event_metrics.Goals as goal
 
 pub returns : goal.returns
 returns c = λ start ms own is.
-    event_metrics_are start c.args.moment ms c.args.page.now c.as_slice.result.now c.in_ok-metrics.metrics.items c.push_alone.new.metrics.items c.page_metrics.new.groups c.as_slice-2.result.now c.as_slice.ensures
-    (c.in_ok-metrics.ensures start ms (own ∙ ap (λ fs. map start (readings_in fs)) (sym c.as_slice.ensures)) is) c.as_slice-2.ensures c.in_ok-push_alone.ensures
+    let whole = c.as_slice.ensures ∙ c.families.ensures.families in
+    event_metrics_are start c.args.moment ms c.args.page.now c.as_slice.result.now c.in_ok-metrics.metrics.items c.push_alone.new.metrics.items c.page_metrics.new.groups c.as_slice-2.result.now whole
+    (c.in_ok-metrics.ensures start ms (own ∙ ap (λ fs. map start (readings_in fs)) (sym whole)) is) c.as_slice-2.ensures c.in_ok-push_alone.ensures
