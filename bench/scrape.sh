@@ -1,0 +1,201 @@
+#!/bin/sh
+# What a scrape costs over reading its page: a page of 20,000 samples, fed from memory to
+# `text_grammar::TextPage`, and scraped over a wire in memory, with a length and in chunks of 4,096 bytes, each in
+# pieces of 4,096 bytes and of 64 KiB. One program takes both in turn, pinned to one processor, and the least
+# time of each counts. A ratio above 1.20 is an error.
+# Needs rt, awk and taskset. Run from anywhere: bench/scrape.sh [TURNS]
+set -eu
+turns=${1:-15}
+. "$(dirname "$0")/workspace.sh"
+core=$(($(nproc) - 1))
+
+# Families of 1 to 128 samples; a sample has 5 labels on average.
+page() {
+    awk -v most="$1" '
+    function value(n) {
+        if (n % 5 == 0) return sprintf("%d.%02d", n * 7919 % 1000003, n % 100)
+        if (n % 5 == 1) return sprintf("%d", n * 104729 % 16777213)
+        if (n % 5 == 2) return sprintf("1.%06de+09", n * 7919 % 999983 + 1)
+        if (n % 5 == 3) return n % 3 == 0 ? "0" : sprintf("%d%06d", n % 9973, n % 1000003)
+        return sprintf("%d.%06de-05", 1 + n % 9, n * 611953 % 1000000)
+    }
+    function labels(sort, n) {
+        node = sprintf("node=\"worker-%03d.example.org\"", n % 251)
+        if (sort == 1) return sprintf("{core=\"%d\",cpu=\"%d\",mode=\"%s\",%s,socket=\"%d\"}", n % 8, n, modes[n % 6 + 1], node, n % 2)
+        if (sort == 2) return sprintf("{device=\"/dev/mapper/vg0-data%d\",device_error=\"\",fstype=\"ext4\",mountpoint=\"%s%d\",%s}", n, n % 10 ? "/var/lib/data/" : "C:\\\\data\\\\", n, node)
+        if (sort == 3) return sprintf("{adminstate=\"up\",device=\"eth%d\",duplex=\"full\",%s,operstate=\"up\",speed=\"10000\"}", n, node)
+        if (sort == 4) return sprintf("{name=\"storage-volume-%d.service\",state=\"%s\",type=\"notify\",%s}", n, states[n % 4 + 1], node)
+        return sprintf("{code=\"OK\",handler=\"/api/v1/volumes/%d\",method=\"GET\",pod=\"gateway-7c9f%d\",%s,zone=\"eu-west-1%s\"}", n, n % 17, node, n % 2 ? "a" : "b")
+    }
+    BEGIN {
+        split("idle user system iowait nice irq", modes, " ")
+        split("active inactive failed activating", states, " ")
+        split("1 8 128 16 64 48", sizes, " ")
+        split("goroutines cpu_seconds filesystem_avail_bytes network_receive_bytes systemd_unit_state http_requests", stems, " ")
+        for (family = 0; samples < most; family++) {
+            sort = family % 6
+            name = sprintf("node_%s_%d%s", stems[sort + 1], family, sort % 2 ? "_total" : "")
+            printf "# HELP %s Readings of %s, by \\\\proc\\\\%d.\n# TYPE %s %s\n", name, stems[sort + 1], family, name, sort % 2 ? "counter" : "gauge"
+            for (i = 0; i < sizes[sort + 1] && samples < most; i++)
+                printf "%s%s %s\n", name, sort ? labels(sort, i) : "", value(samples++)
+        }
+    }'
+}
+page 20000 > "$work/page"
+
+take_crates scrape_client
+add_program time_scrape "scrape_client http_talk text_grammar bridge_ports page_model label_sets exact_decimal" <<'END'
+//! Reads a page on standard input, as often as the first word says, and scrapes the same page over a wire in
+//! memory: plain and in chunks, in pieces of 4,096 bytes and of 64 KiB. Prints for each the bytes of a piece,
+//! how the body is framed, and the nanoseconds of reading, of scraping and, for both, whether a page came.
+#![tactic(auto)]
+
+ghost use Rattle.std.specs.Prelude.{◌≤◌};
+
+use bridge_ports::{Address, End, MemoryReply, MemoryWire, Place, Target};
+use label_sets::{Bytes, List, Text};
+use page_model::{Outcome, PageFault, Treatment};
+use scrape_client::scrape;
+use std::alloc::{AllocError, Global};
+use std::time::Instant;
+use std::{env, io};
+use text_grammar::TextPage;
+
+const CHUNK: usize = 4_096;
+
+const LIMIT: u32 = 200_000;
+
+const MOST_BYTES: u32 = 67_108_864;
+
+fn target(alloc: Global) -> Result<Target, AllocError> {
+    let job = Text::from_str(alloc, "j")?;
+    let instance = Text::from_str(alloc, "h:1")?;
+    let address = Address {
+        host: Bytes::from_slice(alloc, "h".as_bytes())?,
+        port: 1,
+        path: Bytes::from_slice(alloc, b"/metrics")?,
+    };
+    Ok(Target::new(job, instance, address, false))
+}
+
+/// A reply with this page.
+fn reply_of(alloc: Global, page: &[u8], chunked: bool) -> Result<Vec<u8>, AllocError> {
+    let mut reply = Vec::from_slice(alloc, b"HTTP/1.1 200 OK\r\n")?;
+    if !chunked {
+        let length = format!(in alloc; "Content-Length: {}\r\n\r\n", page.len())?;
+        reply.extend_from_slice(length.as_bytes())?;
+        reply.extend_from_slice(page)?;
+        return Ok(reply);
+    }
+    reply.extend_from_slice(b"Transfer-Encoding: chunked\r\n\r\n")?;
+    for chunk in page.chunks(CHUNK) {
+        let size = format!(in alloc; "{:x}\r\n", chunk.len())?;
+        reply.extend_from_slice(size.as_bytes())?;
+        reply.extend_from_slice(chunk)?;
+        reply.extend_from_slice(b"\r\n")?;
+    }
+    reply.extend_from_slice(b"0\r\n\r\n")?;
+    Ok(reply)
+}
+
+#[inline(never)]
+fn read_page(alloc: Global, bytes: &[u8], most: usize) -> Result<bool, PageFault>
+    requires { 1 ≤ most }
+{
+    let mut page = TextPage::new(alloc, Treatment::Scraped, LIMIT)?;
+    for piece in bytes.chunks(most) {
+        if !page.has_room(piece) {
+            break;
+        }
+        page.feed(piece)?;
+    }
+    page.finish()?;
+    Ok(true)
+}
+
+#[inline(never)]
+fn scrape_page(
+    alloc: Global,
+    reply: MemoryReply,
+    target: &Target,
+    most: u32,
+) -> Result<bool, AllocError>
+    requires { 1 ≤ most }
+{
+    let place = Place {
+        number: 1,
+        post: false,
+    };
+    let replies = List::from_vec(Vec::from_array(alloc, [reply])?)?;
+    let failing = List::new(alloc);
+    let mut wire = MemoryWire::new(alloc, place, replies, None, most, failing);
+    match scrape(alloc, &mut wire, target, 0, LIMIT, MOST_BYTES)?.outcome {
+        Outcome::Page(_) => Ok(true),
+        Outcome::Failed(_) => Ok(false),
+    }
+}
+
+fn turns(rt: &HostRuntime) -> io::Result<u32> {
+    let mut words = env::args(rt)?.into_iter();
+    let _program = words.next();
+    Ok(
+        words
+            .next()
+            .and_then(|word| word.parse::<u32>().ok())
+            .unwrap_or(3),
+    )
+}
+
+fn compare(rt: &HostRuntime, page: &[u8], most: u32, chunked: bool) -> io::Result<()>
+    requires { 1 ≤ most }
+{
+    let alloc = rt.alloc();
+    let target = target(alloc)?;
+    let bytes = reply_of(alloc, page, chunked)?;
+    let reply = MemoryReply {
+        at: 0,
+        got: Bytes::from_vec(bytes),
+        end: End::Ended,
+    };
+    let start = Instant::now(rt)?;
+    let read = read_page(alloc, page, most as usize).unwrap_or(false);
+    let reading = start.elapsed(rt)?.as_nanos();
+    let start = Instant::now(rt)?;
+    let scraped = scrape_page(alloc, reply, &target, most)?;
+    let scraping = start.elapsed(rt)?.as_nanos();
+    println!(rt; "{most} {chunked} {reading} {scraping} {read} {scraped}")?;
+    Ok(())
+}
+
+fn main(rt: HostRuntime) -> io::Result<()> {
+    let mut page = Vec::new(rt.alloc());
+    let mut input = rt.stdin();
+    io::Read::read_to_end(&mut input, &mut page)?;
+    for _ in 0..turns(&rt)? {
+        compare(&rt, page.as_slice(), 4_096, false)?;
+        compare(&rt, page.as_slice(), 4_096, true)?;
+        compare(&rt, page.as_slice(), 65_536, false)?;
+        compare(&rt, page.as_slice(), 65_536, true)?;
+    }
+    Ok(())
+}
+END
+build_program time_scrape 1
+taskset -c "$core" "$work/proved" "$turns" <"$work/page" >"$work/times"
+if ! awk '$5 != "true" || $6 != "true" { exit 1 }' "$work/times"; then
+    echo "a page did not come:"
+    cat "$work/times"
+    exit 1
+fi
+awk '
+    { key = $1 " " ($2 == "true" ? "in chunks" : "with a length") }
+    !(key in read) || $3 < read[key] { read[key] = $3 }
+    !(key in scraped) || $4 < scraped[key] { scraped[key] = $4 }
+    END {
+        for (key in read) {
+            ratio = scraped[key] / read[key]
+            printf "pieces of %s: scraping %.2f ms, reading %.2f ms, ratio %.2f\n", key, scraped[key] / 1e6, read[key] / 1e6, ratio
+            if (ratio > 1.2) late = 1
+        }
+        exit late
+    }' "$work/times"
