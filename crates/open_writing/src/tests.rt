@@ -1,4 +1,3 @@
-use crate::counting::lines_of_families;
 use crate::families::FamiliesText;
 use exact_decimal::{Decimal, Number, of};
 use label_sets::{Kind, Label, LabelFault, LabelSet, List, Memory, Name, SeriesKey, Text};
@@ -156,7 +155,6 @@ const WRITTEN: &str = concat!(
 #[test]
 fn writes_behind_what_is_there(rt: HostRuntime) -> Result<(), LabelFault> {
     let families = families(rt.alloc())?;
-    assert_eq!(rt; lines_of_families(families.as_slice()), 21);
     let mut out = Vec::from_slice(rt.alloc(), b"> ")?;
     text_emitter::write(&FamiliesText(&families), &mut out)?;
     assert_eq!(rt; std::str::from_utf8(&out), Ok(WRITTEN));

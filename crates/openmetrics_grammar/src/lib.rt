@@ -1,4 +1,5 @@
-//! Reads pages of OpenMetrics 1.0 in pieces of any size: its lines, over the reader that both formats share.
+//! Reads pages of OpenMetrics 1.0 in pieces of any size: its lines, over the reader that both formats share. The
+//! writer of such pages is exported again.
 #![tactic(auto)]
 
 mod descriptors;
@@ -10,6 +11,7 @@ mod page;
 mod sample;
 
 pub use line::OpenLines;
+pub use open_writing::{page_of_families, write};
 pub use page::OpenPage;
 
 #[cfg(test)]

@@ -1,6 +1,8 @@
 -- Lines in blocks of distinct families: the families of a page, and what each of its lines says.
-use Rattle.std.proofs.Common.{◌≡◌, ℕ, Bool, true, false, not, cond, List, [], ◌∷◌, ◌++◌, map, filter, filter_map, Option, Some, None, refl, sym, ap, ◌∙◌}
+use Rattle.std.proofs.Common.{◌≡◌, ℕ, Bool, true, false, not, cond, List, [], ◌∷◌, ◌++◌, map, filter, filter_map, Option, None, refl, sym, ap, ◌∙◌, append_assoc}
 use Rattle.std.specs.Prelude.{⊤}
+use Rattle.std.proofs.lemmas.List.{append-nil}
+use Rattle.std.proofs.lemmas.List.Elements.{filter_map-append}
 use Rattle.std.specs.List.{flat_map, AllByRecursion, cons_option}
 use Rattle.std.specs.Str.{bytes_eq}
 use Rattle.std.specs.Cmp.Lexicographic.{bytes_decides}
@@ -45,14 +47,6 @@ turned a b e = go (bytes_eq b a) refl
 abbrev names_of : List Owned → List (List ℕ)
 names_of os = map (λ (o : Owned). o.family) os
 
-filter_append : {A : Type 0} (p : A → Bool) (xs ys : List A) → filter p (xs ++ ys) ≡ filter p xs ++ filter p ys
-filter_append p [] ys = refl
-filter_append p (x ∷ xs) ys = by (p x) (filter_append p xs ys)
-  where
-    by : (b : Bool) → filter p (xs ++ ys) ≡ filter p xs ++ filter p ys → cond b (x ∷ filter p (xs ++ ys)) (filter p (xs ++ ys)) ≡ cond b (x ∷ filter p xs) (filter p xs) ++ filter p ys
-    by true ih = ap (λ zs. x ∷ zs) ih
-    by false ih = ih
-
 -- a name that is passed over twice is passed over once
 twice : (name : List ℕ) (ns : List (List ℕ)) → filter (λ n. not (bytes_eq name n)) (filter (λ n. not (bytes_eq name n)) ns) ≡ filter (λ n. not (bytes_eq name n)) ns
 twice name [] = refl
@@ -90,14 +84,6 @@ names_back (b ∷ bs) d =
 abbrev pub said_by : {B : Type 0} → List ℕ → (Item → Option B) → Owned → Option B
 said_by name h o = cond (is_of name o) (h o.item) None
 
-some_append : {A B : Type 0} (g : A → Option B) (xs ys : List A) → filter_map g (xs ++ ys) ≡ filter_map g xs ++ filter_map g ys
-some_append g [] ys = refl
-some_append g (x ∷ xs) ys = by (g x) (some_append g xs ys)
-  where
-    by : (o : Option _) → filter_map g (xs ++ ys) ≡ filter_map g xs ++ filter_map g ys → cons_option o (filter_map g (xs ++ ys)) ≡ cons_option o (filter_map g xs) ++ filter_map g ys
-    by None ih = ih
-    by (Some z) ih = ap (λ zs. z ∷ zs) ih
-
 own_said : {B : Type 0} (name : List ℕ) (h : Item → Option B) (is : List Item) → filter_map (said_by name h) (own name is) ≡ filter_map h is
 own_said name h [] = refl
 own_said name h (i ∷ is) = rw (own_name name) (ap (cons_option (h i)) (own_said name h is))
@@ -108,7 +94,7 @@ other_said name other h (i ∷ is) e = rw e (other_said name other h is e)
 
 none_said : {B : Type 0} (name : List ℕ) (h : Item → Option B) (bs : List Lines) → Apart name bs → filter_map (said_by name h) (lines_in bs) ≡ []
 none_said name h [] a = refl
-none_said name h (b ∷ bs) a = some_append (said_by name h) (owned_of b) (lines_in bs)
+none_said name h (b ∷ bs) a = filter_map-append (said_by name h) (owned_of b) (lines_in bs)
     ∙ ap (λ zs. zs ++ filter_map (said_by name h) (lines_in bs)) (other_said name b.name h (b.first ∷ b.others) (turned name b.name a.0)) ∙ none_said name h bs a.1
 
 -- the block that stands among others
@@ -119,24 +105,16 @@ pub record IsAmong (b : Lines) (bs : List Lines) : Type 0 where
   pub first : Apart b.name before
   pub last : Apart b.name behind
 
-append_nil : {A : Type 0} (xs : List A) → xs ++ [] ≡ xs
-append_nil [] = refl
-append_nil (x ∷ xs) = ap (λ ys. x ∷ ys) (append_nil xs)
-
 lines_append : (bs cs : List Lines) → lines_in (bs ++ cs) ≡ lines_in bs ++ lines_in cs
 lines_append [] cs = refl
-lines_append (b ∷ bs) cs = ap (λ os. owned_of b ++ os) (lines_append bs cs) ∙ sym (assoc (owned_of b) (lines_in bs) (lines_in cs))
-  where
-    assoc : (xs ys zs : List Owned) → (xs ++ ys) ++ zs ≡ xs ++ (ys ++ zs)
-    assoc [] ys zs = refl
-    assoc (x ∷ xs) ys zs = ap (λ us. x ∷ us) (assoc xs ys zs)
+lines_append (b ∷ bs) cs = ap (λ os. owned_of b ++ os) (lines_append bs cs) ∙ sym (append_assoc (owned_of b) (lines_in bs) (lines_in cs))
 
 -- all that the lines of a page say of one family is what its own lines say
 pub said_back : {B : Type 0} (h : Item → Option B) (b : Lines) (bs : List Lines) → IsAmong b bs → filter_map (said_by b.name h) (lines_in bs) ≡ filter_map h (b.first ∷ b.others)
 said_back h b bs among =
     ap (λ cs. filter_map (said_by b.name h) (lines_in cs)) among.is ∙ ap (filter_map (said_by b.name h)) (lines_append among.before (b ∷ among.behind))
-    ∙ some_append (said_by b.name h) (lines_in among.before) (lines_in (b ∷ among.behind))
+    ∙ filter_map-append (said_by b.name h) (lines_in among.before) (lines_in (b ∷ among.behind))
     ∙ ap (λ zs. zs ++ filter_map (said_by b.name h) (lines_in (b ∷ among.behind))) (none_said b.name h among.before among.first)
-    ∙ some_append (said_by b.name h) (owned_of b) (lines_in among.behind)
+    ∙ filter_map-append (said_by b.name h) (owned_of b) (lines_in among.behind)
     ∙ ap (λ zs. zs ++ filter_map (said_by b.name h) (lines_in among.behind)) (own_said b.name h (b.first ∷ b.others))
-    ∙ ap (λ zs. filter_map h (b.first ∷ b.others) ++ zs) (none_said b.name h among.behind among.last) ∙ append_nil (filter_map h (b.first ∷ b.others))
+    ∙ ap (λ zs. filter_map h (b.first ∷ b.others) ++ zs) (none_said b.name h among.behind among.last) ∙ append-nil (filter_map h (b.first ∷ b.others))

@@ -1,6 +1,9 @@
 -- The readings of a family's samples, where the samples of each reading stand together.
-use Rattle.std.proofs.Common.{◌≡◌, ℕ, Bool, true, false, not, cond, List, [], ◌∷◌, ◌++◌, map, filter, filter_map, Option, Some, refl, sym, ap, subst, ◌∙◌}
+use Rattle.std.proofs.Common.{◌≡◌, ℕ, Bool, true, false, not, cond, List, [], ◌∷◌, ◌++◌, map, filter, filter_map, Option, Some, refl, sym, ap, subst, ◌∙◌, append_assoc}
 use Rattle.std.specs.Prelude.{⊤}
+use Rattle.std.proofs.lemmas.List.{append-nil}
+use Rattle.std.proofs.lemmas.List.Elements.{filter-append}
+use Rattle.writing_laws.proofs.Turned.{map-append}
 use Rattle.std.specs.List.{flat_map, AllByRecursion, cons_option}
 use Rattle.label_sets.specs.declared.kind.Kind.{Kind}
 use Rattle.label_sets.specs.declared.label_set.LabelSet.{LabelSet}
@@ -44,22 +47,6 @@ turned a b e = go (label_sets_eq b a) refl
 
 itself : (a : LabelSet) → label_sets_eq a a ≡ true
 itself a = (label_sets_decide a a).1 refl
-
-filter_append : {A : Type 0} (p : A → Bool) (xs ys : List A) → filter p (xs ++ ys) ≡ filter p xs ++ filter p ys
-filter_append p [] ys = refl
-filter_append p (x ∷ xs) ys = by (p x) (filter_append p xs ys)
-  where
-    by : (b : Bool) → filter p (xs ++ ys) ≡ filter p xs ++ filter p ys → cond b (x ∷ filter p (xs ++ ys)) (filter p (xs ++ ys)) ≡ cond b (x ∷ filter p xs) (filter p xs) ++ filter p ys
-    by true ih = ap (λ zs. x ∷ zs) ih
-    by false ih = ih
-
-map_append : {A B : Type 0} (f : A → B) (xs ys : List A) → map f (xs ++ ys) ≡ map f xs ++ map f ys
-map_append f [] ys = refl
-map_append f (x ∷ xs) ys = ap (λ zs. f x ∷ zs) (map_append f xs ys)
-
-append_nil : {A : Type 0} (xs : List A) → xs ++ [] ≡ xs
-append_nil [] = refl
-append_nil (x ∷ xs) = ap (λ ys. x ∷ ys) (append_nil xs)
 
 -- the part that stands among others
 pub record IsAmong (p : Part) (ps : List Part) : Type 0 where
@@ -109,7 +96,7 @@ module _ (st : Setting) (kind : Kind) (family : List ℕ) where
   pub labels_back : (ps : List Part) → AllShare ps → Distinct ps → first_of_each label_sets_eq (map labels_of (samples_of_all ps)) ≡ map (λ (p : Part). p.labels) ps
   labels_back [] h d = refl
   labels_back (p ∷ ps) h d =
-      ap (first_of_each label_sets_eq) (map_append labels_of (samples_in p) (samples_of_all ps)) ∙ one_set p.labels p.first p.others (map labels_of (samples_of_all ps)) h.0
+      ap (first_of_each label_sets_eq) (map-append labels_of (samples_in p) (samples_of_all ps)) ∙ one_set p.labels p.first p.others (map labels_of (samples_of_all ps)) h.0
       ∙ ap (λ ms. p.labels ∷ filter (λ m. not (label_sets_eq p.labels m)) ms) (labels_back ps h.1 d.1) ∙ ap (λ ms. p.labels ∷ ms) (apart_kept p.labels ps d.0)
 
   -- ---- the samples of a reading
@@ -126,16 +113,12 @@ module _ (st : Setting) (kind : Kind) (family : List ℕ) where
 
   all_dropped : (l : LabelSet) (ps : List Part) → AllShare ps → Apart l ps → filter (λ s. label_sets_eq (labels_of s) l) (samples_of_all ps) ≡ []
   all_dropped l [] h a = refl
-  all_dropped l (p ∷ ps) h a = filter_append (λ s. label_sets_eq (labels_of s) l) (samples_in p) (samples_of_all ps)
+  all_dropped l (p ∷ ps) h a = filter-append (λ s. label_sets_eq (labels_of s) l) (samples_in p) (samples_of_all ps)
       ∙ ap (λ ts. ts ++ filter (λ s. label_sets_eq (labels_of s) l) (samples_of_all ps)) (others_dropped l p.labels (samples_in p) h.0 a.0) ∙ all_dropped l ps h.1 a.1
 
   samples_append : (ps qs : List Part) → samples_of_all (ps ++ qs) ≡ samples_of_all ps ++ samples_of_all qs
   samples_append [] qs = refl
-  samples_append (p ∷ ps) qs = ap (λ ts. samples_in p ++ ts) (samples_append ps qs) ∙ sym (assoc (samples_in p) (samples_of_all ps) (samples_of_all qs))
-    where
-      assoc : (xs ys zs : List Sample) → (xs ++ ys) ++ zs ≡ xs ++ (ys ++ zs)
-      assoc [] ys zs = refl
-      assoc (x ∷ xs) ys zs = ap (λ us. x ∷ us) (assoc xs ys zs)
+  samples_append (p ∷ ps) qs = ap (λ ts. samples_in p ++ ts) (samples_append ps qs) ∙ sym (append_assoc (samples_in p) (samples_of_all ps) (samples_of_all qs))
 
   share_front : (ps qs : List Part) → AllShare (ps ++ qs) → AllShare ps
   share_front [] qs h = tt
@@ -152,11 +135,11 @@ module _ (st : Setting) (kind : Kind) (family : List ℕ) where
       let behind = share_behind among.before (p ∷ among.behind) share in
       let test : Sample → Bool = λ s. label_sets_eq (labels_of s) p.labels in
       ap (λ qs. filter test (samples_of_all qs)) among.is ∙ ap (filter test) (samples_append among.before (p ∷ among.behind))
-      ∙ filter_append test (samples_of_all among.before) (samples_of_all (p ∷ among.behind))
+      ∙ filter-append test (samples_of_all among.before) (samples_of_all (p ∷ among.behind))
       ∙ ap (λ ts. ts ++ filter test (samples_of_all (p ∷ among.behind))) (all_dropped p.labels among.before (share_front among.before (p ∷ among.behind) share) among.front)
-      ∙ filter_append test (samples_in p) (samples_of_all among.behind)
+      ∙ filter-append test (samples_in p) (samples_of_all among.behind)
       ∙ ap (λ ts. ts ++ filter test (samples_of_all among.behind)) (own_kept p.labels (samples_in p) behind.0)
-      ∙ ap (λ ts. samples_in p ++ ts) (all_dropped p.labels among.behind behind.1 among.last) ∙ append_nil (samples_in p)
+      ∙ ap (λ ts. samples_in p ++ ts) (all_dropped p.labels among.behind behind.1 among.last) ∙ append-nil (samples_in p)
 
 -- ---- all readings
 

@@ -1,11 +1,12 @@
 -- The value and the created time that the samples of a written reading say.
-use Rattle.std.proofs.Common.{◌≡◌, ℕ, ◌^◌, ◌<◌, Bool, true, false, cond, List, [], ◌∷◌, ◌++◌, map, filter, find, codes, Option, Some, None, option_map, refl, sym, ap, ◌∙◌}
+use Rattle.std.proofs.Common.{◌≡◌, ℕ, ◌^◌, ◌<◌, true, false, List, [], ◌∷◌, ◌++◌, map, filter, find, codes, Option, Some, None, option_map, refl, sym, ap, ◌∙◌, append_assoc}
 use Rattle.std.specs.Prelude.{⊤, unwrap_or}
 use Rattle.std.specs.List.{AllByRecursion}
 use Rattle.std.specs.Option.{option_or}
 use Rattle.std.specs.Str.{bytes_eq}
 use Rattle.std.proofs.lemmas.List.{append-nil}
 use Rattle.std.proofs.lemmas.List.Folds.{find-append}
+use Rattle.std.proofs.lemmas.List.Elements.{filter-append}
 use Rattle.label_sets.specs.declared.kind.Kind.TheVariants.{Counter, Histogram, Unknown}
 use Rattle.label_sets.specs.declared.label_set.LabelSet.{LabelSet}
 use Rattle.label_sets.specs.Labels.{has_name}
@@ -106,14 +107,6 @@ one_bucket family labels b free formed small =
     let count : unwrap_or (whole (number_of b.count)) 0 ≡ b.count = ap (λ o. unwrap_or o 0) (whole_back b.count small) in
     λ i. record { le = le i; count = count i }
 
-pub filter_append : {A : Type 0} (p : A → Bool) (xs ys : List A) → filter p (xs ++ ys) ≡ filter p xs ++ filter p ys
-filter_append p [] ys = refl
-filter_append p (x ∷ xs) ys = by (p x) (filter_append p xs ys)
-  where
-    by : (b : Bool) → filter p (xs ++ ys) ≡ filter p xs ++ filter p ys → cond b (x ∷ filter p (xs ++ ys)) (filter p (xs ++ ys)) ≡ cond b (x ∷ filter p xs) (filter p xs) ++ filter p ys
-    by true ih = ap (λ zs. x ∷ zs) ih
-    by false ih = ih
-
 buckets_kept : (family : List ℕ) (labels : LabelSet) (bs : List Bucket) → has_name labels (codes "le") ≡ false → AreFormed bs → map bucket_of (filter (is_bucket family) (map (bucket_sample family labels) bs)) ≡ bs
 buckets_kept family labels [] free h = refl
 buckets_kept family labels (b ∷ bs) free h =
@@ -125,7 +118,7 @@ pub buckets_back : (family : List ℕ) (labels : LabelSet) (bs : List Bucket) (r
     → buckets_of family (map (bucket_sample family labels) bs ++ rest) ≡ bs
 unfolding buckets_of
 buckets_back family labels bs rest free h lacks =
-    ap (map bucket_of) (filter_append (is_bucket family) (map (bucket_sample family labels) bs) rest ∙ ap (λ ts. filter (is_bucket family) (map (bucket_sample family labels) bs) ++ ts) (none_kept family (codes "_bucket") rest lacks)
+    ap (map bucket_of) (filter-append (is_bucket family) (map (bucket_sample family labels) bs) rest ∙ ap (λ ts. filter (is_bucket family) (map (bucket_sample family labels) bs) ++ ts) (none_kept family (codes "_bucket") rest lacks)
     ∙ append-nil (filter (is_bucket family) (map (bucket_sample family labels) bs))) ∙ buckets_kept family labels bs free h
 
 totals_lack : (family other : List ℕ) (labels : LabelSet) (bs : List Bucket) (sum : Option Number) → bytes_eq (codes "_count") other ≡ false → bytes_eq (codes "_sum") other ≡ false → Lacks family other (total_samples Histogram family labels bs sum)
@@ -140,10 +133,6 @@ pub skip : (family suffix : List ℕ) (ss ts : List Sample) → Lacks family suf
 unfolding value_with
 skip family suffix ss ts h =
     ap (option_map (λ (s : Sample). s.value)) (find-append (has_suffix family suffix) ss ts ∙ ap (λ o. option_or o (find (has_suffix family suffix) ts)) (not_found family suffix ss h))
-
-pub assoc : (xs ys zs : List Sample) → (xs ++ ys) ++ zs ≡ xs ++ (ys ++ zs)
-assoc [] ys zs = refl
-assoc (x ∷ xs) ys zs = ap (λ us. x ∷ us) (assoc xs ys zs)
 
 sum_found : (family : List ℕ) (labels : LabelSet) (bs : List Bucket) (sum created : Option Number) → value_with family (codes "_sum") (total_samples Histogram family labels bs sum ++ number_sample (family ++ codes "_created") labels created) ≡ sum
 unfolding value_with
@@ -173,7 +162,7 @@ histogram_back family labels bs sum created free h =
     let front = map (bucket_sample family labels) bs in
     let totals = total_samples Histogram family labels bs sum in
     let end = number_sample (family ++ codes "_created") labels created in
-    let regrouped = assoc front totals end in
+    let regrouped = append_assoc front totals end in
     let is_sum : value_with family (codes "_sum") (histogram_samples family labels bs sum created) ≡ sum
     = ap (value_with family (codes "_sum")) regrouped ∙ skip family (codes "_sum") front (totals ++ end) (buckets_lack family (codes "_sum") labels bs refl) ∙ sum_found family labels bs sum created in
     let both : either_value (value_with family (codes "_sum") (histogram_samples family labels bs sum created)) (value_with family (codes "_gsum") (histogram_samples family labels bs sum created)) ≡ sum

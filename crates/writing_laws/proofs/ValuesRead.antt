@@ -1,12 +1,12 @@
 -- The value and the created time that the samples of any written reading say.
-use Rattle.std.proofs.Common.{◌≡◌, ℕ, ◌^◌, ◌<◌, Bool, true, false, not, List, [], ◌∷◌, ◌++◌, map, filter, filter_map, codes, Option, Some, None, option_map, refl, ap, ◌∙◌, arith}
+use Rattle.std.proofs.Common.{◌≡◌, ℕ, ◌^◌, ◌<◌, Bool, true, false, not, List, [], ◌∷◌, ◌++◌, map, filter, filter_map, codes, Option, Some, None, option_map, refl, ap, ◌∙◌, append_assoc, arith}
 use Rattle.std.specs.Prelude.{option_and_then}
 use Rattle.std.specs.List.{list_any, AllByRecursion, cons_option}
 use Rattle.std.specs.Str.{bytes_eq}
 use Rattle.std.proofs.lemmas.Bool.{not-true}
 use Rattle.std.proofs.lemmas.Bool.Decides.{nat_tests}
 use Rattle.std.proofs.lemmas.List.{append-nil}
-use Rattle.std.proofs.lemmas.List.Elements.{recursion_from_All}
+use Rattle.std.proofs.lemmas.List.Elements.{recursion_from_All, filter-append}
 use Rattle.label_sets.specs.declared.kind.Kind.{Kind}
 use Rattle.label_sets.specs.declared.kind.Kind.TheVariants.{Counter, Gauge, Histogram, GaugeHistogram, StateSet, Info, Summary, Unknown}
 use Rattle.label_sets.specs.declared.label_set.LabelSet.{LabelSet}
@@ -28,7 +28,7 @@ use Rattle.open_writing.specs.Writing.{bare_sample, number_sample, with_number, 
 use Rattle.open_writing.specs.Forms.{IsFormedNumber, is_plain_value, is_u64_option, is_some_summary, IsFormedValue, IsFormedTime}
 use Rattle.writing_laws.proofs.Turned.{any-front}
 use Rattle.exact_decimal.proofs.Laws.{whole_back}
-use Rattle.writing_laws.proofs.ValuesBack.{suffix_is, no_suffix, Lacks, not_found, none_kept, lacks_append, behind_back, before_back, number_lacks, counter_back, buckets_lack, AreFormed, buckets_back, skip, assoc, histogram_back, filter_append, either_none}
+use Rattle.writing_laws.proofs.ValuesBack.{suffix_is, no_suffix, Lacks, not_found, none_kept, lacks_append, behind_back, before_back, number_lacks, counter_back, buckets_lack, AreFormed, buckets_back, skip, histogram_back, either_none}
 use Rattle.writing_laws.proofs.Fair.{IsFairBucket, IsFairQuantile, fair_of, written_place}
 
 any_first : {A : Type 0} (p : A → Bool) (x : A) (xs : List A) → p x ≡ true → list_any p (x ∷ xs) ≡ true
@@ -141,12 +141,12 @@ module _ (family : List ℕ) (labels : LabelSet) where
   summary_back limit qs count sum created free fair small some =
       let front = map (quantile_sample family labels) qs in
       let all = summary_samples qs count sum created in
-      let regrouped : all ≡ front ++ ((counted count ++ summed sum) ++ made created) = assoc front (counted count ++ summed sum) (made created) in
-      let deeper : (counted count ++ summed sum) ++ made created ≡ counted count ++ (summed sum ++ made created) = assoc (counted count) (summed sum) (made created) in
+      let regrouped : all ≡ front ++ ((counted count ++ summed sum) ++ made created) = append_assoc front (counted count ++ summed sum) (made created) in
+      let deeper : (counted count ++ summed sum) ++ made created ≡ counted count ++ (summed sum ++ made created) = append_assoc (counted count) (summed sum) (made created) in
       let said : list_any (is_measured family) all ≡ true = any-front (is_measured family) (front ++ (counted count ++ summed sum)) (made created) (measured qs count sum some) in
       let quantiles : filter_map quantile_of (filter (has_suffix family []) all) ≡ qs
       = ap (λ ss. filter_map quantile_of (filter (has_suffix family []) ss)) regrouped
-      ∙ ap (filter_map quantile_of) (filter_append (has_suffix family []) front ((counted count ++ summed sum) ++ made created)
+      ∙ ap (filter_map quantile_of) (filter-append (has_suffix family []) front ((counted count ++ summed sum) ++ made created)
       ∙ ap (λ ts. filter (has_suffix family []) front ++ ts) (none_kept family [] ((counted count ++ summed sum) ++ made created) (rest_lacks [] count sum created refl refl refl)) ∙ append-nil (filter (has_suffix family []) front))
       ∙ quantiles_kept limit qs free fair in
       let count_found : value_with family (codes "_count") all ≡ option_map number_of count
