@@ -6,7 +6,100 @@ set -eu
 samples=${1:-20000}
 . "$(dirname "$0")/workspace.sh"
 take_crates open_writing openmetrics_grammar target_core otlp_json
-add_program time_writing "open_writing openmetrics_grammar target_core otlp_json page_model label_sets" <"$here/writing/main.rt"
+add_program time_writing "open_writing openmetrics_grammar target_core otlp_json page_model label_sets" <<'END'
+//! Reads a page of OpenMetrics, and writes it, or the JSON of its event, as often as asked. With no turns it
+//! puts the written text on the output.
+#![tactic(auto)]
+use label_sets::Text;
+use openmetrics_grammar::OpenPage;
+use page_model::{Outcome, Page, PageFault, Treatment};
+use std::alloc::{AllocError, Global};
+use std::env;
+use std::io;
+use std::io::Write;
+use target_core::{Target, event_request};
+
+const PIECE: usize = 65_536;
+
+fn read_page(alloc: Global, bytes: &[u8]) -> Result<Page, PageFault> {
+    let mut page = OpenPage::new(alloc, Treatment::Written, 1_000_000)?;
+    for piece in bytes.chunks(PIECE) {
+        if !page.has_room(piece) {
+            break;
+        }
+        page.feed(piece)?;
+    }
+    page.finish()
+}
+
+fn target(alloc: Global) -> Result<Target, AllocError> {
+    Ok(Target {
+        job: Text::from_str(alloc, "j")?,
+        instance: Text::from_str(alloc, "h:1")?,
+        host: Text::from_str(alloc, "h")?,
+        port: 1,
+    })
+}
+
+/// Writes the page so many times, and gives how many bytes that were.
+fn written(alloc: Global, page: &Page, turns: u32) -> Result<u64, AllocError> {
+    let mut bytes = 0u64;
+    for _ in 0..turns {
+        let mut out = Vec::with_capacity(alloc, page.samples as usize * 200)?;
+        open_writing::write(page, &mut out)?;
+        bytes = bytes.wrapping_add(out.len() as u64);
+    }
+    Ok(bytes)
+}
+
+/// Writes the JSON of the page's event so many times, and gives how many bytes that were.
+fn converted(alloc: Global, page: Page, turns: u32) -> Result<u64, AllocError> {
+    let samples = page.samples as usize;
+    let request = event_request(alloc, &target(alloc)?, 1000, &Outcome::Page(page))?;
+    let mut bytes = 0u64;
+    for _ in 0..turns {
+        let mut out = Vec::with_capacity(alloc, samples * 400)?;
+        otlp_json::write(&request, &mut out)?;
+        bytes = bytes.wrapping_add(out.len() as u64);
+    }
+    Ok(bytes)
+}
+
+fn main(rt: HostRuntime) -> io::Result<()> {
+    let alloc = rt.alloc();
+    let mut words = env::args(&rt)?.into_iter();
+    let _program = words.next();
+    let form = words.next();
+    let turns = words.next().and_then(|word| word.parse::<u32>().ok()).unwrap_or(0);
+    let mut bytes = Vec::new(alloc);
+    let mut input = rt.stdin();
+    io::Read::read_to_end(&mut input, &mut bytes)?;
+    let page = match read_page(alloc, bytes.as_slice()) {
+        Ok(page) => page,
+        Err(PageFault::Refused { line, rule }) => {
+            println!(rt; "line {line} {}", rule.name())?;
+            return Ok(());
+        }
+        Err(PageFault::Memory) => {
+            println!(rt; "memory")?;
+            return Ok(());
+        }
+    };
+    let json = form.is_some_and(|word| word.as_str() == "json");
+    if json {
+        println!(rt; "{}", converted(alloc, page, turns)?)?;
+        return Ok(());
+    }
+    if turns == 0 {
+        let mut out = Vec::new(alloc);
+        open_writing::write(&page, &mut out)?;
+        let mut output = rt.stdout();
+        output.write_all(out.as_slice())?;
+        return output.flush();
+    }
+    println!(rt; "{}", written(alloc, &page, turns)?)
+}
+END
 build_program time_writing open 1
 (cd "$here" && python3 -c "
 import sys
