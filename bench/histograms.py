@@ -13,7 +13,7 @@ import subprocess
 import sys
 import tempfile
 
-from timing import built_program, rounds, seconds
+from timing import built_program, least_times, print_ratio
 
 FAMILIES = 100
 HISTOGRAMS_EACH = 20
@@ -69,21 +69,6 @@ def is_read(program: str, kind: str, path: str) -> bool:
     return read
 
 
-def least_times(program: str, paths: dict[str, str]) -> dict[tuple[str, str], float]:
-    """The least time of each command over each page."""
-    commands = {
-        "check": [program, "check", "text"],
-        "convert": [program, "convert", "text", "j", "h:1", "1000"],
-    }
-    least = {}
-    for _ in range(rounds(15)):
-        for command, words in commands.items():
-            for kind, path in paths.items():
-                took = seconds(words, path)
-                least[command, kind] = min(took, least.get((command, kind), took))
-    return least
-
-
 def main() -> int:
     program = built_program()
     with tempfile.TemporaryDirectory() as folder:
@@ -95,14 +80,14 @@ def main() -> int:
             print(f"{kind}: {SAMPLES} samples, {len(data)} bytes")
         if not all([is_read(program, kind, path) for kind, path in paths.items()]):
             return 1
-        least = least_times(program, paths)
-    for command in ("check", "convert"):
-        costs = {kind: least[command, kind] / SAMPLES * 1e9 for kind in paths}
-        ratio = costs["histograms"] / costs["gauges"]
-        print(
-            f"{command} text: {costs['histograms']:.0f} ns a sample of histograms,"
-            f" {costs['gauges']:.0f} of gauges; ratio {ratio:.2f}, at most {MOST_RATIO:.2f}"
-        )
+        commands = {
+            "check text": [program, "check", "text"],
+            "convert text": [program, "convert", "text", "j", "h:1", "1000"],
+        }
+        runs = {(command, kind): (words, path) for command, words in commands.items() for kind, path in paths.items()}
+        least = least_times(runs, 15)
+    for command in commands:
+        print_ratio(command, {kind: least[command, kind] / SAMPLES * 1e9 for kind in paths}, MOST_RATIO)
     return 0
 
 

@@ -12,7 +12,7 @@ import sys
 import tempfile
 
 from text_commands import page
-from timing import built_program, rounds, seconds
+from timing import built_program, least_times, print_ratio
 
 SAMPLES = 20_000
 MOST_RATIO = 5 / 4
@@ -32,25 +32,17 @@ def open_page(text: bytes) -> bytes:
 def main() -> int:
     program = built_program()
     text = page(SAMPLES)
-    least = {}
     with tempfile.TemporaryDirectory() as folder:
-        paths = {}
-        for form, data in {"text": text, "openmetrics": open_page(text)}.items():
-            paths[form] = os.path.join(folder, form)
-            with open(paths[form], "wb") as out:
+        runs = {}
+        for form, data in {"openmetrics": open_page(text), "text": text}.items():
+            path = os.path.join(folder, form)
+            with open(path, "wb") as out:
                 out.write(data)
-        for _ in range(rounds(15)):
-            for form, path in paths.items():
-                for words in (["check", form], ["convert", form, "j", "h:1", "1000"]):
-                    took = seconds([program, *words], path)
-                    least[words[0], form] = min(took, least.get((words[0], form), took))
+            runs["check", form] = ([program, "check", form], path)
+            runs["convert", form] = ([program, "convert", form, "j", "h:1", "1000"], path)
+        least = least_times(runs, 15)
     for command in ("check", "convert"):
-        costs = {form: least[command, form] / SAMPLES * 1e9 for form in paths}
-        ratio = costs["openmetrics"] / costs["text"]
-        print(
-            f"{command}: {costs['openmetrics']:.0f} ns a sample of OpenMetrics, {costs['text']:.0f} of text;"
-            f" ratio {ratio:.2f}, at most {MOST_RATIO:.2f}"
-        )
+        print_ratio(command, {form: least[command, form] / SAMPLES * 1e9 for form in ("openmetrics", "text")}, MOST_RATIO)
     return 0
 
 

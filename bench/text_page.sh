@@ -9,40 +9,8 @@ rounds=${1:-5}
 . "$(dirname "$0")/workspace.sh"
 core=$(($(nproc) - 1))
 
-# Families of 1 to 128 samples; a sample has 5 labels on average.
-page() {
-    awk -v most="$1" '
-    function value(n) {
-        if (n % 5 == 0) return sprintf("%d.%02d", n * 7919 % 1000003, n % 100)
-        if (n % 5 == 1) return sprintf("%d", n * 104729 % 16777213)
-        if (n % 5 == 2) return sprintf("1.%06de+09", n * 7919 % 999983 + 1)
-        if (n % 5 == 3) return n % 3 == 0 ? "0" : sprintf("%d%06d", n % 9973, n % 1000003)
-        return sprintf("%d.%06de-05", 1 + n % 9, n * 611953 % 1000000)
-    }
-    function labels(sort, n) {
-        node = sprintf("node=\"worker-%03d.example.org\"", n % 251)
-        if (sort == 1) return sprintf("{core=\"%d\",cpu=\"%d\",mode=\"%s\",%s,socket=\"%d\"}", n % 8, n, modes[n % 6 + 1], node, n % 2)
-        if (sort == 2) return sprintf("{device=\"/dev/mapper/vg0-data%d\",device_error=\"\",fstype=\"ext4\",mountpoint=\"%s%d\",%s}", n, n % 10 ? "/var/lib/data/" : "C:\\\\data\\\\", n, node)
-        if (sort == 3) return sprintf("{adminstate=\"up\",device=\"eth%d\",duplex=\"full\",%s,operstate=\"up\",speed=\"10000\"}", n, node)
-        if (sort == 4) return sprintf("{name=\"storage-volume-%d.service\",state=\"%s\",type=\"notify\",%s}", n, states[n % 4 + 1], node)
-        return sprintf("{code=\"OK\",handler=\"/api/v1/volumes/%d\",method=\"GET\",pod=\"gateway-7c9f%d\",%s,zone=\"eu-west-1%s\"}", n, n % 17, node, n % 2 ? "a" : "b")
-    }
-    BEGIN {
-        split("idle user system iowait nice irq", modes, " ")
-        split("active inactive failed activating", states, " ")
-        split("1 8 128 16 64 48", sizes, " ")
-        split("goroutines cpu_seconds filesystem_avail_bytes network_receive_bytes systemd_unit_state http_requests", stems, " ")
-        for (family = 0; samples < most; family++) {
-            sort = family % 6
-            name = sprintf("node_%s_%d%s", stems[sort + 1], family, sort % 2 ? "_total" : "")
-            printf "# HELP %s Readings of %s, by \\\\proc\\\\%d.\n# TYPE %s %s\n", name, stems[sort + 1], family, name, sort % 2 ? "counter" : "gauge"
-            for (i = 0; i < sizes[sort + 1] && samples < most; i++)
-                printf "%s%s %s\n", name, sort ? labels(sort, i) : "", value(samples++)
-        }
-    }'
-}
-page 20000 > "$work/page.20000"
-page 200000 > "$work/page.200000"
+node_page 20000 >"$work/page.20000"
+node_page 200000 >"$work/page.200000"
 
 take_crates text_grammar
 add_program page_bench "text_grammar page_model label_sets exact_decimal" <<'END'

@@ -52,3 +52,22 @@ def answer(program, path) -> str:
     """What `check text` prints for a page."""
     with open(path, "rb") as source:
         return subprocess.run([program, "check", "text"], stdin=source, capture_output=True, text=True).stdout
+
+
+def least_times(runs, usual: int) -> dict:
+    """The least time of each run, a command's words and the path of its input; they take turns."""
+    least = {}
+    for _ in range(rounds(usual)):
+        for key, (words, path) in runs.items():
+            took = seconds(words, path)
+            least[key] = min(took, least.get(key, took))
+    return least
+
+
+def print_ratio(command: str, costs: dict[str, float], most: float) -> None:
+    """Prints what a sample of two pages costs, in nanoseconds, and the ratio of the first to the second."""
+    (first, one), (second, other) = costs.items()
+    print(
+        f"{command}: {one:.0f} ns a sample of {first}, {other:.0f} of {second};"
+        f" ratio {one / other:.2f}, at most {most:.2f}"
+    )
