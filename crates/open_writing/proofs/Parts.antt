@@ -17,7 +17,7 @@ use Rattle.page_model.specs.declared.page.Reading.{Reading}
 use Rattle.page_model.specs.declared.page.Family.{Family}
 use Rattle.page_model.specs.declared.format.Format.TheVariants.{OpenMetrics}
 use Rattle.page_model.specs.Readings.{key_name}
-use Rattle.open_writing.specs.Pieces.{label_then_comma, comma_then_label, sample_line, samples_text, buckets_text, quantiles_text, type_text, unit_text, help_text, readings_text, family_text}
+use Rattle.open_writing.specs.Pieces.{label_then_comma, comma_then_label, sample_line, samples_text, buckets_text, quantiles_text, type_text, unit_text, help_line_text, readings_text, family_text}
 use Rattle.open_writing.specs.Writing.{bare_sample, number_sample, bucket_sample, quantile_sample, total_samples, value_samples, open_label_text, more_labels_text, labels_text, sample_text, item_text, line_text, item_unless_empty, reading_samples, family_samples, family_items, page_items}
 
 -- a list that has an element is that and the rest
@@ -99,8 +99,8 @@ unfolding samples_text reading_samples
 reading_written kind family r = flat_map-append sample_line (value_samples kind family r.key.labels r.value) (number_sample (family ++ codes "_created") r.key.labels r.created)
 
 -- a family: its TYPE line, its unit, its text and its samples
-pub family_written : (f : Family) → family_text f ≡ type_text f.name f.kind ++ unit_text f.name f.unit ++ help_text f.name f.help ++ readings_text f.kind f.name f.readings
-unfolding family_text family_items type_text unit_text help_text
+pub family_written : (f : Family) → family_text f ≡ type_text f.name f.kind ++ unit_text f.name f.unit ++ help_line_text f.name f.help ++ readings_text f.kind f.name f.readings
+unfolding family_text family_items type_text unit_text help_line_text
 family_written f =
     let units = item_unless_empty (items.Unit f.name) f.unit in
     let helps = item_unless_empty (items.Help f.name) f.help in

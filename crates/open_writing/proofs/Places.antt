@@ -4,7 +4,7 @@ use Rattle.std.specs.List.{prefix_len}
 use Rattle.std.proofs.Math.Numerals.{one-add}
 use Rattle.label_sets.specs.declared.label.Label.{Label}
 use Rattle.label_sets.specs.Labels.{name_before, label_inserted}
-use Rattle.open_writing.specs.Pieces.{IsGap, label_of}
+use Rattle.open_writing.specs.Pieces.{IsLabelPlace, label_with}
 
 -- a label that doesn't stand behind one of this name
 abbrev pub stays_before : List ℕ → Label → Bool
@@ -20,5 +20,5 @@ inserted_split l (m ∷ ms) = by (name_before l.name m.name) refl (inserted_spli
     by false e ih = rw (e, one-add) (ap (λ ns. m ∷ ns) ih)
 
 -- so the place of a name is behind those
-pub gap_at : (name : List ℕ) (ls : List Label) → IsGap ls name (take (prefix_len (stays_before name) ls) ls) (drop (prefix_len (stays_before name) ls) ls)
-gap_at name ls value = inserted_split (label_of name value) ls
+pub gap_at : (name : List ℕ) (ls : List Label) → IsLabelPlace ls name (take (prefix_len (stays_before name) ls) ls) (drop (prefix_len (stays_before name) ls) ls)
+gap_at name ls value = inserted_split (label_with name value) ls

@@ -22,8 +22,8 @@ abbrev pub is_marked : ℕ → Bool
 is_marked c = c == 92 || c == 34 || c == 10
 
 -- a label of this name and value
-abbrev pub label_of : List ℕ → List ℕ → Label
-label_of name value = record { name = name; value = value }
+abbrev pub label_with : List ℕ → List ℕ → Label
+label_with name value = record { name = name; value = value }
 
 -- a label with a comma behind it, as each in front of another has it
 unfoldable pub label_then_comma : Label → List ℕ
@@ -34,8 +34,8 @@ unfoldable pub comma_then_label : Label → List ℕ
 comma_then_label l = codes "," ++ open_label_text l
 
 -- between these labels a label of this name has its place among all of them
-abbrev pub IsGap : List Label → List ℕ → List Label → List Label → Type 0
-IsGap labels name front back = (value : List ℕ) → label_inserted (label_of name value) labels ≡ front ++ label_of name value ∷ back
+abbrev pub IsLabelPlace : List Label → List ℕ → List Label → List Label → Type 0
+IsLabelPlace labels name front back = (value : List ℕ) → label_inserted (label_with name value) labels ≡ front ++ label_with name value ∷ back
 
 -- a sample as a line
 unfoldable pub sample_line : Sample → List ℕ
@@ -70,8 +70,8 @@ unfoldable pub unit_text : List ℕ → List ℕ → List ℕ
 unit_text name unit = line_unless_empty (items.Unit name) unit
 
 -- its HELP line, unless the text is empty
-unfoldable pub help_text : List ℕ → List ℕ → List ℕ
-help_text name text = line_unless_empty (items.Help name) text
+unfoldable pub help_line_text : List ℕ → List ℕ → List ℕ
+help_line_text name text = line_unless_empty (items.Help name) text
 
 -- the samples of readings as lines
 unfoldable pub readings_text : Kind → List ℕ → List Reading → List ℕ

@@ -39,16 +39,16 @@ abbrev pub number_sample : List ℕ → LabelSet → Option Number → List Samp
 number_sample name labels value = option_to_list (option_map (bare_sample name labels) value)
 
 -- labels with one more, whose value is a number
-abbrev pub with_number : List ℕ → Number → LabelSet → LabelSet
-with_number name n labels = label_inserted (record { name = name; value = number_text n }) labels
+abbrev pub with_number_label : List ℕ → Number → LabelSet → LabelSet
+with_number_label name n labels = label_inserted (record { name = name; value = number_text n }) labels
 
 -- a bucket with its upper bound
 abbrev pub bucket_sample : List ℕ → LabelSet → Bucket → Sample
-bucket_sample family labels b = bare_sample (family ++ codes "_bucket") (with_number (codes "le") b.le labels) (number_of b.count)
+bucket_sample family labels b = bare_sample (family ++ codes "_bucket") (with_number_label (codes "le") b.le labels) (number_of b.count)
 
 -- a quantile with its place
 abbrev pub quantile_sample : List ℕ → LabelSet → Quantile → Sample
-quantile_sample family labels q = bare_sample family (with_number (codes "quantile") (Finite q.at) labels) q.value
+quantile_sample family labels q = bare_sample family (with_number_label (codes "quantile") (Finite q.at) labels) q.value
 
 -- the suffix of a histogram's count
 abbrev pub count_suffix : Kind → List ℕ

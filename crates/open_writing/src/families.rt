@@ -4,7 +4,7 @@
 ghost use Rattle.std.specs.Prelude.{◌≡◌, fold};
 ghost use Rattle.std.specs.List.{flat_map};
 ghost use Rattle.page_model.specs.OpenItems.{kind_word as word_of};
-ghost use Rattle.open_writing.specs.Pieces.{family_text, help_text, readings_text, type_text, unit_text};
+ghost use Rattle.open_writing.specs.Pieces.{family_text, help_line_text, readings_text, type_text, unit_text};
 ghost use Rattle.open_writing.specs.Writing.{line_text, page_items};
 
 use crate::readings::emit_reading;
@@ -57,9 +57,9 @@ fn emit_unit<E: Emitter>(out: &mut E, name: &Name, unit: &Text)
 }
 
 /// Emits a HELP line, unless the text is empty.
-#[tactic(auto, unfolding(crate::specs::Writing::item_text, crate::specs::Pieces::help_text))]
+#[tactic(auto, unfolding(crate::specs::Writing::item_text, crate::specs::Pieces::help_line_text))]
 fn emit_help<E: Emitter>(out: &mut E, name: &Name, text: &Text)
-    ensures { out.new ≡ fold E.push out.old (help_text name.now text.now) }
+    ensures { out.new ≡ fold E.push out.old (help_line_text name.now text.now) }
 {
     if text.as_bytes().is_empty() {
         return;

@@ -4,7 +4,7 @@ ghost use Rattle.std.specs.Prelude.{◌≡◌, ◌≤◌, ◌∷◌, ◌++◌, f
 ghost use Rattle.std.specs.List.{flat_map, prefix_len};
 ghost use Rattle.label_sets.specs.Labels.{name_before};
 ghost use Rattle.exact_decimal.specs.Literals.{number_text};
-ghost use Rattle.open_writing.specs.Pieces.{IsGap, comma_then_label, label_of, label_then_comma};
+ghost use Rattle.open_writing.specs.Pieces.{IsLabelPlace, comma_then_label, label_with, label_then_comma};
 ghost use Rattle.open_writing.specs.Writing.{labels_text, open_label_text};
 
 use crate::strings::emit_escaped;
@@ -15,7 +15,7 @@ use text_emitter::Emitter;
 /// Emits a name and a value as a label.
 #[tactic(auto, unfolding(crate::specs::Writing::open_label_text))]
 fn emit_pair<E: Emitter>(out: &mut E, name: &[u8], value: &[u8])
-    ensures { out.new ≡ fold E.push out.old (open_label_text (label_of name.now value.now)) }
+    ensures { out.new ≡ fold E.push out.old (open_label_text (label_with name.now value.now)) }
 {
     out.put(name);
     out.put(b"=\"");
@@ -32,7 +32,7 @@ fn emit_label<E: Emitter>(out: &mut E, label: &Label)
 
 /// Emits a label whose value is a number.
 fn emit_number_label<E: Emitter>(out: &mut E, name: &[u8], number: &Number)
-    ensures { out.new ≡ fold E.push out.old (open_label_text (label_of name.now (number_text number.now))) }
+    ensures { out.new ≡ fold E.push out.old (open_label_text (label_with name.now (number_text number.now))) }
 {
     let mut literal = Buffer::new();
     exact_decimal::print_open(number, &mut literal);
@@ -105,7 +105,7 @@ impl<'a> Gap<'a> {
     /// The place of a label of this name.
     pub(crate) fn new(labels: &'a [Label], name: &'static [u8]) -> Gap<'a>
         ensures name { result.name.now ≡ name.now }
-        ensures gap { IsGap labels.now name.now result.front.now result.back.now }
+        ensures gap { IsLabelPlace labels.now name.now result.front.now result.back.now }
     {
         let (front, back) = labels.split_at(front_len(labels, name));
         Gap { front, name, back }
@@ -114,7 +114,7 @@ impl<'a> Gap<'a> {
     /// Emits the labels in braces, with one more in its place, whose value is a number.
     pub(crate) fn emit<E: Emitter>(&self, out: &mut E, number: &Number)
         ensures { out.new ≡ fold E.push out.old
-            (labels_text (self.now.front.now ++ label_of self.now.name.now (number_text number.now) ∷ self.now.back.now)) }
+            (labels_text (self.now.front.now ++ label_with self.now.name.now (number_text number.now) ∷ self.now.back.now)) }
     {
         out.put(b"{");
         emit_front(out, self.front);

@@ -3,7 +3,7 @@
 ghost use Rattle.std.specs.Prelude.{◌≡◌, ◌++◌, ◌∷◌, fold};
 ghost use Rattle.exact_decimal.specs.Literals.{number_text};
 ghost use Rattle.page_model.specs.SuffixNames.{suffix_bytes};
-ghost use Rattle.open_writing.specs.Pieces.{label_of, sample_line, samples_text};
+ghost use Rattle.open_writing.specs.Pieces.{label_with, sample_line, samples_text};
 ghost use Rattle.open_writing.specs.Writing.{bare_sample, number_sample};
 
 use crate::labels::{Gap, emit_labels};
@@ -64,7 +64,7 @@ pub(crate) fn emit_placed<E: Emitter>(
     number: &Number,
 )
     ensures { out.new ≡ fold E.push out.old (sample_line (bare_sample (name.now.family.now ++ suffix_bytes name.now.suffix)
-        (gap.now.front.now ++ label_of gap.now.name.now (number_text place.now) ∷ gap.now.back.now) number.now)) }
+        (gap.now.front.now ++ label_with gap.now.name.now (number_text place.now) ∷ gap.now.back.now) number.now)) }
 {
     out.put(name.family.as_bytes());
     out.put(name.suffix.as_str().as_bytes());

@@ -33,13 +33,14 @@ use Rattle.page_model.specs.declared.page.Reading.{Reading}
 use Rattle.page_model.specs.Written.{Setting, open_setting}
 use Rattle.page_model.specs.Rules.{is_histogram, is_bound, has_suffix, is_bucket, is_same_series, in_one_group, sample_group, threshold, quantile_at, follows_bucket, breaks_bucket_order, buckets_of_group, is_out_of_order}
 use Rattle.page_model.specs.Readings.{key_name, reading_labels}
-use Rattle.open_writing.specs.Writing.{bare_sample, number_sample, with_number, bucket_sample, quantile_sample, count_suffix, sum_suffix, total_samples, observations, value_samples, reading_samples}
+use Rattle.open_writing.specs.Writing.{bare_sample, number_sample, with_number_label, bucket_sample, quantile_sample, count_suffix, sum_suffix, total_samples, observations, value_samples, reading_samples}
 use Rattle.open_writing.specs.Forms.{IsFormedNumber, is_plain_value, is_u64, is_next_bucket, rise_to_infinity, is_one_place, IsFormedValue, IsFormedTime, IsFormedReading, label_sets_of}
 use Rattle.writing_laws.proofs.Turned.{all-append, all-map, all-of, all-weaker, none-any, Pairs, pairs-append, pairs-map, pairs-weaker, pairs-flat}
 use Rattle.writing_laws.proofs.GroupedSamples.{other_group, written_threshold}
 use Rattle.writing_laws.proofs.BucketRules.{follows}
 use Rattle.writing_laws.proofs.ValuesBack.{suffix_is}
-use Rattle.writing_laws.proofs.Fair.{and_first, and_last, name_test, IsFair, IsFairBucket, IsFairQuantile, fair_of, fair_reading, written_place}
+use Rattle.writing_laws.proofs.FairParts.{and_first, and_last, name_test, IsFair}
+use Rattle.writing_laws.proofs.Fair.{IsFairBucket, IsFairQuantile, fair_of, fair_reading, written_place}
 
 -- ---- numbers
 
@@ -171,7 +172,7 @@ module _ (limit : ℕ) (family : List ℕ) where
 
   bucket_differs : (labels : LabelSet) (b c : Bucket) → has_name labels (codes "le") ≡ false → Rise b c → Differ (bucket_sample family labels b) (bucket_sample family labels c)
   bucket_differs labels b c free r =
-      and_last _ _ (other_group (with_number (codes "le") b.le labels) (with_number (codes "le") c.le labels) (λ e.
+      and_last _ _ (other_group (with_number_label (codes "le") b.le labels) (with_number_label (codes "le") c.le labels) (λ e.
       let read : threshold (bucket_sample family labels b) ≡ threshold (bucket_sample family labels c) = ap (λ ls. threshold (bare_sample family ls (number_of 0))) e in
       let one : b.le ≡ c.le = sym (written_threshold family labels b free r.first.0) ∙ read ∙ written_threshold family labels c free r.second.0 in
       absurd (let k : false ≡ true = sym (not_itself b.le) ∙ ap (less b.le) one ∙ r.bound in cc)))
@@ -246,7 +247,7 @@ module _ (limit : ℕ) (family : List ℕ) where
       two p f e =
           let first = written_place limit family labels q free h.0.0 in
           let second = written_place limit family labels p free f.0 in (
-            and_last _ _ (other_group (with_number (codes "quantile") (Finite q.at) labels) (with_number (codes "quantile") (Finite p.at) labels) (λ k.
+            and_last _ _ (other_group (with_number_label (codes "quantile") (Finite q.at) labels) (with_number_label (codes "quantile") (Finite p.at) labels) (λ k.
                 let read : quantile_at (quantile_sample family labels q) ≡ quantile_at (quantile_sample family labels p) = ap (λ ls. quantile_at (bare_sample family ls (number_of 0))) k in
                 let one : Finite q.at ≡ Finite p.at = sym first ∙ read ∙ second in
                 absurd (let g : false ≡ true = sym e ∙ ap (same (Finite q.at)) (sym one) ∙ same_itself q.at in cc))),

@@ -26,13 +26,14 @@ use Rattle.page_model.specs.Written.{Setting, open_setting}
 use Rattle.page_model.proofs.Laws.{label_sets_decide}
 use Rattle.page_model.specs.Owners.{Owned, kind_of, samples_of, group_of}
 use Rattle.page_model.specs.Rules.{is_histogram, is_bucket, is_count, is_up, is_bound, in_one_group, threshold, buckets_of_group, infinite_bucket, is_complete_at, is_incomplete, leaves_incomplete}
-use Rattle.open_writing.specs.Writing.{bare_sample, number_sample, with_number, bucket_sample, count_suffix, sum_suffix, total_samples, observations, value_samples, reading_samples}
+use Rattle.open_writing.specs.Writing.{bare_sample, number_sample, with_number_label, bucket_sample, count_suffix, sum_suffix, total_samples, observations, value_samples, reading_samples}
 use Rattle.open_writing.specs.Forms.{IsFormedNumber, is_plain_value, is_u64, is_next_bucket, rise_to_infinity, IsFormedValue, IsFormedReading, label_sets_of}
 use Rattle.writing_laws.proofs.Turned.{turn, all-append, all-map, all-of, all-weaker, all-turn, all-flat, Pairs, any-front, some-turn, any-flat, square, any-behind}
 use Rattle.writing_laws.proofs.Blocks.{GoesOn}
 use Rattle.writing_laws.proofs.GroupedSamples.{same_group, written_threshold}
 use Rattle.writing_laws.proofs.ValuesBack.{suffix_is}
-use Rattle.writing_laws.proofs.Fair.{or_none, and_first, and_last, without_absent, NoPlace, no_place_of, IsFair, fair_reading}
+use Rattle.writing_laws.proofs.FairParts.{or_none, and_first, and_last, without_absent, NoPlace, IsFair}
+use Rattle.writing_laws.proofs.Fair.{no_place_of, fair_reading}
 use Rattle.writing_laws.proofs.Apart.{HasTotals, totals_of, gauge_totals_of, sets_differ}
 
 -- ---- what is found among what is kept
@@ -100,7 +101,7 @@ module _ (limit : ℕ) (family : List ℕ) where
   st = open_setting treatments.Written limit
 
   bucket_is : (labels : LabelSet) (b : Bucket) → is_bucket family (bucket_sample family labels b) ≡ true
-  bucket_is labels b = suffix_is family (codes "_bucket") (codes "_bucket") (with_number (codes "le") b.le labels) (number_of b.count)
+  bucket_is labels b = suffix_is family (codes "_bucket") (codes "_bucket") (with_number_label (codes "le") b.le labels) (number_of b.count)
 
   -- ---- one reading
 
@@ -174,7 +175,7 @@ module _ (limit : ℕ) (family : List ℕ) where
       record {
         ups = all-append (HasUp n) (front ++ totals) end (all-append (HasUp n) front totals (buckets_up n labels bs free formed (unbounded bs rise)) (totals_up kind labels bs sum w)) (created_up n labels created);
         counts = all-append (HasCount n) (front ++ totals) end
-            (all-append (HasCount n) front totals (all-map (HasCount n) (bucket_sample family labels) bs (all-of _ (λ (b : Bucket). no_count n (codes "_bucket") (with_number (codes "le") b.le labels) (number_of b.count) refl refl) bs)) (totals_count kind labels bs sum e f))
+            (all-append (HasCount n) front totals (all-map (HasCount n) (bucket_sample family labels) bs (all-of _ (λ (b : Bucket). no_count n (codes "_bucket") (with_number_label (codes "le") b.le labels) (number_of b.count) refl refl) bs)) (totals_count kind labels bs sum e f))
             (created_count n labels created);
         some = any-front _ (front ++ totals) end (any-front _ front totals (some_up labels bs free formed rise));
       }

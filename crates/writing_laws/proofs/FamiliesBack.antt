@@ -33,7 +33,8 @@ use Rattle.writing_laws.proofs.BlocksBack as lines
 use Rattle.writing_laws.proofs.BlocksBack.{Lines, owned_of, lines_in, said_by, names_back, said_back}
 use Rattle.writing_laws.proofs.ReadingsBack as parts
 use Rattle.writing_laws.proofs.ReadingsBack.{Part, samples_in, samples_of_all, AllShare, labels_back, own_back, GiveReadings, readings_back}
-use Rattle.writing_laws.proofs.Fair.{IsFair, fair_reading}
+use Rattle.writing_laws.proofs.FairParts.{IsFair}
+use Rattle.writing_laws.proofs.Fair.{fair_reading}
 use Rattle.writing_laws.proofs.ValuesRead.{value_back}
 use Rattle.writing_laws.proofs.PagesFree.{reading_filled, owned_page}
 use Rattle.writing_laws.proofs.Heads.{descriptors, family_parts, one_more}

@@ -20,7 +20,7 @@ use Rattle.page_model.specs.Rules.{is_interleaved, is_duplicate, is_out_of_order
 use Rattle.writing_laws.proofs.Turned.{turn, all-weaker, Each, any-map}
 use Rattle.writing_laws.proofs.Blocks.{own, own_name, GoesOn, Fit, block}
 use Rattle.writing_laws.proofs.FamilyBlocks.{IsFree, AreFree}
-use Rattle.writing_laws.proofs.Fair.{or_none, and_first, and_last, IsFair}
+use Rattle.writing_laws.proofs.FairParts.{or_none, and_first, and_last, IsFair}
 use Rattle.writing_laws.proofs.Together.{NotBack}
 use Rattle.writing_laws.proofs.Apart.{IsApart, OrderOf, Differ, in_order}
 

@@ -10,6 +10,7 @@ pub mod BucketRules
 pub mod BlocksBack
 pub mod ReadingsBack
 pub mod ValuesBack
+pub mod FairParts
 pub mod Fair
 pub mod Together
 pub mod Apart

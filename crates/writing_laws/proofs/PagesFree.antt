@@ -38,7 +38,8 @@ use Rattle.writing_laws.proofs.LineRules.{HasText, HasLabelSet}
 use Rattle.writing_laws.proofs.TextOfItems.{IsWritableLine, AreWritableLines}
 use Rattle.writing_laws.proofs.Blocks.{own, block, MayBegin}
 use Rattle.writing_laws.proofs.FamilyBlocks.{not_behind_eof, no_eof_behind, samples_are_free}
-use Rattle.writing_laws.proofs.Fair.{or_none, and_first, IsFair, fair_reading}
+use Rattle.writing_laws.proofs.FairParts.{or_none, and_first, IsFair}
+use Rattle.writing_laws.proofs.Fair.{fair_reading}
 use Rattle.writing_laws.proofs.Together.{NotBack, IsRun, samples_together}
 use Rattle.writing_laws.proofs.Apart.{IsApart, family_pairs}
 use Rattle.writing_laws.proofs.FamilyFree.{samples_counted, HasFair, grp, fit_fair, samples_here, family_free}

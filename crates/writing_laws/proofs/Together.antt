@@ -9,7 +9,7 @@ use Rattle.label_sets.specs.Labels.{label_sets_eq}
 use Rattle.page_model.proofs.Laws.{label_sets_decide}
 use Rattle.open_writing.specs.Forms.{stand_together}
 use Rattle.writing_laws.proofs.Turned.{turn, Each, all-map, turn-mapped, each-mapped, each-append, map-append}
-use Rattle.writing_laws.proofs.Fair.{or_none}
+use Rattle.writing_laws.proofs.FairParts.{or_none}
 
 -- the nearest group is this one, or no other above it is
 abbrev pub NotBack : List LabelSet → LabelSet → Type 0

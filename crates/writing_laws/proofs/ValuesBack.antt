@@ -20,7 +20,7 @@ use Rattle.page_model.specs.declared.page.Value.TheVariants as values
 use Rattle.page_model.specs.Suffixes.{suffix_of}
 use Rattle.page_model.specs.Rules.{has_suffix, is_bucket}
 use Rattle.page_model.specs.Readings.{value_with, either_value, bucket_of, buckets_of, sum_of, value_of}
-use Rattle.open_writing.specs.Writing.{bare_sample, number_sample, with_number, bucket_sample, total_samples, observations}
+use Rattle.open_writing.specs.Writing.{bare_sample, number_sample, with_number_label, bucket_sample, total_samples, observations}
 use Rattle.open_writing.specs.Forms.{IsFormedNumber}
 use Rattle.writing_laws.proofs.GroupedSamples.{written_threshold}
 use Rattle.writing_laws.proofs.BucketRules.{suffix_read}
@@ -94,7 +94,7 @@ plain_back family labels n = rw (no_suffix family [] labels n) refl
 
 pub buckets_lack : (family other : List ℕ) (labels : LabelSet) (bs : List Bucket) → bytes_eq (codes "_bucket") other ≡ false → Lacks family other (map (bucket_sample family labels) bs)
 buckets_lack family other labels [] e = tt
-buckets_lack family other labels (b ∷ bs) e = (suffix_is family (codes "_bucket") other (with_number (codes "le") b.le labels) (number_of b.count) ∙ e, buckets_lack family other labels bs e)
+buckets_lack family other labels (b ∷ bs) e = (suffix_is family (codes "_bucket") other (with_number_label (codes "le") b.le labels) (number_of b.count) ∙ e, buckets_lack family other labels bs e)
 
 -- each bound is in its one form, and each count below 2 ^ 64
 abbrev pub AreFormed : List Bucket → Type 0
@@ -110,7 +110,7 @@ one_bucket family labels b free formed small =
 buckets_kept : (family : List ℕ) (labels : LabelSet) (bs : List Bucket) → has_name labels (codes "le") ≡ false → AreFormed bs → map bucket_of (filter (is_bucket family) (map (bucket_sample family labels) bs)) ≡ bs
 buckets_kept family labels [] free h = refl
 buckets_kept family labels (b ∷ bs) free h =
-    let here : is_bucket family (bucket_sample family labels b) ≡ true = suffix_is family (codes "_bucket") (codes "_bucket") (with_number (codes "le") b.le labels) (number_of b.count) in
+    let here : is_bucket family (bucket_sample family labels b) ≡ true = suffix_is family (codes "_bucket") (codes "_bucket") (with_number_label (codes "le") b.le labels) (number_of b.count) in
     rw here (ap (λ c. c ∷ map bucket_of (filter (is_bucket family) (map (bucket_sample family labels) bs))) (one_bucket family labels b free h.0.0 h.0.1) ∙ ap (λ cs. b ∷ cs) (buckets_kept family labels bs free h.1))
 
 -- the buckets that samples say, behind which none is another

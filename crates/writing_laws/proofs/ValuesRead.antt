@@ -24,7 +24,7 @@ use Rattle.page_model.specs.declared.page.Value.{Value}
 use Rattle.page_model.specs.declared.page.Value.TheVariants as values
 use Rattle.page_model.specs.Rules.{has_suffix}
 use Rattle.page_model.specs.Readings.{value_with, either_value, buckets_of, placed_quantile, quantile_of, quantiles_of, sum_of, is_measured, value_of}
-use Rattle.open_writing.specs.Writing.{bare_sample, number_sample, with_number, bucket_sample, quantile_sample, total_samples, observations, value_samples}
+use Rattle.open_writing.specs.Writing.{bare_sample, number_sample, with_number_label, bucket_sample, quantile_sample, total_samples, observations, value_samples}
 use Rattle.open_writing.specs.Forms.{IsFormedNumber, is_plain_value, is_u64_option, is_some_summary, IsFormedValue, IsFormedTime}
 use Rattle.writing_laws.proofs.Turned.{any-front}
 use Rattle.exact_decimal.proofs.Laws.{whole_back}
@@ -93,13 +93,13 @@ module _ (family : List ℕ) (labels : LabelSet) where
 
   quantiles_lack : (other : List ℕ) (qs : List Quantile) → bytes_eq [] other ≡ false → Lacks family other (map (quantile_sample family labels) qs)
   quantiles_lack other [] e = tt
-  quantiles_lack other (q ∷ qs) e = (no_suffix family other (with_number (codes "quantile") (Finite q.at) labels) q.value ∙ e, quantiles_lack other qs e)
+  quantiles_lack other (q ∷ qs) e = (no_suffix family other (with_number_label (codes "quantile") (Finite q.at) labels) q.value ∙ e, quantiles_lack other qs e)
 
   quantiles_kept : (limit : ℕ) (qs : List Quantile) → has_name labels (codes "quantile") ≡ false → AllByRecursion (IsFairQuantile limit family) qs
       → filter_map quantile_of (filter (has_suffix family []) (map (quantile_sample family labels) qs)) ≡ qs
   quantiles_kept limit [] free h = refl
   quantiles_kept limit (q ∷ qs) free h =
-      let own : has_suffix family [] (quantile_sample family labels q) ≡ true = no_suffix family [] (with_number (codes "quantile") (Finite q.at) labels) q.value in
+      let own : has_suffix family [] (quantile_sample family labels q) ≡ true = no_suffix family [] (with_number_label (codes "quantile") (Finite q.at) labels) q.value in
       let one : quantile_of (quantile_sample family labels q) ≡ Some q = ap (λ n. placed_quantile n q.value) (written_place limit family labels q free h.0.0) in
       let rest = filter_map quantile_of (filter (has_suffix family []) (map (quantile_sample family labels) qs)) in
       rw own (ap (λ o. cons_option o rest) one ∙ ap (λ ps. q ∷ ps) (quantiles_kept limit qs free h.1))
@@ -126,7 +126,7 @@ module _ (family : List ℕ) (labels : LabelSet) where
       (number_lacks family (codes "_created") other labels created g)
 
   measured : (qs : List Quantile) (count : Option ℕ) (sum : Option Number) → is_some_summary qs count sum ≡ true → list_any (is_measured family) (map (quantile_sample family labels) qs ++ (counted count ++ summed sum)) ≡ true
-  measured (q ∷ qs) count sum h = any_first (is_measured family) (quantile_sample family labels q) _ (ap not (no_suffix family (codes "_created") (with_number (codes "quantile") (Finite q.at) labels) q.value))
+  measured (q ∷ qs) count sum h = any_first (is_measured family) (quantile_sample family labels q) _ (ap not (no_suffix family (codes "_created") (with_number_label (codes "quantile") (Finite q.at) labels) q.value))
   measured [] (Some n) sum h = any_first (is_measured family) (bare_sample (family ++ codes "_count") labels (number_of n)) (summed sum) (ap not (suffix_is family (codes "_count") (codes "_created") labels (number_of n)))
   measured [] None (Some n) h = any_first (is_measured family) (bare_sample (family ++ codes "_sum") labels n) [] (ap not (suffix_is family (codes "_sum") (codes "_created") labels n))
   measured [] None None h = absurd (let k : false ≡ true = h in cc)
