@@ -6,18 +6,19 @@ set -eu
 samples=${1:-20000}
 . "$(dirname "$0")/workspace.sh"
 take_crates open_writing openmetrics_grammar target_core otlp_json
-add_program time_writing "open_writing openmetrics_grammar target_core otlp_json page_model label_sets" <<'END'
+add_program time_writing "open_writing openmetrics_grammar target_core bridge_ports otlp_json page_model label_sets" <<'END'
 //! Reads a page of OpenMetrics, and writes it, or the JSON of its event, as often as asked. With no turns it
 //! puts the written text on the output.
 #![tactic(auto)]
-use label_sets::Text;
+use bridge_ports::Address;
+use label_sets::{Bytes, Text};
 use openmetrics_grammar::OpenPage;
-use page_model::{Outcome, Page, PageFault, Treatment};
+use page_model::{Event, Outcome, Page, PageFault, Treatment};
 use std::alloc::{AllocError, Global};
 use std::env;
 use std::io;
 use std::io::Write;
-use target_core::{Target, event_request};
+use target_core::{Target, TargetState};
 
 const PIECE: usize = 65_536;
 
@@ -33,19 +34,21 @@ fn read_page(alloc: Global, bytes: &[u8]) -> Result<Page, PageFault> {
 }
 
 fn target(alloc: Global) -> Result<Target, AllocError> {
-    Ok(Target {
-        job: Text::from_str(alloc, "j")?,
-        instance: Text::from_str(alloc, "h:1")?,
-        host: Text::from_str(alloc, "h")?,
+    let job = Text::from_str(alloc, "j")?;
+    let instance = Text::from_str(alloc, "h:1")?;
+    let address = Address {
+        host: Bytes::from_slice(alloc, "h".as_bytes())?,
         port: 1,
-    })
+        path: Bytes::from_slice(alloc, b"/metrics")?,
+    };
+    Ok(Target::new(job, instance, address, false))
 }
 
 /// Writes the page so many times, and gives how many bytes that were.
 fn written(alloc: Global, page: &Page, turns: u32) -> Result<u64, AllocError> {
     let mut bytes = 0u64;
     for _ in 0..turns {
-        let mut out = Vec::with_capacity(alloc, page.samples as usize * 200)?;
+        let mut out = Vec::with_capacity(alloc, page.samples() as usize * 200)?;
         open_writing::write(page, &mut out)?;
         bytes = bytes.wrapping_add(out.len() as u64);
     }
@@ -54,8 +57,13 @@ fn written(alloc: Global, page: &Page, turns: u32) -> Result<u64, AllocError> {
 
 /// Writes the JSON of the page's event so many times, and gives how many bytes that were.
 fn converted(alloc: Global, page: Page, turns: u32) -> Result<u64, AllocError> {
-    let samples = page.samples as usize;
-    let request = event_request(alloc, &target(alloc)?, 1000, &Outcome::Page(page))?;
+    let samples = page.samples() as usize;
+    let mut state = TargetState::new(alloc, target(alloc)?, 0)?;
+    let event = Event {
+        reading: 1000,
+        outcome: Outcome::Page(page),
+    };
+    let request = state.step(alloc, event)?;
     let mut bytes = 0u64;
     for _ in 0..turns {
         let mut out = Vec::with_capacity(alloc, samples * 400)?;

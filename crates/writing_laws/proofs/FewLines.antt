@@ -39,19 +39,19 @@ use Rattle.writing_laws.specs.WritingLaws.{WritesFewLines}
 -- ---- sums
 
 -- the sum of what elements come to
-abbrev total : {A : Type 0} → (A → ℕ) → List A → ℕ
+abbrev pub total : {A : Type 0} → (A → ℕ) → List A → ℕ
 total f [] = 0
 total f (x ∷ xs) = f x + total f xs
 
-total_is : {A : Type 0} (f : A → ℕ) (xs : List A) → sum_by f xs ≡ total f xs
+pub total_is : {A : Type 0} (f : A → ℕ) (xs : List A) → sum_by f xs ≡ total f xs
 total_is f [] = refl
 total_is f (x ∷ xs) = sum_by-cons f x xs ∙ ap (λ n. f x + n) (total_is f xs)
 
-total-le : {A : Type 0} (f g : A → ℕ) → ((x : A) → f x ≤ g x) → (xs : List A) → total f xs ≤ total g xs
+pub total-le : {A : Type 0} (f g : A → ℕ) → ((x : A) → f x ≤ g x) → (xs : List A) → total f xs ≤ total g xs
 total-le f g le [] = omega arith
 total-le f g le (x ∷ xs) = let here = le x in let rest = total-le f g le xs in omega (arith, here, rest)
 
-total-append : {A : Type 0} (f : A → ℕ) (xs ys : List A) → total f (xs ++ ys) ≡ total f xs + total f ys
+pub total-append : {A : Type 0} (f : A → ℕ) (xs ys : List A) → total f (xs ++ ys) ≡ total f xs + total f ys
 total-append f [] ys = omega arith
 total-append f (x ∷ xs) ys = let rest = total-append f xs ys in omega (arith, rest)
 
@@ -63,11 +63,11 @@ total-reverse f (x ∷ xs) =
     let rest = total-reverse f xs in
     omega (arith, turned, parts, rest)
 
-total-map : {A B : Type 0} (f : B → ℕ) (g : A → B) (xs : List A) → total f (map g xs) ≡ total (λ x. f (g x)) xs
+pub total-map : {A B : Type 0} (f : B → ℕ) (g : A → B) (xs : List A) → total f (map g xs) ≡ total (λ x. f (g x)) xs
 total-map f g [] = refl
 total-map f g (x ∷ xs) = ap (λ n. f (g x) + n) (total-map f g xs)
 
-total-both : {A : Type 0} (f g : A → ℕ) (xs : List A) → total (λ x. f x + g x) xs ≡ total f xs + total g xs
+pub total-both : {A : Type 0} (f g : A → ℕ) (xs : List A) → total (λ x. f x + g x) xs ≡ total f xs + total g xs
 total-both f g [] = omega arith
 total-both f g (x ∷ xs) = let rest = total-both f g xs in omega (arith, rest)
 
@@ -76,7 +76,7 @@ total-none [] = refl
 total-none (x ∷ xs) = let rest = total-none xs in omega (arith, rest)
 
 -- sums of sums, in either order
-total-twice : {A B : Type 0} (g : A → B → ℕ) (xs : List A) (ys : List B) → total (λ x. total (g x) ys) xs ≡ total (λ y. total (λ x. g x y) xs) ys
+pub total-twice : {A B : Type 0} (g : A → B → ℕ) (xs : List A) (ys : List B) → total (λ x. total (g x) ys) xs ≡ total (λ y. total (λ x. g x y) xs) ys
 total-twice g [] ys = sym (total-none ys)
 total-twice g (x ∷ xs) ys =
     let rest = total-twice g xs ys in
@@ -105,14 +105,14 @@ total-ones (x ∷ xs) = let rest = total-ones xs in omega (arith, rest)
 
 -- ---- an element is one of those that differ
 
-nothing_else : {A : Type 0} (p : A → Bool) (k : ℕ) (ls : List A) → AllByRecursion (λ l. p l ≡ false) ls → total (λ l. cond (p l) k 0) ls ≡ 0
+pub nothing_else : {A : Type 0} (p : A → Bool) (k : ℕ) (ls : List A) → AllByRecursion (λ l. p l ≡ false) ls → total (λ l. cond (p l) k 0) ls ≡ 0
 nothing_else p k [] h = refl
 nothing_else p k (l ∷ ls) h =
     let here : ◌≡◌ {A = ℕ} (cond (p l) k 0) 0 = rw (h.0) refl in
     let rest = nothing_else p k ls h.1 in
     omega (arith, here, rest)
 
-at_most_one : {A : Type 0} (eq : A → A → Bool) → ((a b : A) → eq a b ≡ true → a ≡ b) → (y : A) (k : ℕ) (ls : List A) → IsDistinct eq ls → total (λ l. cond (eq y l) k 0) ls ≤ k
+pub at_most_one : {A : Type 0} (eq : A → A → Bool) → ((a b : A) → eq a b ≡ true → a ≡ b) → (y : A) (k : ℕ) (ls : List A) → IsDistinct eq ls → total (λ l. cond (eq y l) k 0) ls ≤ k
 unfolding IsDistinct
 at_most_one eq same y k [] d = omega arith
 at_most_one eq same y k (l ∷ ls) d = go (eq y l) refl (at_most_one eq same y k ls d.1)
@@ -131,7 +131,7 @@ passes p (x ∷ xs) = go (p x) refl (passes p xs)
     go true e ih = (e, ih)
     go false e ih = ih
 
-firsts_distinct : {A : Type 0} (eq : A → A → Bool) (xs : List A) → IsDistinct eq (first_of_each eq xs)
+pub firsts_distinct : {A : Type 0} (eq : A → A → Bool) (xs : List A) → IsDistinct eq (first_of_each eq xs)
 unfolding IsDistinct
 firsts_distinct eq [] = tt
 firsts_distinct eq (x ∷ xs) = (others (filter (λ y. not (eq x y)) (first_of_each eq xs)) (passes (λ y. not (eq x y)) (first_of_each eq xs)), distinct_kept eq (λ y. not (eq x y)) (first_of_each eq xs) (firsts_distinct eq xs))
@@ -152,7 +152,7 @@ parts_within eq same f xs ls d =
 same_sets : (a b : LabelSet) → label_sets_eq a b ≡ true → a ≡ b
 same_sets a b e = (label_sets_decide a b).0 e
 
-same_bytes : (a b : List ℕ) → bytes_eq a b ≡ true → a ≡ b
+pub same_bytes : (a b : List ℕ) → bytes_eq a b ≡ true → a ≡ b
 same_bytes a b e = (bytes_decides a b).0 e
 
 -- ---- one reading

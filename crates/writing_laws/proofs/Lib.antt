@@ -1,3 +1,4 @@
+pub mod Laws
 pub mod Turned
 pub mod Spelled
 pub mod LineBytes
@@ -23,3 +24,14 @@ pub mod FamiliesBack
 pub mod ReadBack
 pub mod ThinnerPages
 pub mod FewLines
+pub mod ReadTexts
+pub mod ReadLabels
+pub mod ReadItems
+pub mod ReadFamilies
+pub mod ReadParts
+pub mod ReadValues
+pub mod ReadSummaries
+pub mod ReadPages
+pub mod ShortLines
+pub mod ShortPages
+pub mod ShortFamilies

@@ -10,7 +10,9 @@ use Rattle.label_sets.specs.declared.kind.Kind.{Kind}
 use Rattle.label_sets.specs.declared.label_set.LabelSet.{LabelSet}
 use Rattle.label_sets.specs.Lists.{rest_while}
 use Rattle.label_sets.specs.Labels.{label_sets_eq}
+use Rattle.page_model.specs.declared.format.Format.{Format}
 use Rattle.page_model.specs.declared.format.Format.TheVariants.{OpenMetrics}
+use Rattle.page_model.specs.declared.format.Treatment.{Treatment}
 use Rattle.page_model.specs.declared.format.Treatment.TheVariants as treatments
 use Rattle.page_model.specs.declared.item.Exemplar.{Exemplar}
 use Rattle.page_model.specs.declared.item.Item.{Item}
@@ -41,18 +43,18 @@ some_hold R P carry (x ∷ xs) (y ∷ ys) (inl s) h = (carry x y s.0 h.0, some_h
 some_hold R P carry (x ∷ xs) (y ∷ ys) (inr s) h = some_hold R P carry xs (y ∷ ys) s h.1
 
 -- some of what they come to are some of what all come to
-some_mapped : {A B : Type 0} (R : A → A → Type 0) (f : A → B) → ((x y : A) → R x y → f y ≡ f x) → (xs ys : List A) → AreSomeOf R xs ys → AreSomeOf (λ a b. b ≡ a) (map f xs) (map f ys)
+pub some_mapped : {A B : Type 0} (R : A → A → Type 0) (f : A → B) → ((x y : A) → R x y → f y ≡ f x) → (xs ys : List A) → AreSomeOf R xs ys → AreSomeOf (λ a b. b ≡ a) (map f xs) (map f ys)
 some_mapped R f same [] [] s = tt
 some_mapped R f same [] (y ∷ ys) s = s
 some_mapped R f same (x ∷ xs) [] s = some_mapped R f same xs [] s
 some_mapped R f same (x ∷ xs) (y ∷ ys) (inl s) = inl (same x y s.0, some_mapped R f same xs ys s.1)
 some_mapped R f same (x ∷ xs) (y ∷ ys) (inr s) = inr (some_mapped R f same xs (y ∷ ys) s)
 
-some_all : {A : Type 0} (P : A → Type 0) (xs ys : List A) → AreSomeOf (λ a b. b ≡ a) xs ys → AllByRecursion P xs → AllByRecursion P ys
+pub some_all : {A : Type 0} (P : A → Type 0) (xs ys : List A) → AreSomeOf (λ a b. b ≡ a) xs ys → AllByRecursion P xs → AllByRecursion P ys
 some_all P xs ys s h = some_hold (λ a b. b ≡ a) P (λ x y e p. subst P (sym e) p) xs ys s h
 
 -- elements that differ still do
-some_distinct : {A : Type 0} (eq : A → A → Bool) (xs ys : List A) → AreSomeOf (λ a b. b ≡ a) xs ys → IsDistinct eq xs → IsDistinct eq ys
+pub some_distinct : {A : Type 0} (eq : A → A → Bool) (xs ys : List A) → AreSomeOf (λ a b. b ≡ a) xs ys → IsDistinct eq xs → IsDistinct eq ys
 unfolding IsDistinct
 some_distinct eq [] [] s d = tt
 some_distinct eq [] (y ∷ ys) s d = absurd s
@@ -77,13 +79,13 @@ none_left p (x ∷ xs) (y ∷ ys) (inr s) e = go (p x) e (none_left p xs (y ∷ 
     go true k ih = absurd (let g : true ≡ false = k in cc)
     go false k ih = ih k
 
-rest_passed : {A : Type 0} (p : A → Bool) (x : A) (xs : List A) → p x ≡ true → rest_while p (x ∷ xs) ≡ rest_while p xs
+pub rest_passed : {A : Type 0} (p : A → Bool) (x : A) (xs : List A) → p x ≡ true → rest_while p (x ∷ xs) ≡ rest_while p xs
 rest_passed p x xs e = rw (e, one-add) refl
 
-rest_stopped : {A : Type 0} (p : A → Bool) (x : A) (xs : List A) → p x ≡ false → rest_while p (x ∷ xs) ≡ x ∷ xs
+pub rest_stopped : {A : Type 0} (p : A → Bool) (x : A) (xs : List A) → p x ≡ false → rest_while p (x ∷ xs) ≡ x ∷ xs
 rest_stopped p x xs e = rw e refl
 
-none_in_rest : {A : Type 0} (p : A → Bool) (xs : List A) → list_any p xs ≡ false → list_any p (rest_while p xs) ≡ false
+pub none_in_rest : {A : Type 0} (p : A → Bool) (xs : List A) → list_any p xs ≡ false → list_any p (rest_while p xs) ≡ false
 none_in_rest p [] e = refl
 none_in_rest p (x ∷ xs) e = go (p x) refl e
   where
@@ -107,7 +109,7 @@ rest_left p (x ∷ xs) (y ∷ ys) (inr s) e = go (p x) refl (rest_left p xs (y �
     go true f ih = ih (ap (list_any p) (sym (rest_passed p x xs f)) ∙ e)
     go false f ih = none_in_rest p (y ∷ ys) (none_left p (x ∷ xs) (y ∷ ys) (inr s) (ap (list_any p) (sym (rest_stopped p x xs f)) ∙ e))
 
-some_together : (gs hs : List LabelSet) → AreSomeOf (λ a b. b ≡ a) gs hs → stand_together gs ≡ true → stand_together hs ≡ true
+pub some_together : (gs hs : List LabelSet) → AreSomeOf (λ a b. b ≡ a) gs hs → stand_together gs ≡ true → stand_together hs ≡ true
 unfolding stand_together
 some_together [] [] s h = refl
 some_together [] (y ∷ ys) s h = absurd s
@@ -140,27 +142,27 @@ bare_thinner r q t b = record { no_stamp = go t.stamp; no_exemplars = no_exempla
     go (inr e) = e
 
 -- a formed reading, by its parts
-of_parts : (kind : Kind) (family unit : List ℕ) (r q : Reading) → IsFormedReading OpenMetrics treatments.Written kind family unit r → q.key ≡ r.key → q.value ≡ r.value → q.created ≡ r.created → reading_samples kind family q ≡ reading_samples kind family r
-    → IsFormedReading OpenMetrics treatments.Written kind family unit q
-of_parts kind family unit r q f key value created samples = record {
-  key = subst (λ k. k ≡ record { name = key_name OpenMetrics kind family; kind = kind; unit = unit; labels = k.labels }) (sym key) f.key;
+of_parts : (form : Format) (treatment : Treatment) (kind : Kind) (family unit : List ℕ) (r q : Reading) → IsFormedReading form treatment kind family unit r → q.key ≡ r.key → q.value ≡ r.value → q.created ≡ r.created → reading_samples kind family q ≡ reading_samples kind family r
+    → IsFormedReading form treatment kind family unit q
+of_parts form treatment kind family unit r q f key value created samples = record {
+  key = subst (λ k. k ≡ record { name = key_name form kind family; kind = kind; unit = unit; labels = k.labels }) (sym key) f.key;
   label_set = subst (λ k. IsLabelSet k.labels) (sym key) f.label_set;
   labels = subst (λ k. IsTrue (list_all is_text_label k.labels)) (sym key) f.labels;
-  own_labels = subst (λ k. IsTrue (list_all (is_own_label treatments.Written) k.labels)) (sym key) f.own_labels;
-  few_labels = subst (λ ss. All (λ (s : Sample). length s.labels ≤ label_limit treatments.Written) ss) (sym samples) f.few_labels;
-  value = subst (λ k. IsFormedValue OpenMetrics treatments.Written kind family k.labels q.value) (sym key) (subst (IsFormedValue OpenMetrics treatments.Written kind family r.key.labels) (sym value) f.value);
-  created = subst (IsFormedTime OpenMetrics kind) (sym created) f.created;
+  own_labels = subst (λ k. IsTrue (list_all (is_own_label treatment) k.labels)) (sym key) f.own_labels;
+  few_labels = subst (λ ss. All (λ (s : Sample). length s.labels ≤ label_limit treatment) ss) (sym samples) f.few_labels;
+  value = subst (λ k. IsFormedValue form treatment kind family k.labels q.value) (sym key) (subst (IsFormedValue form treatment kind family r.key.labels) (sym value) f.value);
+  created = subst (IsFormedTime form kind) (sym created) f.created;
 }
 
-formed_thinner : (kind : Kind) (family unit : List ℕ) (r q : Reading) → IsThinnerReading r q → IsFormedReading OpenMetrics treatments.Written kind family unit r → IsFormedReading OpenMetrics treatments.Written kind family unit q
-formed_thinner kind family unit r q t f = of_parts kind family unit r q f t.key t.value t.created (samples_same kind family r q t)
+formed_thinner : (form : Format) (treatment : Treatment) (kind : Kind) (family unit : List ℕ) (r q : Reading) → IsThinnerReading r q → IsFormedReading form treatment kind family unit r → IsFormedReading form treatment kind family unit q
+formed_thinner form treatment kind family unit r q t f = of_parts form treatment kind family unit r q f t.key t.value t.created (samples_same kind family r q t)
 
 -- ---- thinner families
 
 -- a formed family with some of its readings
-with_some : (f : Family) (rs : List Reading) → AreSomeOf IsThinnerReading f.readings rs → IsFormedFamily OpenMetrics treatments.Written f
-    → IsFormedFamily OpenMetrics treatments.Written (record { name = f.name; kind = f.kind; help = f.help; unit = f.unit; readings = rs })
-with_some f rs s h =
+with_some : (form : Format) (treatment : Treatment) (f : Family) (rs : List Reading) → AreSomeOf IsThinnerReading f.readings rs → IsFormedFamily form treatment f
+    → IsFormedFamily form treatment (record { name = f.name; kind = f.kind; help = f.help; unit = f.unit; readings = rs })
+with_some form treatment f rs s h =
     let labels = some_mapped IsThinnerReading (λ (r : Reading). r.key.labels) (λ r q t. ap (λ k. k.labels) t.key) f.readings rs s in
     record {
       name = h.name;
@@ -168,7 +170,7 @@ with_some f rs s h =
       help = h.help;
       unit = h.unit;
       unit_in_format = h.unit_in_format;
-      readings = All-from_recursion _ rs (some_hold IsThinnerReading (IsFormedReading OpenMetrics treatments.Written f.kind f.name f.unit) (formed_thinner f.kind f.name f.unit) f.readings rs s (recursion_from_All _ f.readings h.readings));
+      readings = All-from_recursion _ rs (some_hold IsThinnerReading (IsFormedReading form treatment f.kind f.name f.unit) (formed_thinner form treatment f.kind f.name f.unit) f.readings rs s (recursion_from_All _ f.readings h.readings));
       distinct = some_distinct label_sets_eq (label_sets_of f.readings) (label_sets_of rs) labels h.distinct;
       together = some_together (map (group_of f.kind f.name) (label_sets_of f.readings)) (map (group_of f.kind f.name) (label_sets_of rs))
           (some_mapped (λ a b. b ≡ a) (group_of f.kind f.name) (λ a b e. ap (group_of f.kind f.name) e) (label_sets_of f.readings) (label_sets_of rs) labels) h.together;
@@ -209,13 +211,13 @@ family_lines_kept P f rs s h =
 
 -- ---- pages
 
-thin_forms : (fs gs : List Family) → AreThinnerFamilies fs gs → AllByRecursion (IsFormedFamily OpenMetrics treatments.Written) fs → AllByRecursion (IsFormedFamily OpenMetrics treatments.Written) gs
-thin_forms [] [] t h = tt
-thin_forms [] (g ∷ gs) t h = absurd t
-thin_forms (f ∷ fs) [] t h = absurd t
-thin_forms (f ∷ fs) (g ∷ gs) t h = (subst (IsFormedFamily OpenMetrics treatments.Written) (with_readings f g t.0) (with_some f g.readings t.0.readings h.0), thin_forms fs gs t.1 h.1)
+pub thin_forms : (form : Format) (treatment : Treatment) (fs gs : List Family) → AreThinnerFamilies fs gs → AllByRecursion (IsFormedFamily form treatment) fs → AllByRecursion (IsFormedFamily form treatment) gs
+thin_forms form treatment [] [] t h = tt
+thin_forms form treatment [] (g ∷ gs) t h = absurd t
+thin_forms form treatment (f ∷ fs) [] t h = absurd t
+thin_forms form treatment (f ∷ fs) (g ∷ gs) t h = (subst (IsFormedFamily form treatment) (with_readings f g t.0) (with_some form treatment f g.readings t.0.readings h.0), thin_forms form treatment fs gs t.1 h.1)
 
-thin_same : {B : Type 0} (p : Family → B) → ((f g : Family) → IsThinnerFamily f g → p g ≡ p f) → (fs gs : List Family) → AreThinnerFamilies fs gs → map p gs ≡ map p fs
+pub thin_same : {B : Type 0} (p : Family → B) → ((f g : Family) → IsThinnerFamily f g → p g ≡ p f) → (fs gs : List Family) → AreThinnerFamilies fs gs → map p gs ≡ map p fs
 thin_same p same [] [] t = refl
 thin_same p same [] (g ∷ gs) t = absurd t
 thin_same p same (f ∷ fs) [] t = absurd t
@@ -228,7 +230,7 @@ thin_bare (f ∷ fs) [] t h = absurd t
 thin_bare (f ∷ fs) (g ∷ gs) t h =
     (All-from_recursion IsBareReading g.readings (some_hold IsThinnerReading IsBareReading bare_thinner f.readings g.readings t.0.readings (recursion_from_All IsBareReading f.readings h.0)), thin_bare fs gs t.1 h.1)
 
-thin_lines : (P : Item → Type 0) (fs gs : List Family) → AreThinnerFamilies fs gs → AllByRecursion P (flat_map family_items fs) → AllByRecursion P (flat_map family_items gs)
+pub thin_lines : (P : Item → Type 0) (fs gs : List Family) → AreThinnerFamilies fs gs → AllByRecursion P (flat_map family_items fs) → AllByRecursion P (flat_map family_items gs)
 thin_lines P [] [] t h = tt
 thin_lines P [] (g ∷ gs) t h = absurd t
 thin_lines P (f ∷ fs) [] t h = absurd t
@@ -240,7 +242,7 @@ thin_lines P (f ∷ fs) (g ∷ gs) t h =
 key_same : (f g : Family) → IsThinnerFamily f g → family_key g ≡ family_key f
 key_same f g t = λ i. record { name = t.name i; kind = t.kind i; unit = t.unit i }
 
-short_kept : (P : Item → Type 0) (fs gs : List Family) → (AllByRecursion P (flat_map family_items fs) → AllByRecursion P (flat_map family_items gs)) → All P (page_items fs) → All P (page_items gs)
+pub short_kept : (P : Item → Type 0) (fs gs : List Family) → (AllByRecursion P (flat_map family_items fs) → AllByRecursion P (flat_map family_items gs)) → All P (page_items fs) → All P (page_items gs)
 unfolding page_items
 short_kept P fs gs keep h =
     let all = recursion_from_All P (flat_map family_items fs ++ items.Eof ∷ []) h in
@@ -249,7 +251,7 @@ short_kept P fs gs keep h =
 pub thinner : ThinnerAreWritable
 thinner fs gs w t = record {
   formed = record {
-    each = All-from_recursion _ gs (thin_forms fs gs t (recursion_from_All _ fs w.formed.each));
+    each = All-from_recursion _ gs (thin_forms OpenMetrics treatments.Written fs gs t (recursion_from_All _ fs w.formed.each));
     names = subst (IsDistinct bytes_eq) (sym (thin_same (λ (f : Family). f.name) (λ f g h. h.name) fs gs t)) w.formed.names;
   };
   bare = All-from_recursion _ gs (thin_bare fs gs t (recursion_from_All _ fs w.bare));

@@ -1,7 +1,24 @@
 //! That what is written reads back: laws of the definitions, each carried by a call that does nothing.
 #![tactic(auto)]
 
-ghost use Rattle.writing_laws.specs.WritingLaws.{ReadsBack, WritablesAreOpenForms, ThinnerAreWritable, FewerAreWritable, WritesFewLines};
+ghost use Rattle.writing_laws.specs.WritingLaws.{
+  ReadPagesAreFormed,
+  OpenFormsAreWritable,
+  ReadsBack,
+  WritablesAreOpenForms,
+  OpenFormsReadBack,
+  ThinnerAreWritable,
+  FewerAreWritable,
+  WritesFewLines,
+  WritesShortLines,
+};
+
+/// Each page that a text says has the form of such pages, in either format and under either treatment.
+///
+/// So has a page with readings, timestamps or exemplars taken out.
+pub fn read_pages_are_formed()
+    ensures { ReadPagesAreFormed }
+{}
 
 /// The text of families that can be written reads back as their page.
 ///
@@ -11,8 +28,11 @@ pub fn read_back()
     ensures { ReadsBack }
 {}
 
-/// Families that can be written make a page that some text of OpenMetrics says.
+/// Families that can be written make a page that some text of OpenMetrics says, and each such page can be
+/// written and reads back as its families.
 pub fn open_forms()
+    ensures writable { OpenFormsAreWritable }
+    ensures back { OpenFormsReadBack }
     ensures made { WritablesAreOpenForms }
 {}
 
@@ -22,7 +42,9 @@ pub fn thinner_pages()
     ensures families { FewerAreWritable }
 {}
 
-/// A page that was read has at most twice as many written sample lines as it was read from.
+/// A page that was read has at most twice as many written sample lines as it was read from, and the lines of a
+/// page of a target are at most twice as long as those that were read, and 2,048 bytes more.
 pub fn written_sizes()
     ensures lines { WritesFewLines }
+    ensures bytes { WritesShortLines }
 {}

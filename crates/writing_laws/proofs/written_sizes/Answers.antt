@@ -1,5 +1,9 @@
 use Rattle.writing_laws.proofs.FewLines.{few_lines}
+use Rattle.writing_laws.proofs.ShortFamilies.{writes_short_lines}
 use Rattle.writing_laws.proofs.written_sizes.Goals as goal
 
-pub returns : goal.returns
-returns c = record { lines = few_lines }
+pub returns-clause-lines : goal.returns-clause-lines
+returns-clause-lines c = few_lines
+
+pub returns-clause-bytes : goal.returns-clause-bytes
+returns-clause-bytes c = writes_short_lines
