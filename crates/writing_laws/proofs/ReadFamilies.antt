@@ -29,7 +29,7 @@ use Rattle.page_model.specs.Faults.{sample_breaks, owned_breaks, item_breaks, it
 use Rattle.page_model.specs.Readings.{help_in, unit_in}
 use Rattle.page_model.specs.Pages.{AreFaultless}
 use Rattle.page_model.proofs.Laws.{none_found, label_sets_decide}
-use Rattle.family_rules.proofs.Faults.{AreFit, none_above, no_forbidden}
+use Rattle.family_rules.proofs.Laws.{AreFit, none_above, no_forbidden}
 use Rattle.open_writing.specs.Forms.{is_kind_in, may_have_unit, stand_together}
 use Rattle.writing_laws.proofs.Turned.{all-append, all-weaker, all-of, any-none, none-any, Pairs, pairs-append, map-append}
 use Rattle.writing_laws.proofs.ThinnerPages.{rest_passed, rest_stopped}

@@ -17,7 +17,7 @@ use Rattle.exact_decimal.specs.declared.number.Number.{Number}
 use Rattle.exact_decimal.specs.declared.number.Number.TheVariants.{Finite, Up, Down, NotANumber}
 use Rattle.exact_decimal.specs.declared.number.NumberFault.{NumberFault}
 use Rattle.exact_decimal.specs.Numbers.{number_read, number_or_nan, number}
-use Rattle.exact_decimal.proofs.Answered.{read_form}
+use Rattle.exact_decimal.proofs.Laws.{read_form}
 use Rattle.page_model.specs.declared.format.Format.{Format}
 use Rattle.page_model.specs.declared.format.Format.TheVariants.{Text, OpenMetrics}
 use Rattle.page_model.specs.declared.format.Treatment.{Treatment}

@@ -10,9 +10,7 @@ use Rattle.label_sets.specs.declared.label_set.LabelSet.{LabelSet}
 use Rattle.label_sets.specs.Names.{is_label_name}
 use Rattle.label_sets.specs.Labels.{name_before, has_value, label_inserted, labels_sorted, label_set, has_name, repeated_at, has_distinct_names, without_label, exported_name, is_target_name, label_renamed, renamed}
 use Rattle.label_sets.specs.Sets.{IsLabelSet}
-use Rattle.label_sets.proofs.Laws.{IsLabelSet-renamed}
-use Rattle.label_sets.proofs.Order.{IsLabelSet-label_set}
-use Rattle.label_sets.proofs.Repeats.{distinct_from_repeated_at}
+use Rattle.label_sets.proofs.Laws.{IsLabelSet-renamed, IsLabelSet-label_set, distinct_from_repeated_at}
 use Rattle.page_model.specs.declared.format.Treatment.{Treatment}
 use Rattle.page_model.specs.declared.format.Treatment.TheVariants.{Scraped, Written}
 use Rattle.page_model.specs.Owners.{kept_labels}

@@ -38,9 +38,7 @@ use Rattle.page_model.specs.Readings.{value_with, buckets_of, quantiles_of, sum_
 use Rattle.page_model.specs.Pages.{items_of, AreFaultless, IsPageOf, AreSomeOf}
 use Rattle.page_model.proofs.Laws.{label_sets_decide, kind_of_page}
 use Rattle.sample_groups.specs.Sound.{AreSound}
-use Rattle.family_rules.proofs.Faults.{AreFit, fit_lines, sound_samples}
-use Rattle.family_rules.proofs.Kept.{reversed_samples}
-use Rattle.family_rules.proofs.Values.{IsValueOf, HaveValuesOf, page_values}
+use Rattle.family_rules.proofs.Laws.{AreFit, fit_lines, sound_samples, reversed_samples, IsValueOf, HaveValuesOf, page_values}
 use Rattle.open_writing.specs.Writing.{number_sample, with_number_label, bucket_sample, quantile_sample, total_samples, value_samples, reading_samples, written_text}
 use Rattle.open_writing.specs.Forms.{is_kind_in, stand_together, label_sets_of, IsFormedReading, IsFormedFamily, AreFormed}
 use Rattle.writing_laws.specs.WritingLaws.{ReadPagesAreFormed, OpenFormsAreWritable, OpenFormsReadBack}

@@ -24,7 +24,7 @@ use Rattle.page_model.specs.Suffixes.{suffixes, is_sample_name}
 use Rattle.page_model.specs.Rules.{has_suffix, is_count, quantile_at, is_whole, has_wrong_suffix, has_forbidden_value, has_bad_value, has_bad_threshold}
 use Rattle.page_model.specs.Readings.{value_with, either_value, buckets_of, quantile_of, placed_quantile, quantiles_of, sum_of, is_measured, counter_suffix, value_of}
 use Rattle.sample_groups.proofs.Laws.{RiseToUp}
-use Rattle.family_rules.proofs.Values.{IsValueOf}
+use Rattle.family_rules.proofs.Laws.{IsValueOf}
 use Rattle.open_writing.specs.Forms.{IsFormedNumber, is_plain_value, is_one_place, is_some_summary, is_u64_option, IsFormedValue}
 use Rattle.writing_laws.proofs.Turned.{all-weaker, Pairs}
 use Rattle.writing_laws.proofs.FairParts.{NoPlace}

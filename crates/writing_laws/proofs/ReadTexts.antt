@@ -14,7 +14,7 @@ use Rattle.std.proofs.lemmas.Str.{IsUtf8-take, IsUtf8-nil, IsCharBoundary-before
 use Rattle.label_sets.specs.declared.label.Label.{Label}
 use Rattle.label_sets.specs.Names.{is_metric_name, is_metric_start, is_metric_char, is_label_name, is_label_start, is_label_char, is_blank}
 use Rattle.label_sets.specs.Escapes.{help_escape, quote_escape, unescaped}
-use Rattle.line_scan.proofs.Utf8.{utf8_tail, utf8_rest, utf8_shorter, blank_small, blanks_ascii, utf8_behind, utf8_unescaped, help_ascii, quote_ascii}
+use Rattle.line_scan.proofs.Laws.{utf8_tail, utf8_rest, utf8_shorter, blank_small, blanks_ascii, utf8_behind, utf8_unescaped, help_ascii, quote_ascii}
 use Rattle.page_model.specs.Written.{WrittenSample}
 use Rattle.page_model.specs.TextItems.{AreBlanks, SpellsHelpText, SpellsHelp, SpellsLabel, SpellsLabels, SpellsMiddle, SpellsSample, trimmed, without_leading_blanks}
 use Rattle.page_model.specs.OpenItems.{SpellsOpenHelp, SpellsOpenLabel, SpellsMoreLabels, SpellsOpenLabels, SpellsOptionalList, SpellsOpenSample}

@@ -35,8 +35,7 @@ use Rattle.page_model.specs.Readings.{reading_labels, reading_of, readings_of, h
 use Rattle.page_model.specs.Pages.{Spells, SaysWhatItSpells, AreLines, AreFaultless, items_of, IsPageOf}
 use Rattle.page_model.proofs.Laws.{none_found, kind_of_page}
 use Rattle.sample_groups.specs.Sound.{AreSound}
-use Rattle.family_rules.proofs.Faults.{fit_lines, sound_samples}
-use Rattle.family_rules.proofs.Kept.{reversed_samples}
+use Rattle.family_rules.proofs.Laws.{fit_lines, sound_samples, reversed_samples}
 use Rattle.open_writing.specs.Writing.{reading_samples, family_samples, item_unless_empty, family_items, page_items, escaped, sample_text, item_text}
 use Rattle.open_writing.specs.Forms.{label_sets_of, IsFormedReading, IsFormedFamily}
 use Rattle.writing_laws.specs.WritingLaws.{most_scraped_line, WritesShortLines}

@@ -20,7 +20,7 @@ use Rattle.exact_decimal.specs.declared.number.Number.{Number}
 use Rattle.exact_decimal.specs.declared.number.Number.TheVariants.{Finite, Up, Down, NotANumber}
 use Rattle.exact_decimal.specs.Numbers.{number_of}
 use Rattle.exact_decimal.specs.Literals.{number_text}
-use Rattle.exact_decimal.proofs.Texts.{length-decimal_text}
+use Rattle.exact_decimal.proofs.Laws.{length-decimal_text}
 use Rattle.page_model.specs.declared.format.Format.{Format}
 use Rattle.page_model.specs.declared.format.Format.TheVariants.{OpenMetrics}
 use Rattle.page_model.specs.declared.format.Treatment.{Treatment}
