@@ -2,7 +2,7 @@
 use Rattle.std.proofs.Common.{◌≡◌, ℕ, ◌<◌, ◌+◌, ◌-◌, List, [], ◌∷◌, ◌++◌, Option, Some, None, option_map, refl, ap, ◌∙◌, arith, length, append_assoc, append-nil, length-append}
 use Rattle.bridge_ports.specs.declared.talk.Stage.TheVariants as stages
 use Rattle.bridge_ports.specs.declared.talk.Stage.{Stage}
-use Rattle.bridge_ports.specs.Talks.{WireState, Told, telling_sent, telling_got, sent_on, got_on, left_at, after_read}
+use Rattle.bridge_ports.specs.Talks.{WireState, ToldTalks, telling_sent, telling_got, sent_on, got_on, left_at, after_read}
 
 left_idle : (s : Stage) (w : WireState) → w.stage ≡ s → (left_at s w).stage ≡ stages.Idle
 left_idle stages.Idle w is = is
@@ -18,7 +18,7 @@ pub read_goes_on : (bytes : List ℕ) (w : WireState) → 0 < length bytes → a
 read_goes_on [] w some = absurd (omega (arith, some))
 read_goes_on (b ∷ bytes) w some = refl
 
-told_none_sent : (told : Option Told) → option_map (telling_sent []) told ≡ told
+told_none_sent : (told : Option ToldTalks) → option_map (telling_sent []) told ≡ told
 told_none_sent None = refl
 told_none_sent (Some t) = ap (λ (sent : List ℕ). Some (record t { now = record t.now { sent = sent } })) (append-nil t.now.sent)
 
@@ -26,7 +26,7 @@ told_none_sent (Some t) = ap (λ (sent : List ℕ). Some (record t { now = recor
 pub sent_on-nil : (w : WireState) → sent_on [] w ≡ w
 sent_on-nil w = let left : w.left - 0 ≡ w.left = omega arith in λ i. record w { left = left i; told = told_none_sent w.told i }
 
-told_more_sent : (a b : List ℕ) (told : Option Told) → option_map (telling_sent b) (option_map (telling_sent a) told) ≡ option_map (telling_sent (a ++ b)) told
+told_more_sent : (a b : List ℕ) (told : Option ToldTalks) → option_map (telling_sent b) (option_map (telling_sent a) told) ≡ option_map (telling_sent (a ++ b)) told
 told_more_sent a b None = refl
 told_more_sent a b (Some t) = ap (λ (sent : List ℕ). Some (record t { now = record t.now { sent = sent } })) (append_assoc t.now.sent a b)
 
@@ -36,7 +36,7 @@ sent_on-more a b w =
     let left : w.left - length a - length b ≡ w.left - length (a ++ b) = omega (arith, length-append a b) in
     λ i. record w { left = left i; told = told_more_sent a b w.told i }
 
-told_none_got : (told : Option Told) → option_map (telling_got []) told ≡ told
+told_none_got : (told : Option ToldTalks) → option_map (telling_got []) told ≡ told
 told_none_got None = refl
 told_none_got (Some t) = ap (λ (got : List ℕ). Some (record t { now = record t.now { got = got } })) (append-nil t.now.got)
 
@@ -44,7 +44,7 @@ told_none_got (Some t) = ap (λ (got : List ℕ). Some (record t { now = record 
 pub got_on-nil : (w : WireState) → got_on [] w ≡ w
 got_on-nil w = λ i. record w { told = told_none_got w.told i }
 
-told_more_got : (a b : List ℕ) (told : Option Told) → option_map (telling_got b) (option_map (telling_got a) told) ≡ option_map (telling_got (a ++ b)) told
+told_more_got : (a b : List ℕ) (told : Option ToldTalks) → option_map (telling_got b) (option_map (telling_got a) told) ≡ option_map (telling_got (a ++ b)) told
 told_more_got a b None = refl
 told_more_got a b (Some t) = ap (λ (got : List ℕ). Some (record t { now = record t.now { got = got } })) (append_assoc t.now.got a b)
 

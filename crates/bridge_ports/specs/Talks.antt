@@ -36,7 +36,7 @@ pub record Spoken : Type 0 where
   pub got : List ℕ
 
 -- what a wire tells: its finished talks, the last first, and the one under way
-pub record Told : Type 0 where
+pub record ToldTalks : Type 0 where
   pub talks : List Talk
   pub now : Spoken
 
@@ -49,18 +49,18 @@ pub record WireState : Type 0 where
   pub room : ℕ
   pub stage : Stage
   pub left : ℕ
-  pub told : Option Told
+  pub told : Option ToldTalks
 
 -- the talk under way, once it began at this reading
-abbrev pub telling_from : ℕ → Told → Told
+abbrev pub telling_from : ℕ → ToldTalks → ToldTalks
 telling_from at t = record t { now = record { at = at; sent = []; got = [] } }
 
 -- the talk under way, with these bytes sent
-abbrev pub telling_sent : List ℕ → Told → Told
+abbrev pub telling_sent : List ℕ → ToldTalks → ToldTalks
 telling_sent bytes t = record t { now = record t.now { sent = t.now.sent ++ bytes } }
 
 -- the talk under way, with these bytes got
-abbrev pub telling_got : List ℕ → Told → Told
+abbrev pub telling_got : List ℕ → ToldTalks → ToldTalks
 telling_got bytes t = record t { now = record t.now { got = t.now.got ++ bytes } }
 
 -- the talk under way, once it ended in this way
@@ -72,7 +72,7 @@ abbrev pub nothing_said : Spoken
 nothing_said = record { at = 0; sent = []; got = [] }
 
 -- the talks, with the one that was under way among them
-abbrev pub telling_end : End → Told → Told
+abbrev pub telling_end : End → ToldTalks → ToldTalks
 telling_end end t = record { talks = talk_of end t.now ∷ t.talks; now = nothing_said }
 
 -- the wire once it allows so many talks of so many sent bytes each
@@ -117,7 +117,7 @@ pub record AllowsTalks (talks room : ℕ) (w : WireState) : Type 0 where
   pub room_each : room ≤ w.room
 
 -- what is said of the talks before and after holds where the wire tells, and it goes on telling; a wire that tells nothing goes on so
-abbrev pub Tells : (List Talk → List Talk → Type 0) → Option Told → Option Told → Type 0
+abbrev pub Tells : (List Talk → List Talk → Type 0) → Option ToldTalks → Option ToldTalks → Type 0
 Tells Says (Some old) (Some new) = Says old.talks new.talks
 Tells Says (Some old) None = ⊥
 Tells Says None (Some new) = ⊥

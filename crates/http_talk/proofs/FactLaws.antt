@@ -18,7 +18,7 @@ use Rattle.http_talk.specs.declared.head_facts.Media.TheVariants as medias
 use Rattle.http_talk.specs.declared.head_facts.Lengths.{Lengths}
 use Rattle.http_talk.specs.declared.head_facts.Lengths.TheVariants as lengths
 use Rattle.http_talk.specs.Heads.{is_word, is_length, media_type, format_named, format_of, values_of, has_other_coding, framing_of, is_long, head_cause}
-use Rattle.http_talk.specs.HeadFacts.{no_facts, with_coding, with_transfer, media_by, with_media, with_number, with_length, with_field, facts_by, IsTransfer, IsMedia, AreLengths, AreFactsOf, IsFramed, IsHeadFault, has_bad_lengths}
+use Rattle.http_talk.specs.HeadFacts.{no_facts, with_coding, with_transfer, media_by, with_media, with_one_length, with_length, with_field, facts_by, IsTransfer, IsMedia, AreLengths, AreFactsOf, IsFramed, IsHeadFault, has_bad_lengths}
 
 -- ---- fields of one name, by their values
 
@@ -110,7 +110,7 @@ bad_stays (v ∷ values) =
 one_is : (m : ℕ) (values : List (List ℕ)) → fold with_length (lengths.One m) values ≡ (if list_all is_length values && list_all (λ n. n == m) (map (digits_value 10) values) then lengths.One m else lengths.Bad)
 one_is m [] = refl
 one_is m (v ∷ values) =
-    elim (is_length v) as (λ t. fold with_length (if t then with_number (lengths.One m) (digits_value 10 v) else lengths.Bad) values
+    elim (is_length v) as (λ t. fold with_length (if t then with_one_length (lengths.One m) (digits_value 10 v) else lengths.Bad) values
     ≡ (if (t && list_all is_length values) && ((digits_value 10 v == m) && list_all (λ n. n == m) (map (digits_value 10) values)) then lengths.One m else lengths.Bad)) [
       | true ↦
           elim (digits_value 10 v == m) as (λ t. fold with_length (if t then lengths.One m else lengths.Bad) values

@@ -9,14 +9,14 @@ use Rattle.http_talk.specs.declared.fault.Progress.{Progress}
 use Rattle.http_talk.specs.declared.fault.Progress.TheVariants as progresses
 use Rattle.http_talk.specs.declared.fault.ReplyFault.{ReplyFault}
 use Rattle.http_talk.specs.declared.fault.ReplyFault.TheVariants as faults
-use Rattle.http_talk.specs.Chunks.{Chunks, is_certain, is_body_end, is_too_much, is_wrong}
+use Rattle.http_talk.specs.Chunks.{Chunks, trailer_limit, is_certain, is_body_end, is_too_much, is_wrong}
 
 -- the numbers of a place are within the limits
 abbrev pub IsChunkPlace : ChunkPlace → Type 0
 IsChunkPlace (Digits count size) = (count ≤ 8) × (size < 16 ^ count)
 IsChunkPlace (Bytes left) = 0 < left
-IsChunkPlace (Trailer before line) = before + line + min (2 * line) 2 ≤ 16384
-IsChunkPlace (TrailerEnd before line) = before + line + min (2 * line) 2 ≤ 16384
+IsChunkPlace (Trailer before line) = before + line + min (2 * line) 2 ≤ trailer_limit
+IsChunkPlace (TrailerEnd before line) = before + line + min (2 * line) 2 ≤ trailer_limit
 IsChunkPlace _ = ⊤
 
 -- behind so many of the bytes of a chunk that are still to come

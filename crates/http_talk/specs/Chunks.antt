@@ -6,13 +6,25 @@ use Rattle.httparse.specs.Grammar.{is_ows}
 use Rattle.http_talk.specs.declared.chunk_place.ChunkPlace.{ChunkPlace}
 use Rattle.http_talk.specs.declared.chunk_place.ChunkPlace.TheVariants.{Digits, Blanks, Extension, SizeEnd, Bytes, BytesEnd, BytesFeed, Trailer, TrailerEnd, Whole, Wrong}
 
+-- the most bytes of a chunk line, with its end
+abbrev pub chunk_line_limit : ℕ
+chunk_line_limit = 1024
+
+-- the most bytes of the trailer lines, with their ends
+abbrev pub trailer_limit : ℕ
+trailer_limit = 16384
+
+-- the most bytes of a reply in all, where its body may have so many
+abbrev pub total_limit : ℕ → ℕ
+total_limit most = 8 * most + 65536
+
 -- one more byte, and then CR LF, fit a line of which so many bytes came
 abbrev pub fits_line : ℕ → Bool
-fits_line line = nat_le (line + 3) 1024
+fits_line line = nat_le (line + 3) chunk_line_limit
 
 -- one more byte of a trailer line, and then CR LF, fit the trailer lines of which so many bytes came
 abbrev pub fits_trailers : ℕ → ℕ → Bool
-fits_trailers before line = nat_le (before + line + 3) 16384
+fits_trailers before line = nat_le (before + line + 3) trailer_limit
 
 -- ---- which byte may stand where
 
@@ -93,7 +105,7 @@ is_wrong _ = false
 
 -- too many bytes came, of the body or in all
 abbrev pub is_too_much : ℕ → Chunks → Bool
-is_too_much most c = nat_lt most (length c.held) || nat_lt (8 * most + 65536) c.got
+is_too_much most c = nat_lt most (length c.held) || nat_lt (total_limit most) c.got
 
 -- something is certain
 abbrev pub is_certain : ℕ → Chunks → Bool

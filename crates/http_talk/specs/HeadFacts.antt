@@ -46,14 +46,14 @@ with_media medias.Absent value = media_by (format_named (media_type value))
 with_media media value = media
 
 -- with one more length
-abbrev pub with_number : Lengths → ℕ → Lengths
-with_number lengths.Absent n = lengths.One n
-with_number (lengths.One m) n = if n == m then lengths.One m else lengths.Bad
-with_number lengths.Bad n = lengths.Bad
+abbrev pub with_one_length : Lengths → ℕ → Lengths
+with_one_length lengths.Absent n = lengths.One n
+with_one_length (lengths.One m) n = if n == m then lengths.One m else lengths.Bad
+with_one_length lengths.Bad n = lengths.Bad
 
 -- with one more value of Content-Length
 abbrev pub with_length : Lengths → List ℕ → Lengths
-with_length known value = if is_length value then with_number known (digits_value 10 value) else lengths.Bad
+with_length known value = if is_length value then with_one_length known (digits_value 10 value) else lengths.Bad
 
 -- with one more field, of this name and value
 abbrev pub with_field : HeadFacts → List ℕ × List ℕ → HeadFacts

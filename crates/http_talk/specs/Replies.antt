@@ -1,6 +1,6 @@
 -- What a scraped reply comes to, by its bytes and by the end of the talk.
 -- RFC 9112, section 6 (message body) and section 8 (incomplete messages); the order of causes is the bridge's own.
-use Rattle.std.specs.Prelude.{◌≡◌, ◌↔◌, ℕ, Bool, true, false, List, [], ◌∷◌, ◌++◌, length, take, Option, Some, None, nat_lt, nat_le, if◌then◌else◌, ⊤}
+use Rattle.std.specs.Prelude.{◌≡◌, ◌↔◌, ℕ, ◌≤◌, Bool, true, false, List, [], ◌∷◌, ◌++◌, length, take, Option, Some, None, nat_lt, nat_le, if◌then◌else◌, ⊤}
 use Rattle.httparse.specs.Grammar.{ResponseHead, print_response}
 use Rattle.label_sets.specs.Lists.{first_some, when_true}
 use Rattle.bridge_ports.specs.declared.talk.End.{End}
@@ -18,6 +18,18 @@ use Rattle.http_talk.specs.declared.fault.ReplyFault.{ReplyFault}
 use Rattle.http_talk.specs.declared.fault.ReplyFault.TheVariants as faults
 use Rattle.http_talk.specs.Heads.{HeadRead, unfinished, missing, found, HeadIs, head_cause, format_of, framing_of, Framing, in_chunks, to_the_end, of_length}
 use Rattle.http_talk.specs.Chunks.{Chunks, no_chunks, with_bytes, is_body_end, is_wrong, is_too_much}
+
+-- the least number of bytes that a body may be allowed
+abbrev pub least_body_limit : ℕ
+least_body_limit = 1024
+
+-- the most bytes that a body may be allowed
+abbrev pub most_body_limit : ℕ
+most_body_limit = 67108864
+
+-- a limit of the bytes of a body
+abbrev pub IsBodyLimit : ℕ → Type 0
+IsBodyLimit most = (least_body_limit ≤ most) × (most ≤ most_body_limit)
 
 -- what is certain of a reply: it is refused for this cause, or it is whole, with this body
 pub data Verdict : Type 0 where

@@ -51,7 +51,7 @@ HasKept parts.Whole most fed format kept got = HasVerdict most fed (whole format
 
 -- the numbers of what a reader keeps are within the limits
 abbrev pub IsSoundPart : Part → ℕ → List ℕ → Type 0
-IsSoundPart parts.Head most kept = length kept ≤ 16384
+IsSoundPart parts.Head most kept = length kept ≤ head_limit
 IsSoundPart (parts.Sized n) most kept = length kept < n
 IsSoundPart parts.Open most kept = length kept ≤ most
 IsSoundPart (parts.Chunked place) most kept = IsChunkPlace place
@@ -78,7 +78,7 @@ IsRefusal most fed faults.Truncated = ⊥
 IsRefusal most fed fault = (cause : Cause) × (cause_of fault ≡ Some cause) × HasVerdict most fed (refused cause)
 
 -- a piece was taken: the reader stands for what it was fed, and tells whether the reply is whole
-pub record IsTaken (fed : List ℕ) (new : Reader) (progress : Progress) : Type 0 where
+pub record IsPieceTaken (fed : List ℕ) (new : Reader) (progress : Progress) : Type 0 where
   pub stands : Stands fed new
   pub known : Judged
   pub judged_so : IsJudged new.most fed known
@@ -86,7 +86,7 @@ pub record IsTaken (fed : List ℕ) (new : Reader) (progress : Progress) : Type 
 
 -- what a piece gives: it is taken, or a refusal
 abbrev pub FeedAnswer : List ℕ → Reader → Result Progress ReplyFault → Type 0
-FeedAnswer fed new (Ok progress) = IsTaken fed new progress
+FeedAnswer fed new (Ok progress) = IsPieceTaken fed new progress
 FeedAnswer fed new (Err fault) = IsRefusal new.most fed fault
 
 -- bytes were taken

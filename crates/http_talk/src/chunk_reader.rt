@@ -1,7 +1,7 @@
 //! Bodies in chunks that are read as they come (RFC 9112, section 7.1).
 ghost use Rattle.std.specs.Prelude.{◌≡◌, ◌≢◌, ◌+◌, ◌*◌, ◌<◌, ◌≤◌, ℕ, false, List, length, take, IfOk, OnOk};
 ghost use Rattle.http_talk.specs.declared.chunk_place.ChunkPlace.TheVariants.{Bytes};
-ghost use Rattle.http_talk.specs.Chunks.{with_byte, with_bytes, is_body_end, is_wrong, is_too_much, is_certain};
+ghost use Rattle.http_talk.specs.Chunks.{total_limit, with_byte, with_bytes, is_body_end, is_wrong, is_too_much, is_certain};
 
 use crate::chunk_place::ChunkPlace;
 use crate::fault::{Progress, ReplyFault};
@@ -45,7 +45,7 @@ fn is_wrong(place: ChunkPlace) -> bool
 
 /// The most bytes of a reply in all, where its body may have so many.
 fn total_limit(most: u32) -> u64
-    ensures { result ≡ 8 * most + 65536 }
+    ensures { result ≡ total_limit most }
 {
     8 * u64::from(most) + 65_536
 }

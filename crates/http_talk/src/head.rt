@@ -3,7 +3,7 @@ ghost use Rattle.std.specs.Prelude.{◌≡◌, ℕ, ◌≤◌, List, length, tak
 ghost use Rattle.httparse.specs.Spans.{ResponseOverflows};
 ghost use Rattle.httparse.specs.declared.spans.HeaderSpan.{HeaderSpan as AnySpan};
 ghost use Rattle.http_talk.specs.HeadFeeding.{IsParsed, IsFoundWithin, IsHeadOf};
-ghost use Rattle.http_talk.specs.Heads.{Shows};
+ghost use Rattle.http_talk.specs.Heads.{Shows, head_limit, field_limit};
 
 use crate::seen::HeadSeen;
 use httparse::spans::{EMPTY_HEADER_SPAN, HeaderSpan, ResponseSpans, parse_response};
@@ -25,8 +25,8 @@ pub(crate) const MOST_FIELDS: usize = 64;
 
 /// What these bytes say of a head.
 fn parse_head(bytes: &[u8], spans: &mut [HeaderSpan]) -> Head
-    requires short { length bytes.now ≤ 16384 }
-    requires room { length spans.old ≡ 64 }
+    requires short { length bytes.now ≤ head_limit }
+    requires room { length spans.old ≡ field_limit }
     ensures { IsParsed bytes.now spans.new result }
 {
     match parse_response(bytes, spans) {
@@ -40,8 +40,8 @@ fn parse_head(bytes: &[u8], spans: &mut [HeaderSpan]) -> Head
 /// The same where a head at the front has more than 64 fields. The table has room for every field that
 /// so many bytes can hold.
 fn parse_long_head(bytes: &[u8]) -> Head
-    requires short { length bytes.now ≤ 16384 }
-    requires many { ResponseOverflows 64 bytes.now }
+    requires short { length bytes.now ≤ head_limit }
+    requires many { ResponseOverflows field_limit bytes.now }
     ensures { (spans : List AnySpan) → IsParsed bytes.now spans result }
 {
     let mut spans = [EMPTY_HEADER_SPAN; 8_192];
@@ -54,10 +54,10 @@ fn parse_long_head(bytes: &[u8]) -> Head
 
 /// What the bytes got say of a head, by the first of them, as many as a head may have.
 pub(crate) fn head_of(front: &[u8], spans: &mut [HeaderSpan]) -> Head
-    requires short { length front.now ≤ 16384 }
-    requires room { length spans.old ≡ 64 }
+    requires short { length front.now ≤ head_limit }
+    requires room { length spans.old ≡ field_limit }
     ensures within { IsFoundWithin front.now spans.new result }
-    ensures head { (got : List ℕ) → front.now ≡ take 16384 got → IsHeadOf got front.now spans.new result }
+    ensures head { (got : List ℕ) → front.now ≡ take head_limit got → IsHeadOf got front.now spans.new result }
 {
     let full = front.len() == MOST_HEAD;
     match parse_head(front, spans) {

@@ -1,9 +1,9 @@
 //! What the fields of a head say of its body (RFC 9110, sections 8.3, 8.4 and 8.6; RFC 9112, section 6.1).
 ghost use Rattle.std.specs.Prelude.{◌≡◌, ◌≤◌, ℕ, List, false, map, take, length, IfOk, codes, if◌then◌else◌};
 ghost use Rattle.httparse.specs.Spans.{IsResponseWithin, header_bytes};
-ghost use Rattle.http_talk.specs.HeadFacts.{no_facts, with_coding, with_transfer, media_by, with_media, with_number, with_length, with_field, facts_by, IsMedia, AreLengths, AreFactsOf, IsSized, IsFramed, IsStart, IsFirstPart};
+ghost use Rattle.http_talk.specs.HeadFacts.{no_facts, with_coding, with_transfer, media_by, with_media, with_one_length, with_length, with_field, facts_by, IsMedia, AreLengths, AreFactsOf, IsSized, IsFramed, IsStart, IsFirstPart};
 ghost use Rattle.httparse.specs.Grammar.{ResponseHead as AnyHead, status_code};
-ghost use Rattle.http_talk.specs.Heads.{is_word, format_named, format_by, has_other_coding};
+ghost use Rattle.http_talk.specs.Heads.{field_limit, is_word, format_named, format_by, has_other_coding};
 
 use crate::chunk_place::ChunkPlace;
 use crate::fault::ReplyFault;
@@ -144,7 +144,7 @@ impl Lengths {
 
     /// With one more length.
     fn and_number(self, number: u64) -> Lengths
-        ensures { result ≡ with_number self number }
+        ensures { result ≡ with_one_length self number }
     {
         match self {
             Lengths::Absent => Lengths::One(number),
@@ -229,7 +229,7 @@ impl HeadFacts {
 
     /// How the body begins behind a head of this status, where it may have at most `most` bytes.
     pub(crate) fn start(&self, code: u16, most: u32) -> Result<Start, ReplyFault>
-        ensures start { (h : AnyHead) → AreFactsOf self.now h → length h.fields ≤ 64 → code ≡ status_code h → IsStart most h result }
+        ensures start { (h : AnyHead) → AreFactsOf self.now h → length h.fields ≤ field_limit → code ≡ status_code h → IsStart most h result }
         ensures first { IfOk result (λ start. IsFirstPart start.part) }
     {
         if code != 200 {

@@ -3,6 +3,7 @@ ghost use Rattle.std.specs.Prelude.{◌≡◌, ◌≢◌, ℕ, ◌≤◌, List, 
 ghost use Rattle.httparse.specs.Grammar.{ResponseHead as AnyHead};
 ghost use Rattle.httparse.specs.Spans.{IsResponseWithin};
 ghost use Rattle.http_talk.specs.HeadFeeding.{IsHeadAt};
+ghost use Rattle.http_talk.specs.Replies.{IsBodyLimit};
 ghost use Rattle.http_talk.specs.declared.fault.ReplyFault.{ReplyFault as AnyFault};
 ghost use Rattle.http_talk.specs.declared.part.Part.TheVariants.{Head as InHead, Sized, Open, Chunked};
 
@@ -57,7 +58,7 @@ impl Reply {
 
     /// A reader that was fed nothing, of a body of at most `max_page` bytes.
     pub fn new(alloc: Global, max_page: u32) -> Result<Reply, Memory>
-        requires { (1024 ≤ max_page) × (max_page ≤ 67108864) }
+        requires { IsBodyLimit max_page }
         ensures { IfOk result (λ reply. (reply.most ≡ max_page) × Stands [] reply) }
     {
         Ok(Reply {

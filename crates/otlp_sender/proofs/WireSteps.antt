@@ -7,7 +7,7 @@ use Rattle.bridge_ports.specs.declared.talk.End.TheVariants as ends
 use Rattle.bridge_ports.specs.declared.talk.Talk.{Talk}
 use Rattle.bridge_ports.specs.declared.talk.Stage.TheVariants as stages
 use Rattle.bridge_ports.specs.Causes.{Rose}
-use Rattle.bridge_ports.specs.Talks.{WireState, Told, Tells, begun_at, sent_on, got_on, failed_at, after_read, ended_by, left_at, telling_from, telling_sent, telling_got, telling_end}
+use Rattle.bridge_ports.specs.Talks.{WireState, ToldTalks, Tells, begun_at, sent_on, got_on, failed_at, after_read, ended_by, left_at, telling_from, telling_sent, telling_got, telling_end}
 use Rattle.http_talk.specs.declared.seen.HeadSeen.{HeadSeen}
 use Rattle.http_talk.specs.declared.seen.HeadSeen.TheVariants as seen
 use Rattle.http_talk.specs.Heads.{Shows}
@@ -21,27 +21,27 @@ use Rattle.otlp_sender.specs.declared.posted.Try.{Try}
 use Rattle.otlp_sender.specs.declared.posted.Try.TheVariants as tries
 use Rattle.otlp_sender.specs.Posting.{IsRightTry, IsTryBy, IsWireTry, try_seen, IsOpenTry, is_open, GrewByRun, IsPosting, posted_of}
 use Rattle.otlp_sender.specs.declared.posted.Posted.{Posted}
-use Rattle.otlp_sender.specs.Sending.{BrokeOff, IsHeadTalk, IsExchange, GrewByTry, IsOneTry, GrewByOpenTries, IsUnderWay}
+use Rattle.otlp_sender.specs.Sending.{BrokeOff, IsHeadTalk, IsConnectedTalk, GrewByTry, IsOneTry, GrewByOpenTries, IsUnderWay}
 
 -- ---- bytes sent and got
 
-told_sent : (t : Option Told) → option_map (telling_sent []) t ≡ t
+told_sent : (t : Option ToldTalks) → option_map (telling_sent []) t ≡ t
 told_sent None = refl
 told_sent (Some t) = ap (λ xs. Some (record t { now = record t.now { sent = xs } })) (append-nil t.now.sent)
 
-told_got : (t : Option Told) → option_map (telling_got []) t ≡ t
+told_got : (t : Option ToldTalks) → option_map (telling_got []) t ≡ t
 told_got None = refl
 told_got (Some t) = ap (λ xs. Some (record t { now = record t.now { got = xs } })) (append-nil t.now.got)
 
-told_sent_more : (xs ys : List ℕ) (t : Option Told) → option_map (telling_sent ys) (option_map (telling_sent xs) t) ≡ option_map (telling_sent (xs ++ ys)) t
+told_sent_more : (xs ys : List ℕ) (t : Option ToldTalks) → option_map (telling_sent ys) (option_map (telling_sent xs) t) ≡ option_map (telling_sent (xs ++ ys)) t
 told_sent_more xs ys None = refl
 told_sent_more xs ys (Some t) = ap (λ zs. Some (record t { now = record t.now { sent = zs } })) (append_assoc t.now.sent xs ys)
 
-told_got_more : (xs ys : List ℕ) (t : Option Told) → option_map (telling_got ys) (option_map (telling_got xs) t) ≡ option_map (telling_got (xs ++ ys)) t
+told_got_more : (xs ys : List ℕ) (t : Option ToldTalks) → option_map (telling_got ys) (option_map (telling_got xs) t) ≡ option_map (telling_got (xs ++ ys)) t
 told_got_more xs ys None = refl
 told_got_more xs ys (Some t) = ap (λ zs. Some (record t { now = record t.now { got = zs } })) (append_assoc t.now.got xs ys)
 
-with_left : (w : WireState) (m n : ℕ) (s t : Option Told) → m ≡ n → s ≡ t → record w { left = m; told = s } ≡ record w { left = n; told = t }
+with_left : (w : WireState) (m n : ℕ) (s t : Option ToldTalks) → m ≡ n → s ≡ t → record w { left = m; told = s } ≡ record w { left = n; told = t }
 with_left w m n s t e f = ap (λ k. record w { left = k; told = s }) e ∙ ap (λ o. record w { left = n; told = o }) f
 
 pub sent_none : (w : WireState) → sent_on [] w ≡ w
@@ -128,7 +128,7 @@ left_there got what w mid new t connected is leaves shown settled verdict =
 
 -- ---- one try
 
-tells_try : (old new : Option Told) (text : List ℕ) (t : Try) (end : End) (at : ℕ) (sent got : List ℕ)
+tells_try : (old new : Option ToldTalks) (text : List ℕ) (t : Try) (end : End) (at : ℕ) (sent got : List ℕ)
     → new ≡ option_map (telling_end end) (option_map (telling_got got) (option_map (telling_sent sent) (option_map (telling_from at) old)))
     → IsRightTry text (record { at = at; sent = sent; got = got; end = end }) → IsTryBy end got t → Tells (GrewByTry text t) old new
 tells_try None new text t end at sent got is right verdict = subst (λ n. Tells (GrewByTry text t) None n) (sym is) tt
@@ -138,7 +138,7 @@ tells_try (Some o) new text t end at sent got is right verdict =
 nothing_left : (end : End) → end ≢ ends.Left → (end ≡ ends.Left) ↔ (seen.More ≢ seen.More)
 nothing_left end other = ((λ is. absurd (other is)), (λ no. absurd (no refl)))
 
-pub exchange_broke : (text : List ℕ) (old new : WireState) → BrokeOff text old new → IsExchange text old new tries.Write
+pub exchange_broke : (text : List ℕ) (old new : WireState) → BrokeOff text old new → IsConnectedTalk text old new tries.Write
 exchange_broke text old new b = record {
   sent = b.sent;
   got = [];
@@ -160,7 +160,7 @@ all_sent ends.ReadFailed text a b = refl
 all_sent ends.Ended text a b = refl
 all_sent ends.Left text a b = refl
 
-pub exchange_read : (text : List ℕ) (old mid new : WireState) (t : Try) → mid ≡ sent_on text old → IsHeadTalk mid new t → IsExchange text old new t
+pub exchange_read : (text : List ℕ) (old mid new : WireState) (t : Try) → mid ≡ sent_on text old → IsHeadTalk mid new t → IsConnectedTalk text old new t
 exchange_read text old mid new t is h = record {
   sent = text;
   got = h.got;
@@ -175,7 +175,7 @@ exchange_read text old mid new t is h = record {
   verdict = h.verdict;
 }
 
-pub try_exchanged : (text : List ℕ) (at : ℕ) (old mid new : WireState) (t : Try) → 1 ≤ old.allowed → mid ≡ record (begun_at at old) { stage = stages.Connected } → IsExchange text mid new t → IsOneTry text old new t
+pub try_exchanged : (text : List ℕ) (at : ℕ) (old mid new : WireState) (t : Try) → 1 ≤ old.allowed → mid ≡ record (begun_at at old) { stage = stages.Connected } → IsConnectedTalk text mid new t → IsOneTry text old new t
 try_exchanged text at old mid new t some is x =
     let state : new ≡ failed_at x.end new.faults (got_on x.got (sent_on x.sent (record (begun_at at old) { stage = stages.Connected }))) = x.state ∙ ap (λ v. failed_at x.end new.faults (got_on x.got (sent_on x.sent v))) is in
     record {
@@ -212,7 +212,7 @@ try_unconnected text at old mid new some is failed after rose =
 open_try : (text : List ℕ) (talk : Talk) (t : Try) → IsRightTry text talk → IsTryBy talk.end talk.got t → is_open t ≡ true → IsOpenTry text talk
 open_try text talk t right verdict due = record { right = right; verdict = t; verdict_is = verdict; open_verdict = due }
 
-one_more_told : (text : List ℕ) (t : Try) (made : ℕ) (a b c : Option Told) → is_open t ≡ true → Tells (GrewByOpenTries text made) a b → Tells (GrewByTry text t) b c → Tells (GrewByOpenTries text (made + 1)) a c
+one_more_told : (text : List ℕ) (t : Try) (made : ℕ) (a b c : Option ToldTalks) → is_open t ≡ true → Tells (GrewByOpenTries text made) a b → Tells (GrewByTry text t) b c → Tells (GrewByOpenTries text (made + 1)) a c
 one_more_told text t made None None None due x y = tt
 one_more_told text t made None None (Some c) due x y = absurd y
 one_more_told text t made None (Some b) c due x y = absurd x
@@ -232,7 +232,7 @@ posted_on text t made old now new due u x = record {
   told = one_more_told text t made old.told now.told new.told due u.told x.told;
 }
 
-run_told : (most : ℕ) (text : List ℕ) (t : Try) (made : ℕ) (a b c : Option Told) → made + 1 ≤ most → (is_open t ≡ false) ⊎ (made + 1 ≡ most) → Tells (GrewByOpenTries text made) a b → Tells (GrewByTry text t) b c → Tells (GrewByRun most text t) a c
+run_told : (most : ℕ) (text : List ℕ) (t : Try) (made : ℕ) (a b c : Option ToldTalks) → made + 1 ≤ most → (is_open t ≡ false) ⊎ (made + 1 ≡ most) → Tells (GrewByOpenTries text made) a b → Tells (GrewByTry text t) b c → Tells (GrewByRun most text t) a c
 run_told most text t made None None None few ended x y = tt
 run_told most text t made None None (Some c) few ended x y = absurd y
 run_told most text t made None (Some b) c few ended x y = absurd x

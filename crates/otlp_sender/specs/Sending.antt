@@ -38,7 +38,7 @@ pub record IsHeadTalk (old new : WireState) (t : Try) : Type 0 where
   pub written : end ≢ ends.WriteFailed
 
 -- what came of a talk whose peer is connected: what was sent of the text, and then the same
-pub record IsExchange (text : List ℕ) (old new : WireState) (t : Try) : Type 0 where
+pub record IsConnectedTalk (text : List ℕ) (old new : WireState) (t : Try) : Type 0 where
   pub sent : List ℕ
   pub got : List ℕ
   pub end : End

@@ -3,7 +3,7 @@ ghost use Rattle.std.specs.Prelude.{◌≡◌, ◌≤◌, length, OnOk, OnErr};
 ghost use Rattle.bridge_ports.specs.declared.talk.Stage.TheVariants as stages;
 ghost use Rattle.bridge_ports.specs.Talks.{AllowsTalks, sent_on};
 ghost use Rattle.otlp_sender.specs.Posting.{IsPosting};
-ghost use Rattle.otlp_sender.specs.Sending.{BrokeOff, IsExchange, IsOneTry};
+ghost use Rattle.otlp_sender.specs.Sending.{BrokeOff, IsConnectedTalk, IsOneTry};
 
 use crate::answer::read_answer;
 use crate::posted::{Posted, Try};
@@ -33,7 +33,7 @@ fn send<W: Wire>(wire: &mut W, text: &[u8]) -> Result<(), Failed>
 fn exchange<W: Wire>(wire: &mut W, text: &[u8]) -> Try
     requires connected { (W.state wire.old).stage ≡ stages.Connected }
     requires room { length text.now ≤ (W.state wire.old).left }
-    ensures { IsExchange text.now (W.state wire.old) (W.state wire.new) result }
+    ensures { IsConnectedTalk text.now (W.state wire.old) (W.state wire.new) result }
 {
     match send(wire, text) {
         Ok(()) => read_answer(wire),

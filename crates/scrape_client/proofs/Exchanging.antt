@@ -8,7 +8,7 @@ use Rattle.bridge_ports.specs.declared.talk.Stage.TheVariants as stages
 use Rattle.bridge_ports.specs.declared.talk.End.{End}
 use Rattle.bridge_ports.specs.declared.talk.End.TheVariants as ends
 use Rattle.bridge_ports.specs.Causes.{Rose}
-use Rattle.bridge_ports.specs.Talks.{WireState, Told, Spoken, Tells, talk_of, telling_from, telling_sent, telling_got, telling_end, made_ready, begun_at, sent_on, got_on, ended_by, failed_at, left_at, after_read}
+use Rattle.bridge_ports.specs.Talks.{WireState, ToldTalks, Spoken, Tells, talk_of, telling_from, telling_sent, telling_got, telling_end, made_ready, begun_at, sent_on, got_on, ended_by, failed_at, left_at, after_read}
 use Rattle.std.proofs.lemmas.List.{take_all, take-append-drop, length-take, length-take-le}
 use Rattle.std.proofs.Math.Seq.{take-add}
 use Rattle.bridge_ports.proofs.Laws.{read_goes_on, got_on-nil, got_on-more, sent_on-more}
@@ -23,7 +23,7 @@ use Rattle.http_talk.specs.declared.fault.ReplyFault.TheVariants as faults
 use Rattle.http_talk.specs.declared.fault.Progress.{Progress}
 use Rattle.http_talk.specs.declared.fault.Progress.TheVariants as progresses
 use Rattle.http_talk.specs.Replies.{Judged, waits, goes_on, decided, Verdict, refused, whole, IsJudged, HasVerdict, is_decided, IsPageOutcome, IsOutcomeBy, IsOutcomeOf, IsVerdictOutcome, HasOutcome, IsSent, IsGot, IsWholeTalk, cause_of}
-use Rattle.http_talk.specs.ReplyReading.{Reader, Stands, progress_of, IsRefusal, IsTaken, FinishAnswer}
+use Rattle.http_talk.specs.ReplyReading.{Reader, Stands, progress_of, IsRefusal, IsPieceTaken, FinishAnswer}
 use Rattle.http_talk.proofs.Laws.{by_more, bare_head, known_once, undecided_is_short, body_is_short}
 use Rattle.scrape_client.specs.declared.stop.NoBody.{NoBody}
 use Rattle.scrape_client.specs.declared.stop.NoBody.TheVariants as stops
@@ -182,7 +182,7 @@ piece_read old now new fed piece is some read = read ∙ read_goes_on piece now 
 
 -- a piece was read and fed, and nothing is certain yet
 pub reads_more : (most : ℕ) (old now new : WireState) (reply fed_on : Reader) (count n : ℕ) (piece : List ℕ) (x : ReadsOn most old now reply count)
-    → 0 < length piece → length piece ≡ n → new ≡ after_read piece now → fed_on.most ≡ reply.most → IsTaken (x.fed ++ piece) fed_on progresses.More → ReadsOn most old new fed_on (count + n)
+    → 0 < length piece → length piece ≡ n → new ≡ after_read piece now → fed_on.most ≡ reply.most → IsPieceTaken (x.fed ++ piece) fed_on progresses.More → ReadsOn most old new fed_on (count + n)
 reads_more most old now new reply fed_on count n piece x some long read same t = record {
   fed = x.fed ++ piece;
   stands = t.stands;
@@ -265,7 +265,7 @@ left_behind old now mid new fed piece is connected some read left =
 -- the reply is whole, and the talk was left
 pub whole_read : (most : ℕ) (old now mid new : WireState) (reply fed_on : Reader) (count : ℕ) (piece : List ℕ) (said : Result Body NoBody) (x : ReadsOn most old now reply count)
     → now.stage ≡ stages.Connected → 0 < length piece → mid ≡ after_read piece now → new ≡ left_at mid.stage mid → fed_on.most ≡ reply.most
-    → IsTaken (x.fed ++ piece) fed_on progresses.Whole → EndsReply fed_on said → HasShortBody fed_on.most said → (BlamesWire said → ⊥) → IsReplyRead most old new said
+    → IsPieceTaken (x.fed ++ piece) fed_on progresses.Whole → EndsReply fed_on said → HasShortBody fed_on.most said → (BlamesWire said → ⊥) → IsReplyRead most old new said
 whole_read most old now mid new reply fed_on count piece said x connected some read left same t closes short peer =
     let wire = left_behind old now mid new x.fed piece x.wire connected some read left in
     let sure = whole_is_decided t.known t.progress_is in
@@ -303,31 +303,31 @@ refused_read most old now mid new reply fed_on count piece fault x connected som
 -- ---- whole talks
 
 -- the talk under way, as it is told
-abbrev IsNow : Spoken → Option Told → Option Told → Type 0
+abbrev IsNow : Spoken → Option ToldTalks → Option ToldTalks → Type 0
 IsNow now None None = ⊤
 IsNow now None (Some u) = ⊥
 IsNow now (Some t) None = ⊥
 IsNow now (Some t) (Some u) = u ≡ record t { now = now }
 
-told_end : (t u : Option Told) (now : Spoken) (end : End) → IsNow now t u → Tells (λ earlier after. after ≡ talk_of end now ∷ earlier) t (option_map (telling_end end) u)
+told_end : (t u : Option ToldTalks) (now : Spoken) (end : End) → IsNow now t u → Tells (λ earlier after. after ≡ talk_of end now ∷ earlier) t (option_map (telling_end end) u)
 told_end None None now end x = tt
 told_end None (Some u) now end x = absurd x
 told_end (Some t) None now end x = absurd x
-told_end (Some t) (Some u) now end x = ap (λ (v : Told). talk_of end v.now ∷ v.talks) x
+told_end (Some t) (Some u) now end x = ap (λ (v : ToldTalks). talk_of end v.now ∷ v.talks) x
 
 talked : (w x : WireState) (f : ℕ) (now : Spoken) (end : End) → x.place ≡ w.place → x.plan ≡ w.plan → IsNow now w.told x.told
     → HasTalked w (record (ended_by end x) { faults = f }) (talk_of end now)
 talked w x f now end place plan told = record { free = refl; place = place; plan = plan; told = told_end w.told x.told now end told }
 
-begun_now : (at : ℕ) (t : Option Told) → IsNow (record { at = at; sent = []; got = [] }) t (option_map (telling_from at) t)
+begun_now : (at : ℕ) (t : Option ToldTalks) → IsNow (record { at = at; sent = []; got = [] }) t (option_map (telling_from at) t)
 begun_now at None = tt
 begun_now at (Some t) = refl
 
-sent_now : (at : ℕ) (sent : List ℕ) (t : Option Told) → IsNow (record { at = at; sent = sent; got = [] }) t (option_map (telling_sent sent) (option_map (telling_from at) t))
+sent_now : (at : ℕ) (sent : List ℕ) (t : Option ToldTalks) → IsNow (record { at = at; sent = sent; got = [] }) t (option_map (telling_sent sent) (option_map (telling_from at) t))
 sent_now at sent None = tt
 sent_now at sent (Some t) = refl
 
-read_now : (at : ℕ) (sent got : List ℕ) (t : Option Told)
+read_now : (at : ℕ) (sent got : List ℕ) (t : Option ToldTalks)
     → IsNow (record { at = at; sent = sent; got = got }) t (option_map (telling_got got) (option_map (telling_sent sent) (option_map (telling_from at) t)))
 read_now at sent got None = tt
 read_now at sent got (Some t) = refl

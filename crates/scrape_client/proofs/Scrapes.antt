@@ -5,7 +5,7 @@ use Rattle.bridge_ports.specs.declared.talk.Talk.{Talk}
 use Rattle.bridge_ports.specs.declared.talk.Address.{Address}
 use Rattle.bridge_ports.specs.declared.talk.Stage.TheVariants as stages
 use Rattle.bridge_ports.specs.Causes.{Rose}
-use Rattle.bridge_ports.specs.Talks.{WireState, Told, Tells, made_ready}
+use Rattle.bridge_ports.specs.Talks.{WireState, ToldTalks, Tells, made_ready}
 use Rattle.page_model.specs.declared.event.Cause.{Cause}
 use Rattle.page_model.specs.declared.event.Cause.TheVariants as causes
 use Rattle.page_model.specs.declared.event.Outcome.{Outcome}
@@ -39,7 +39,7 @@ fault_says (Ok body) limit outcome x blames = absurd blames
 fault_says (Err (stops.Failed cause)) limit outcome x blames = subst IsWireFault (sym x) blames
 fault_says (Err stops.Memory) limit outcome x blames = absurd x
 
-tells_so : (P Q : List Talk → List Talk → Type 0) → ((a b : List Talk) → P a b → Q a b) → (old new : Option Told) → Tells P old new → Tells Q old new
+tells_so : (P Q : List Talk → List Talk → Type 0) → ((a b : List Talk) → P a b → Q a b) → (old new : Option ToldTalks) → Tells P old new → Tells Q old new
 tells_so P Q so None None x = tt
 tells_so P Q so None (Some new) x = x
 tells_so P Q so (Some old) None x = x
@@ -76,7 +76,7 @@ cut_behind most at text old new said x = record {
   told = tells_so (λ (a b : List Talk). b ≡ x.talk ∷ a) GrewByOne (λ (a b : List Talk) grew. inr (x.talk, grew)) old.told new.told x.talked.told;
 }
 
-same_told : (told : Option Told) → Tells GrewByOne told told
+same_told : (told : Option ToldTalks) → Tells GrewByOne told told
 same_told None = tt
 same_told (Some t) = inl refl
 

@@ -17,10 +17,6 @@ use Rattle.scrape_client.specs.declared.stop.NoBody.{NoBody}
 use Rattle.scrape_client.specs.declared.stop.NoBody.TheVariants as stops
 use Rattle.scrape_client.specs.Scraping.{IsWireFault}
 
--- the most bytes of a page that may be asked for
-abbrev pub page_limit : ℕ
-page_limit = 67108864
-
 -- why there is no body where a fault stands for this cause, or for want of memory
 abbrev pub without_body : Option Cause → NoBody
 without_body None = stops.Memory

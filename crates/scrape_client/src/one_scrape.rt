@@ -3,8 +3,8 @@ ghost use Rattle.std.specs.Prelude.{◌≡◌, ◌≢◌, ℕ, ◌≤◌, [], Li
 ghost use Rattle.http_talk.specs.ReplyReading.{Stands};
 ghost use Rattle.bridge_ports.specs.declared.talk.Stage.TheVariants as stages;
 ghost use Rattle.bridge_ports.specs.declared.talk.End.TheVariants as ends;
-ghost use Rattle.http_talk.specs.Replies.{HasOutcome};
-ghost use Rattle.scrape_client.specs.Scraping.{ScrapeAnswer};
+ghost use Rattle.http_talk.specs.Replies.{IsBodyLimit, HasOutcome};
+ghost use Rattle.scrape_client.specs.Scraping.{IsSampleLimit, ScrapeAnswer};
 ghost use Rattle.scrape_client.specs.Exchanges.{IsSaidAt, HasShortBody};
 
 use crate::page_outcome::outcome_of;
@@ -29,8 +29,8 @@ pub fn scrape<W: Wire>(
     max_page: u32,
 ) -> Result<Event, Memory>
     requires free { (W.state wire.old).stage ≡ stages.Idle }
-    requires samples { (1 ≤ limit) × (limit ≤ 200000) }
-    requires page { (1024 ≤ max_page) × (max_page ≤ 67108864) }
+    requires samples { IsSampleLimit limit }
+    requires page { IsBodyLimit max_page }
     ensures { ScrapeAnswer limit max_page target.now.address
         (W.state wire.old) (W.state wire.new) result }
 {
@@ -60,8 +60,8 @@ pub fn outcome(
     limit: u32,
     max_page: u32,
 ) -> Result<Outcome, Memory>
-    requires samples { (1 ≤ limit) × (limit ≤ 200000) }
-    requires page { (1024 ≤ max_page) × (max_page ≤ 67108864) }
+    requires samples { IsSampleLimit limit }
+    requires page { IsBodyLimit max_page }
     requires ended { end ≢ ends.Left }
     ensures { IfOk result (λ outcome. (at : ℕ) (sent : List ℕ) → HasOutcome limit max_page
         (record { at = at; sent = sent; got = got.now; end = end }) outcome) }

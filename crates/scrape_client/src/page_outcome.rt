@@ -1,10 +1,10 @@
 //! What a body comes to: its page, or the first fault of it.
 ghost use Rattle.std.specs.Prelude.{length, IfOk, ◌≤◌};
-ghost use Rattle.http_talk.specs.Replies.{IsPageOutcome};
+ghost use Rattle.http_talk.specs.Replies.{IsPageOutcome, most_body_limit};
 ghost use Rattle.line_scan.specs.LineReading.{setting_of};
 ghost use Rattle.page_model.specs.declared.format.Treatment.TheVariants.{Scraped};
 ghost use Rattle.scrape_client.specs.Scraping.{IsWithinLimit};
-ghost use Rattle.scrape_client.specs.Exchanges.{Says, HasShortBody, page_limit};
+ghost use Rattle.scrape_client.specs.Exchanges.{Says, HasShortBody};
 ghost use Rattle.page_feeding.specs.PageFeeding.{Answers};
 
 use crate::stop::NoBody;
@@ -12,6 +12,7 @@ use http_talk::Body;
 use label_sets::Memory;
 use openmetrics_grammar::OpenLines;
 use page_feeding::{Grammar, PageReader};
+use page_model::page_laws::right_pages;
 use page_model::{Cause, Format, Outcome, Page, PageFault, Treatment};
 use std::alloc::{AllocError, Global};
 use text_grammar::TextLines;
@@ -22,10 +23,11 @@ pub(crate) fn outcome_of(
     said: Result<Body, NoBody>,
     limit: u32,
 ) -> Result<Outcome, Memory>
-    requires { HasShortBody page_limit said }
+    requires { HasShortBody most_body_limit said }
     ensures says { IfOk result (Says said limit) }
     ensures within { IfOk result (IsWithinLimit limit) }
 {
+    right_pages();
     match said {
         Ok(body) => page_outcome(alloc, body, limit),
         Err(NoBody::Failed(cause)) => Ok(Outcome::Failed(cause)),
@@ -35,7 +37,7 @@ pub(crate) fn outcome_of(
 
 /// The page of a body, or its first fault.
 fn page_outcome(alloc: Global, body: Body, limit: u32) -> Result<Outcome, Memory>
-    requires { length body.bytes ≤ page_limit }
+    requires { length body.bytes ≤ most_body_limit }
     ensures { IfOk result (IsPageOutcome limit body.format body.bytes) }
 {
     let page = match body.format {
@@ -51,7 +53,7 @@ fn page_outcome(alloc: Global, body: Body, limit: u32) -> Result<Outcome, Memory
 
 /// The page that these bytes say in the format of a grammar.
 fn read_page<G: Grammar>(alloc: Global, bytes: &[u8], limit: u32) -> Result<Page, PageFault>
-    requires { length bytes.now ≤ page_limit }
+    requires { length bytes.now ≤ most_body_limit }
     ensures { Answers (setting_of G.format Scraped limit) bytes.now result }
 {
     let Ok(mut page) = PageReader::<G>::new(alloc, Treatment::Scraped, limit) else {

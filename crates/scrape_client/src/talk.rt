@@ -4,7 +4,8 @@ ghost use Rattle.bridge_ports.specs.Causes.{HasCause};
 ghost use Rattle.bridge_ports.specs.declared.talk.Stage.TheVariants as stages;
 ghost use Rattle.bridge_ports.specs.Talks.{WireState, begun_at, made_ready};
 ghost use Rattle.http_talk.specs.ReplyReading.{Stands};
-ghost use Rattle.scrape_client.specs.Exchanges.{page_limit, EndsReply, EndsShort, PeerSaid, SendsText, IsReplyRead, IsExchange};
+ghost use Rattle.http_talk.specs.Replies.{most_body_limit};
+ghost use Rattle.scrape_client.specs.Exchanges.{EndsReply, EndsShort, PeerSaid, SendsText, IsReplyRead, IsExchange};
 
 use crate::stop::{NoBody, no_body};
 use bridge_ports::{Failed, Wire};
@@ -19,7 +20,7 @@ pub(crate) fn exchange<W: Wire>(wire: &mut W, text: &[u8], reply: Reply) -> Resu
     requires begun { (W.state wire.old).stage ≡ stages.Begun }
     requires room { length text.now ≤ (W.state wire.old).left }
     requires fresh { Stands [] reply }
-    requires most { reply.most ≤ page_limit }
+    requires most { reply.most ≤ most_body_limit }
     ensures { (old : WireState) (at : ℕ) → W.state wire.old ≡ begun_at at (made_ready 1 (length text.now) old)
         → IsExchange reply.most at text.now old (W.state wire.new) result }
 {
@@ -55,7 +56,7 @@ fn send_text<W: Wire>(wire: &mut W, text: &[u8]) -> Result<(), Failed>
 fn read_reply<W: Wire>(wire: &mut W, reply: Reply) -> Result<Body, NoBody>
     requires connected { (W.state wire.old).stage ≡ stages.Connected }
     requires fresh { Stands [] reply }
-    requires most { reply.most ≤ page_limit }
+    requires most { reply.most ≤ most_body_limit }
     ensures { IsReplyRead reply.most (W.state wire.old) (W.state wire.new) result }
 {
     let mut reply = reply;

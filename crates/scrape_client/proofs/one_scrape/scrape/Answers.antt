@@ -1,7 +1,8 @@
 use Rattle.std.proofs.Common.{◌≡◌, ◌∙◌, ◌≤◌, ℕ, ap, sym, subst, arith, length}
 use Rattle.bridge_ports.specs.Talks.{WireState, made_ready, begun_at}
 use Rattle.http_talk.specs.Requests.{get_request}
-use Rattle.scrape_client.specs.Exchanges.{IsExchange, page_limit}
+use Rattle.http_talk.specs.Replies.{most_body_limit}
+use Rattle.scrape_client.specs.Exchanges.{IsExchange}
 use Rattle.scrape_client.proofs.Exchanging.{short_within}
 use Rattle.scrape_client.proofs.Scrapes.{is_scrape}
 use Rattle.scrape_client.proofs.one_scrape.scrape.Goals as goal
@@ -13,7 +14,7 @@ outcome_of-requires g c =
     let started : g.W.Wire.state c.begin-reading.new.self ≡ begun_at c.begin-reading.result (made_ready 1 (length c.as_slice.result.now) (g.W.Wire.state c.args.wire.now)) =
     c.begin-reading.ensures ∙ ap (begun_at c.begin-reading.result) (c.in-Ok-ready.ensures.done ∙ ap (λ (n : ℕ). made_ready 1 n (g.W.Wire.state c.args.wire.now)) long) in
     let x = c.exchange-said.ensures w c.begin-reading.result started in
-    short_within c.in-Ok-new.reply.most page_limit c.exchange-said.result (omega (arith, c.in-Ok-new.ensures.0, c.requires.page.1)) x.short
+    short_within c.in-Ok-new.reply.most most_body_limit c.exchange-said.result (omega (arith, c.in-Ok-new.ensures.0, c.requires.page.1)) x.short
 
 pub returns-in-Ok-outcome_of : goal.returns-in-Ok-outcome_of
 returns-in-Ok-outcome_of g c =

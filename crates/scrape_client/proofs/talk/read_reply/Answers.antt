@@ -1,7 +1,7 @@
 use Rattle.std.proofs.Common.{◌≡◌, ◌∙◌, ◌+◌, ◌*◌, ◌<◌, ◌≤◌, ℕ, List, ◌++◌, Err, take, length, sym, subst, arith}
 use Rattle.std.proofs.lemmas.List.{length-take-le}
 use Rattle.http_talk.specs.declared.fault.Progress.{Progress}
-use Rattle.http_talk.specs.ReplyReading.{IsTaken}
+use Rattle.http_talk.specs.ReplyReading.{IsPieceTaken}
 use Rattle.scrape_client.specs.declared.stop.NoBody.{NoBody}
 use Rattle.scrape_client.specs.Exchanges.{ReadsOn, IsReplyRead}
 use Rattle.scrape_client.proofs.Exchanging.{reads_nothing, reads_more, reads_few, reads_keep, whole_read, refused_read}
@@ -17,7 +17,7 @@ loop-reply-preserved g c =
     let full : length (take c.in-Ok.count c.read.new.into) ≡ c.in-Ok.count = length-take-le c.in-Ok.count c.read.new.into (omega (arith, c.in-Ok.ensures.bound.0)) in
     let long : length (take c.in-Ok.count c.read.new.into) ≡ c.from-got.result = full ∙ sym c.from-got.ensures in
     let some : 0 < length (take c.in-Ok.count c.read.new.into) = omega (arith, full) in
-    let t = subst (λ (p : Progress). IsTaken (x.fed ++ piece) c.feed.new.self p) c.in-Ok-More.field-0-is (c.in-Ok-More.ensures.answer x.fed x.stands) in
+    let t = subst (λ (p : Progress). IsPieceTaken (x.fed ++ piece) c.feed.new.self p) c.in-Ok-More.field-0-is (c.in-Ok-More.ensures.answer x.fed x.stands) in
     reads_more c.args.reply.most (g.W.Wire.state c.args.wire.now) (g.W.Wire.state c.loop-reply.wire) (g.W.Wire.state c.read.new.self) c.loop-reply.reply c.feed.new.self
     c.loop-reply.got c.from-got.result piece x some long c.in-Ok.ensures.done c.feed.ensures.same t
 
@@ -28,7 +28,7 @@ overflow_add-got g c =
     let full : length (take c.in-Ok.count c.read.new.into) ≡ c.in-Ok.count = length-take-le c.in-Ok.count c.read.new.into (omega (arith, c.in-Ok.ensures.bound.0)) in
     let long : length (take c.in-Ok.count c.read.new.into) ≡ c.from-got.result = full ∙ sym c.from-got.ensures in
     let some : 0 < length (take c.in-Ok.count c.read.new.into) = omega (arith, full) in
-    let t = subst (λ (p : Progress). IsTaken (x.fed ++ piece) c.feed.new.self p) c.in-Ok-More.field-0-is (c.in-Ok-More.ensures.answer x.fed x.stands) in
+    let t = subst (λ (p : Progress). IsPieceTaken (x.fed ++ piece) c.feed.new.self p) c.in-Ok-More.field-0-is (c.in-Ok-More.ensures.answer x.fed x.stands) in
     let next = reads_more c.args.reply.most (g.W.Wire.state c.args.wire.now) (g.W.Wire.state c.loop-reply.wire) (g.W.Wire.state c.read.new.self) c.loop-reply.reply c.feed.new.self
     c.loop-reply.got c.from-got.result piece x some long c.in-Ok.ensures.done c.feed.ensures.same t in
     let few = reads_few c.args.reply.most (g.W.Wire.state c.args.wire.now) (g.W.Wire.state c.read.new.self) c.feed.new.self (c.loop-reply.got + c.from-got.result) next in
@@ -41,7 +41,7 @@ loop-reply-smaller g c =
     let full : length (take c.in-Ok.count c.read.new.into) ≡ c.in-Ok.count = length-take-le c.in-Ok.count c.read.new.into (omega (arith, c.in-Ok.ensures.bound.0)) in
     let long : length (take c.in-Ok.count c.read.new.into) ≡ c.from-got.result = full ∙ sym c.from-got.ensures in
     let some : 0 < length (take c.in-Ok.count c.read.new.into) = omega (arith, full) in
-    let t = subst (λ (p : Progress). IsTaken (x.fed ++ piece) c.feed.new.self p) c.in-Ok-More.field-0-is (c.in-Ok-More.ensures.answer x.fed x.stands) in
+    let t = subst (λ (p : Progress). IsPieceTaken (x.fed ++ piece) c.feed.new.self p) c.in-Ok-More.field-0-is (c.in-Ok-More.ensures.answer x.fed x.stands) in
     let next = reads_more c.args.reply.most (g.W.Wire.state c.args.wire.now) (g.W.Wire.state c.loop-reply.wire) (g.W.Wire.state c.read.new.self) c.loop-reply.reply c.feed.new.self
     c.loop-reply.got c.from-got.result piece x some long c.in-Ok.ensures.done c.feed.ensures.same t in
     let few = reads_few c.args.reply.most (g.W.Wire.state c.args.wire.now) (g.W.Wire.state c.read.new.self) c.feed.new.self (c.loop-reply.got + c.from-got.result) next in
@@ -53,7 +53,7 @@ returns-in-Ok-Whole g c =
     let piece = take c.in-Ok.count c.read.new.into in
     let full : length (take c.in-Ok.count c.read.new.into) ≡ c.in-Ok.count = length-take-le c.in-Ok.count c.read.new.into (omega (arith, c.in-Ok.ensures.bound.0)) in
     let some : 0 < length (take c.in-Ok.count c.read.new.into) = omega (arith, full) in
-    let t = subst (λ (p : Progress). IsTaken (x.fed ++ piece) c.feed.new.self p) c.in-Ok-Whole.field-0-is (c.in-Ok-Whole.ensures.answer x.fed x.stands) in
+    let t = subst (λ (p : Progress). IsPieceTaken (x.fed ++ piece) c.feed.new.self p) c.in-Ok-Whole.field-0-is (c.in-Ok-Whole.ensures.answer x.fed x.stands) in
     let kept = reads_keep c.args.reply.most (g.W.Wire.state c.args.wire.now) (g.W.Wire.state c.loop-reply.wire) c.loop-reply.reply c.loop-reply.got x in
     whole_read c.args.reply.most (g.W.Wire.state c.args.wire.now) (g.W.Wire.state c.loop-reply.wire) (g.W.Wire.state c.read.new.self) (g.W.Wire.state c.leave.new.self)
     c.loop-reply.reply c.feed.new.self c.loop-reply.got piece c.end_reply-in-Ok-Whole.result x (kept.1 ∙ c.requires.connected) some c.in-Ok.ensures.done c.leave.ensures c.feed.ensures.same t
