@@ -4,6 +4,7 @@
 
 mod keys;
 mod packing;
+mod parting;
 mod sample_key;
 mod seen_keys;
 mod seen_names;
@@ -14,6 +15,8 @@ mod tests;
 mod unpacking;
 
 pub use keys::Keys;
+pub use packing::kind_byte;
+pub use parting::{Parted, part};
 pub use sample_key::SampleKey;
 pub use seen_keys::SeenKeys;
 pub use seen_names::SeenNames;

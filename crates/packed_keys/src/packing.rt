@@ -107,7 +107,7 @@ pub(crate) fn put_key(out: &mut Vec<u8>, key: &SampleKey) -> Result<(), Memory>
 }
 
 /// The place of a kind, as a byte.
-fn kind_byte(kind: Kind) -> u8
+pub fn kind_byte(kind: Kind) -> u8
     ensures { result ≡ kind_place kind }
 {
     match kind {

@@ -1,22 +1,28 @@
 //! Where the keys of series stand in a list.
-ghost use Rattle.std.specs.Prelude.{◌≡◌, IfOk, slice_get, Some};
+ghost use Rattle.std.specs.Prelude.{◌≡◌, IfOk, IfSome, slice_get, Some};
 ghost use Rattle.std.specs.Bool.{OnTrue};
 ghost use Rattle.packed_keys.specs.Places.{IsPlace, AreBytesOf};
 
 use crate::packing::put_series;
+use crate::parting::near;
 use byte_table::ByteTable;
 use label_sets::{List, Memory, SeriesKey};
 use std::alloc::Global;
 use std::marker::Model;
 
-/// The places of keys in a list, each found by one hash, or by one comparison where keys are asked for in the
-/// order of the list. No keys make that slow.
+/// The places of keys in a list, each found by a few comparisons where keys are asked for in the order of the list,
+/// else by one hash. As long as each key is found behind the one before, none is hashed. No keys make that slow.
 #[derive(Drop)]
 pub struct SeriesPlaces {
     keys: List<SeriesKey>,
     /// The place behind that of the last answer.
     next: usize,
-    /// The keys as bytes, once a key did not stand at the next place.
+    /// What that was before the last key that was not near it: keys that come in the order of the list but for some
+    /// are found again without a hash.
+    other: usize,
+    /// Up to where keys were looked through, so that each is at most once.
+    passed: usize,
+    /// The keys as bytes, once a key stood nowhere behind.
     table: Option<ByteTable>,
     /// The room in which a key is packed.
     packed: Vec<u8>,
@@ -35,13 +41,25 @@ impl Model for SeriesPlaces {
 }
 
 /// Whether the key stands at this place.
-fn is_at(keys: &List<SeriesKey>, at: usize, key: &SeriesKey) -> bool
+pub(crate) fn is_at(keys: &List<SeriesKey>, at: usize, key: &SeriesKey) -> bool
     ensures { OnTrue result (slice_get keys.now at ≡ Some key.now) }
 {
     match keys.as_slice().get(at) {
         Some(other) => other == key,
         None => false,
     }
+}
+
+/// The place of a key from a place on, to the end.
+fn place_from(keys: &List<SeriesKey>, from: usize, key: &SeriesKey) -> Option<usize>
+    ensures { IfSome result (λ at. slice_get keys.now at ≡ Some key.now) }
+{
+    for at in from..keys.len() {
+        if is_at(keys, at, key) {
+            return Some(at);
+        }
+    }
+    None
 }
 
 /// The keys as bytes.
@@ -84,6 +102,8 @@ impl SeriesPlaces {
         SeriesPlaces {
             keys,
             next: 0,
+            other: 0,
+            passed: 0,
             table: None,
             packed: Vec::new(alloc),
         }
@@ -105,20 +125,46 @@ impl SeriesPlaces {
         }
     }
 
+    /// The place of a key that stands behind an answer: near the one where the order of the list was left, else,
+    /// where no key was hashed yet, somewhere behind the last one.
+    fn behind(&self, key: &SeriesKey) -> Option<usize>
+        ensures { IfSome result (λ at. slice_get self.now at ≡ Some key.now) }
+    {
+        if let Some(at) = near(&self.keys, self.other, key) {
+            return Some(at);
+        }
+        if self.table.is_some() {
+            return None;
+        }
+        place_from(&self.keys, self.next.max(self.passed), key)
+    }
+
+    /// The place of a key that is not near the last answer.
+    fn find_far(&mut self, alloc: Global, key: &SeriesKey) -> Result<Option<usize>, Memory>
+        ensures place { IfOk result (IsPlace self.old key.now) }
+        ensures same { self.new ≡ self.old }
+    {
+        if let Some(at) = self.behind(key) {
+            return Ok(Some(at));
+        }
+        self.look_up(alloc, key)
+    }
+
     /// Where a key stands among the keys, or nothing where it does not: its place, counted from 0, where no key
-    /// stands twice. The place behind the last answer is looked at first.
+    /// stands twice. The places behind the last answer are looked at first.
     pub fn find(&mut self, alloc: Global, key: &SeriesKey) -> Result<Option<usize>, Memory>
         ensures place { IfOk result (IsPlace self.old key.now) }
         ensures same { self.new ≡ self.old }
     {
-        if is_at(&self.keys, self.next, key) {
-            let at = self.next;
+        if let Some(at) = near(&self.keys, self.next, key) {
             self.next = at.saturating_add(1);
             return Ok(Some(at));
         }
-        let found = self.look_up(alloc, key)?;
+        let found = self.find_far(alloc, key)?;
         if let Some(at) = found {
+            self.other = self.next;
             self.next = at.saturating_add(1);
+            self.passed = self.passed.max(self.next);
         }
         Ok(found)
     }
