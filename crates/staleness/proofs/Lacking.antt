@@ -1,7 +1,7 @@
 -- A page lacks a series just where its key is not among those of the page.
-use Rattle.std.proofs.Common.{◌≡◌, ℕ, Bool, true, false, not, ◌&&◌, List, [], ◌∷◌, ◌++◌, map, filter, find, Option, is_some, cond, refl, sym, ap, ◌∙◌}
+use Rattle.std.proofs.Common.{◌≡◌, ℕ, Bool, true, false, not, ◌&&◌, List, [], ◌∷◌, ◌++◌, map, filter, find, Option, is_some, cond, refl, sym, ap, subst, ◌∙◌}
 use Rattle.std.specs.Prelude.{Result, Ok, Err, IfOk}
-use Rattle.std.specs.List.{list_any}
+use Rattle.std.specs.List.{list_any, IsDistinct}
 use Rattle.std.proofs.lemmas.List.{append-nil}
 use Rattle.std.proofs.lemmas.List.Elements.{filter-append}
 use Rattle.label_sets.specs.declared.series_key.SeriesKey.{SeriesKey}
@@ -10,6 +10,8 @@ use Rattle.page_model.specs.declared.page.Reading.{Reading}
 use Rattle.page_model.specs.declared.page.Page.{Page}
 use Rattle.page_model.specs.Presence as presence
 use Rattle.page_model.specs.Presence.{all_readings, is_present}
+use Rattle.packed_keys.specs.Partings.{IsParted}
+use Rattle.packed_keys.proofs.Laws.{gone_of_parted}
 use Rattle.staleness.specs.Vanished.{has_points, is_lacking, is_gone, keys_gone}
 
 -- a reading of a series is found just where its key is among the keys
@@ -50,9 +52,11 @@ with_points others key false found none e n there is = absurd cc
 with_points others key true found true e n there is = rw (← e, ← there, is) refl
 with_points others key true found false e n there is = rw (← e, ← there, is) refl
 
--- what is lacking among the keys of the page now is what is gone
-pub all_gone : {E : Type 0} (r : Result (List SeriesKey) E) (before now : Page) (gone others keys : List SeriesKey) → others ≡ presence.keys_of now → keys ≡ presence.keys_of before
-    → gone ≡ filter (is_lacking others) keys → IfOk r (λ list. list ≡ gone) → IfOk r (λ list. list ≡ keys_gone before now)
-all_gone (Ok list) before now gone others keys o k g is =
-    is ∙ (g ∙ (ap (λ (xs : List SeriesKey). filter (is_lacking xs) keys) o ∙ (ap (filter (is_lacking (presence.keys_of now))) k ∙ all_lacking now (presence.keys_of before))))
-all_gone (Err e) before now gone others keys o k g is = tt
+-- what is lacking among the keys of the page now is what is gone, also where keys that stand in both were taken away
+pub all_gone : {E : Type 0} (r : Result (List SeriesKey) E) (before now : Page) (gone others keys strays left : List SeriesKey) → others ≡ presence.keys_of now → keys ≡ presence.keys_of before → IsDistinct key_eq (presence.keys_of before)
+    → IsParted keys others strays left → gone ≡ filter (is_lacking left) strays → IfOk r (λ list. list ≡ gone) → IfOk r (λ list. list ≡ keys_gone before now)
+unfolding is_lacking
+all_gone (Ok list) before now gone others keys strays left o k once parted g is =
+    let all : filter (is_lacking others) keys ≡ filter (is_lacking left) strays = gone_of_parted (λ key. has_points key.kind) keys others strays left parted (subst (IsDistinct key_eq) (sym k) once) in
+    is ∙ (g ∙ (sym all ∙ (ap (λ (xs : List SeriesKey). filter (is_lacking xs) keys) o ∙ (ap (filter (is_lacking (presence.keys_of now))) k ∙ all_lacking now (presence.keys_of before)))))
+all_gone (Err e) before now gone others keys strays left o k once parted g is = tt

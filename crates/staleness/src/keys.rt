@@ -1,9 +1,12 @@
 //! The keys of a page.
 ghost use Rattle.std.specs.Prelude.{◌≡◌, ◌++◌, map, IfOk, OnOk};
+ghost use Rattle.std.specs.List.{IsDistinct};
+ghost use Rattle.label_sets.specs.Keys.{key_eq};
 ghost use Rattle.page_model.specs.declared.page.Reading.{Reading as OneReading};
 ghost use Rattle.page_model.specs.Presence as presence;
 
 use label_sets::{List, Memory, SeriesKey};
+use page_model::page_laws::distinct_keys;
 use page_model::{Page, Reading};
 use std::alloc::Global;
 
@@ -26,4 +29,12 @@ pub(crate) fn keys_of(alloc: Global, page: &Page) -> Result<List<SeriesKey>, Mem
         put_keys(&mut keys, family.readings.as_slice())?;
     }
     List::from_vec(keys)
+}
+
+/// No series has two readings in a page.
+pub(crate) fn keys_are_distinct(page: &Page)
+    ensures { IsDistinct key_eq (presence.keys_of page.now) }
+{
+    let _ = page.families();
+    distinct_keys();
 }

@@ -5,9 +5,9 @@ ghost use Rattle.page_model.specs.Presence as presence;
 ghost use Rattle.staleness.specs.Vanished as spec;
 ghost use Rattle.staleness.specs.Vanished.{keys_gone, page_or_empty};
 
-use crate::keys::keys_of;
+use crate::keys::{keys_are_distinct, keys_of};
 use label_sets::{Kind, List, Memory, SeriesKey};
-use packed_keys::SeriesPlaces;
+use packed_keys::{SeriesPlaces, part};
 use page_model::Page;
 use std::alloc::Global;
 
@@ -58,13 +58,16 @@ fn lacking(
 }
 
 /// The series with points that the page before has and the page now lacks, in the order of the page before; all of
-/// them where there is no page now, since the scrape failed. Each key is hashed at most once. Want of memory is the
-/// only error (OTLP 1.x, "DataPointFlags"; Prometheus, "Staleness").
+/// them where there is no page now, since the scrape failed. Only keys that stand elsewhere than in the page before are
+/// hashed. Want of memory is the only error (OTLP 1.x, "DataPointFlags"; Prometheus, "Staleness").
 pub fn vanished(alloc: Global, before: &Page, now: Option<&Page>) -> Result<List<SeriesKey>, Memory>
     ensures { IfOk result (λ keys. keys ≡ keys_gone before.now (page_or_empty (option_copied now.entry))) }
 {
-    let mut others = SeriesPlaces::of(alloc, keys_of_some(alloc, now)?);
+    keys_are_distinct(before);
     let keys = keys_of(alloc, before)?;
-    let gone = lacking(alloc, keys.as_slice(), &mut others)?;
+    let others = keys_of_some(alloc, now)?;
+    let parted = part(alloc, &others, &keys)?;
+    let mut left = SeriesPlaces::of(alloc, parted.left);
+    let gone = lacking(alloc, parted.strays.as_slice(), &mut left)?;
     List::from_vec(gone)
 }
