@@ -1,6 +1,6 @@
 -- What one page makes of the rows, reading by reading.
 -- The bridge's own.
-use Rattle.std.specs.Prelude.{◌≡◌, ℕ, Bool, List, ◌++◌, map, filter, Option, Some, None, option_map, if◌then◌else◌}
+use Rattle.std.specs.Prelude.{◌≡◌, ℕ, Bool, List, ◌++◌, map, zip, filter, filter_map, Option, Some, None, option_map, if◌then◌else◌}
 use Rattle.std.specs.List.{IsDistinct, list_any}
 use Rattle.std.specs.Map.{lookup, keys_of}
 use Rattle.label_sets.specs.declared.series_key.SeriesKey.{SeriesKey}
@@ -44,3 +44,7 @@ Sees rows moment rs before after = IsDistinct key_eq (keys_of rows) → (front :
 -- a series with its row one scrape later, where that misses it and the row is kept
 abbrev pub missed_entry : ℕ → (SeriesKey → Bool) → SeriesKey × Row → Option (SeriesKey × Row)
 missed_entry keep is_present_now e = if is_present_now e.0 then None else option_map (λ row. (e.0, row)) (older_row keep e.1)
+
+-- behind entries stand those that were missed, where the marks say which series are present
+abbrev pub KeepsMissed : ℕ → List SeriesKey → List Row → List Bool → List (SeriesKey × Row) → List (SeriesKey × Row) → Type 0
+KeepsMissed keep keys rows found before after = (present : SeriesKey → Bool) → found ≡ map present keys → after ≡ before ++ filter_map (missed_entry keep present) (zip keys rows)

@@ -1,13 +1,12 @@
 //! What one page makes of the rows, reading by reading.
-ghost use Rattle.std.specs.Prelude.{◌≡◌, ◌++◌, [], ◌∷◌, Bool, true, false, zip, map, replicate, slice_set, slice_index_or, length, filter_map, slice_get, option_map, option_and_then, MatchOption, IfOk, OnOk};
+ghost use Rattle.std.specs.Prelude.{◌≡◌, ◌++◌, [], ◌∷◌, true, false, zip, map, replicate, slice_set, slice_index_or, length, slice_get, option_map, option_and_then, MatchOption, IfOk, OnOk};
 ghost use Rattle.std.specs.List.{IsDistinct, flat_map};
 ghost use Rattle.std.specs.Option.{option_copied, option_to_list};
-ghost use Rattle.label_sets.specs.declared.series_key.SeriesKey.{SeriesKey as Key};
 ghost use Rattle.label_sets.specs.Keys.{key_eq};
 ghost use Rattle.page_model.specs.declared.page.Family.{Family as OneFamily};
 ghost use Rattle.start_times.specs.declared.row.Row.{Row as OneRow};
 ghost use Rattle.start_times.specs.Rows.{kept_start};
-ghost use Rattle.start_times.specs.Sightings.{Sees, missed_entry};
+ghost use Rattle.start_times.specs.Sightings.{Sees, KeepsMissed, missed_entry};
 
 use crate::entries::Entries;
 use crate::row::{Row, next_row, older_row};
@@ -186,7 +185,7 @@ pub(crate) fn keep_others(
     entries: &mut Entries,
 ) -> Result<(), Memory>
     requires { length keys.now ≡ length rows.now }
-    ensures { OnOk result ((present : Key → Bool) → found.now ≡ map present keys.now → entries.new ≡ entries.old ++ filter_map (missed_entry keep present) (zip keys.now rows.now)) }
+    ensures { OnOk result (KeepsMissed keep keys.now rows.now found.now entries.old entries.new) }
 {
     let keys = keys.as_slice();
     let rows = rows.as_slice();

@@ -10,7 +10,7 @@ use std::alloc::Global;
 
 /// Whether the points of a kind have a start.
 #[tactic(auto, unfolding(crate::specs::Starts::has_start))]
-pub(crate) fn has_start(kind: Kind) -> bool
+pub fn has_start(kind: Kind) -> bool
     ensures { result ≡ spec.has_start kind }
 {
     match kind {
@@ -28,7 +28,7 @@ fn up_to(limit: u64, time: u64) -> Option<u64>
 }
 
 /// When the page says that the series was created, where that isn't after the moment.
-pub(crate) fn created_at(moment: u64, reading: &Reading) -> Option<u64>
+pub fn created_at(moment: u64, reading: &Reading) -> Option<u64>
     ensures { result ≡ spec.created_at moment reading.now }
 {
     let Some(created) = &reading.created else {
