@@ -1,0 +1,10 @@
+pub mod ConfigKeys
+pub mod Addresses
+pub mod Configurations
+pub mod KeyFaults
+pub mod ConfigFaults
+pub mod ConfigLines
+pub mod RightConfigs
+pub mod Tables
+pub mod Makings
+pub mod Readings
