@@ -95,11 +95,11 @@ label_sets_same (l ∷ ls) = rw (bytes_same l.name, bytes_same l.value, label_se
 -- ---- readings of plain samples
 
 module _ (st : Setting) where
-  abbrev kept : Sample → LabelSet
+  abbrev pub kept : Sample → LabelSet
   kept s = kept_labels st.treatment s.labels
 
   -- samples of one name
-  abbrev AreNamed : List ℕ → List Sample → Type 0
+  abbrev pub AreNamed : List ℕ → List Sample → Type 0
   AreNamed F [] = Unit {0}
   AreNamed F (y ∷ samples) = (y.name ≡ F) × AreNamed F samples
 
@@ -108,7 +108,7 @@ module _ (st : Setting) where
   AreFresh F [] = Unit {0}
   AreFresh F (y ∷ samples) = (list_any (λ t. label_sets_eq (kept t) (kept y)) samples ≡ false) × (y.name ≡ F) × AreFresh F samples
 
-  plain_names : (k : Kind) (F : List ℕ) (samples : List Sample) → is_grouped st.format k ≡ false → AreSound st k F samples → AreNamed (F ++ single_suffix k) samples
+  pub plain_names : (k : Kind) (F : List ℕ) (samples : List Sample) → is_grouped st.format k ≡ false → AreSound st k F samples → AreNamed (F ++ single_suffix k) samples
   plain_names k F [] plain sound = tt
   plain_names k F (y ∷ samples) plain sound = (plain_name st k F y plain sound.0.named, plain_names k F samples plain sound.1)
 
@@ -118,7 +118,7 @@ module _ (st : Setting) where
       sym (ap (λ b. b && label_sets_eq (kept t) (kept y)) names) ∙ h
 
   module _ (F name : List ℕ) where
-    no_same : (above : List Owned) (y : Sample) → AreNamed name (samples_of above F) → y.name ≡ name → is_duplicate st above y ≡ false → list_any (λ t. label_sets_eq (kept t) (kept y)) (samples_of above F) ≡ false
+    pub no_same : (above : List Owned) (y : Sample) → AreNamed name (samples_of above F) → y.name ≡ name → is_duplicate st above y ≡ false → list_any (λ t. label_sets_eq (kept t) (kept y)) (samples_of above F) ≡ false
     unfolding is_duplicate samples_of
     no_same [] y names own h = refl
     no_same (o ∷ above) y names own h = by (is_of F o) (sample_of_line o.item) names h (λ n. no_same above y n own)
@@ -266,7 +266,7 @@ samples_none above F none = reversed_samples above F ∙ ap reverse (no_samples 
 
 module _ (st : Setting) where
   -- a family's samples, each as its key and its value
-  abbrev seen_in : List Owned → List ℕ → List (SampleKey × Number)
+  abbrev pub seen_in : List Owned → List ℕ → List (SampleKey × Number)
   seen_in above F = map (keyed st) (samples_of (reverse above) F)
 
   seen_other : (o : Owned) (above : List Owned) (F : List ℕ) → bytes_eq o.family F ≡ false → seen_in (o ∷ above) F ≡ seen_in above F
@@ -284,7 +284,7 @@ module _ (st : Setting) where
   one_flat f F = append-nil (f F)
 
   -- the samples of the left families and of the next line's
-  seen_before : (F : List ℕ) (item : Item) (above : List Owned) → AreFit st above → is_split above (record { family = F; item = item }) ≡ false
+  pub seen_before : (F : List ℕ) (item : Item) (above : List Owned) → AreFit st above → is_split above (record { family = F; item = item }) ≡ false
       → flat_map (seen_in above) (families_of (reverse above)) ≡ flat_map (seen_in above) (left_before F above) ++ seen_in above F
   unfolding left_before is_split families_of samples_of
   seen_before F item [] fit h = refl
@@ -301,7 +301,7 @@ module _ (st : Setting) where
           ∙ ap (λ l. flat_map (seen_in (n ∷ above)) (left_before n.family above ++ n.family ∷ []) ++ l) (sym (ap (map (keyed st)) (samples_none (n ∷ above) F (rw e none))))
 
   -- the samples stand family by family
-  together : (above : List Owned) → AreFit st above → seen_above st above ≡ flat_map (seen_in above) (families_of (reverse above))
+  pub together : (above : List Owned) → AreFit st above → seen_above st above ≡ flat_map (seen_in above) (families_of (reverse above))
   unfolding seen_above left_before families_of
   together [] fit = refl
   together (o ∷ above) fit =

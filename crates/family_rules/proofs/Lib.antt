@@ -10,9 +10,10 @@ pub mod Seen
 pub mod Standing
 pub mod Endings
 pub mod Taking
-pub mod Sampled
 pub mod Loops
 pub mod Built
+pub mod Passed
+pub mod Sampled
 pub mod Complete
 pub mod Values
 pub mod PageOfLines

@@ -1,6 +1,6 @@
 -- The loops that build readings and families.
 use Rattle.std.proofs.Common.{◌≡◌, ◌≤◌, ◌+◌, ℕ, zero, suc, arith, Bool, true, cond, List, [], ◌∷◌, ◌++◌, drop, length, Option, Some, None, refl, sym, ap, ◌∙◌}
-use Rattle.std.specs.Prelude.{◌||◌, slice_get}
+use Rattle.std.specs.Prelude.{◌&&◌, ◌||◌, not, slice_get}
 use Rattle.std.specs.List.{list_any, zip}
 use Rattle.std.specs.Vec.Iter.{into_iter_items, into_iter_steps}
 use Rattle.std.specs.declared.vec.IntoIter.{IntoIter}
@@ -12,10 +12,12 @@ use Rattle.page_model.specs.declared.format.Format.{Format}
 use Rattle.page_model.specs.declared.page.Family.{Family}
 use Rattle.page_model.specs.declared.page.Reading.{Reading}
 use Rattle.family_rules.specs.declared.family.FamilySoFar.{FamilySoFar}
+use Rattle.label_sets.specs.declared.label_set.LabelSet.{LabelSet}
+use Rattle.label_sets.specs.Labels.{label_sets_eq}
 use Rattle.exact_decimal.specs.declared.number.Number.{Number}
 use Rattle.packed_keys.specs.declared.sample_key.SampleKey.{SampleKey}
 use Rattle.packed_keys.specs.Packing.{sample_key_eq}
-use Rattle.family_rules.specs.KeyedValues.{is_key_of, IsNext}
+use Rattle.family_rules.specs.KeyedValues.{is_key_of, passed_from, ComesNext}
 use Rattle.family_rules.specs.Made.{plain_reading, readings_at, family_at, families_at}
 
 pub no_length : {A : Type 0} (xs : List A) → length xs ≡ 0 → xs ≡ []
@@ -56,11 +58,11 @@ next_named (n ∷ ns) (suc at) name v values h = next_named ns at name v values 
 pub no_names : {V : Type 0} (names : List (List ℕ)) (at : ℕ) (values : List V) → length names ≤ at → named (drop at names) values ≡ []
 no_names names at values h = ap (λ ns. named ns values) (drop_all at names h)
 
-pub none_left : {A : Type 0} (o : Option A) (old new : List A) → o ≡ None → IsNext o old new → old ≡ []
+pub none_left : {A : Type 0} (o : Option A) (old new : List A) → o ≡ None → ComesNext o old new → old ≡ []
 none_left None old new e h = h.0
 none_left (Some x) old new e h = absurd (let f : Some x ≡ None = e in cc)
 
-pub one_left : {A : Type 0} (o : Option A) (x : A) (old new : List A) → o ≡ Some x → IsNext o old new → old ≡ x ∷ new
+pub one_left : {A : Type 0} (o : Option A) (x : A) (old new : List A) → o ≡ Some x → ComesNext o old new → old ≡ x ∷ new
 one_left None x old new e h = absurd (let f : None ≡ Some x = e in cc)
 one_left (Some y) x old new e h = let same : y ≡ x = let f : Some y ≡ Some x = e in cc in h ∙ ap (λ z. z ∷ new) same
 
@@ -89,6 +91,13 @@ zip-drop zero ks vs = refl
 zip-drop (suc n) [] vs = refl
 zip-drop (suc n) (k ∷ ks) [] = zip-none (drop n ks) [] refl
 zip-drop (suc n) (k ∷ ks) (v ∷ vs) = zip-drop n ks vs
+
+-- as many pairs as values
+pub zip-length : {K V : Type 0} (ks : List K) (vs : List V) → length vs ≡ length ks → length (zip ks vs) ≡ length vs
+zip-length [] [] h = refl
+zip-length [] (v ∷ vs) h = absurd (omega (arith, h))
+zip-length (k ∷ ks) [] h = refl
+zip-length (k ∷ ks) (v ∷ vs) h = ap suc (zip-length ks vs (omega (arith, h)))
 
 -- one pair more at the end
 pub zip-more : {K V : Type 0} (ks : List K) (vs : List V) (k : K) (v : V) → length vs ≡ length ks → zip (ks ++ k ∷ []) (vs ++ v ∷ []) ≡ zip ks vs ++ (k, v) ∷ []
@@ -130,11 +139,19 @@ none_dropped n it next whole none after h = after ∙ sym none ∙ sym (nothing_
 -- a sample that was added stands behind the others
 pub sample_more : (key : SampleKey) (value : Number) (ks new : List SampleKey) (vs more : List Number) (now : List (SampleKey × Number)) (added : Bool)
     → zip ks vs ≡ now → length vs ≡ length ks → added ≡ true → new ≡ cond added (ks ++ key ∷ []) ks → more ≡ vs ++ value ∷ []
-    → zip new more ≡ cond added (now ++ (key, value) ∷ []) now
+    → zip new more ≡ now ++ (key, value) ∷ []
 sample_more key value ks new vs more now added view each h keys values =
     let new_is : new ≡ ks ++ key ∷ [] = keys ∙ ap (λ b. cond b (ks ++ key ∷ []) ks) h in
     (λ i. zip (new_is i) (values i)) ∙ zip-more ks vs key value each ∙ ap (λ l. l ++ (key, value) ∷ []) view
-    ∙ sym (ap (λ b. cond b (now ++ (key, value) ∷ []) now) h)
+
+-- one sample more was passed by
+pub passed_step : (labels : LabelSet) (any last b : Bool) (it next : List (SampleKey × Number)) (key : SampleKey) (value : Number) (whole : Bool)
+    → it ≡ (key, value) ∷ next → b ≡ label_sets_eq key.labels labels → passed_from labels any last it ≡ whole → passed_from labels (any || b) b next ≡ whole
+passed_step labels any last b it next key value whole items same h =
+    (λ i. passed_from labels (any || same i) (same i) next) ∙ sym (ap (passed_from labels any last) items) ∙ h
+
+pub passed_end : (labels : LabelSet) (any last : Bool) (it : List (SampleKey × Number)) (whole : Bool) → it ≡ [] → passed_from labels any last it ≡ whole → (any && not last) ≡ whole
+passed_end labels any last it whole none h = sym (ap (passed_from labels any last) none) ∙ h
 
 -- the key and the value that come next make the next pair
 pub next_pair : {K V : Type 0} (k : K) (v : V) (ks kn : List K) (vs vn : List V) (now : List (K × V)) → zip ks vs ≡ now → ks ≡ k ∷ kn → vs ≡ v ∷ vn → now ≡ (k, v) ∷ zip kn vn

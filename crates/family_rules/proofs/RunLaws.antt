@@ -16,7 +16,7 @@ use Rattle.page_model.specs.Written.{Setting}
 use Rattle.page_model.specs.Owners.{Owned, kind_of, samples_of}
 use Rattle.page_model.specs.Rules.{is_open_metrics, sample_group, in_one_group, is_interleaved}
 use Rattle.page_model.proofs.Laws.{label_sets_decide}
-use Rattle.family_rules.specs.GroupRuns.{Runs, no_runs, group_key, runs_from, runs_of, goes_back, with_group}
+use Rattle.family_rules.specs.GroupRuns.{Runs, no_runs, is_alone, has_runs, group_key, runs_from, runs_of, goes_back, with_group}
 use Rattle.family_rules.proofs.Lists.{bytes_same, bytes_swap, label_sets_swap, any_firsts, reverse-cons, first_of_each-snoc, list_any-map, list_any-reverse}
 
 -- ---- keys
@@ -103,7 +103,7 @@ module _ (st : Setting) (k : Kind) (F : List ℕ) where
 
 pub no_samples_no_runs : (st : Setting) (above : List Owned) (F : List ℕ) → samples_of above F ≡ [] → runs_of st above F ≡ no_runs
 unfolding runs_of runs_from
-no_samples_no_runs st above F none = ap (λ l. cond (is_open_metrics st.format) (runs_from st (kind_of above F) F l) no_runs) none ∙ by (is_open_metrics st.format)
+no_samples_no_runs st above F none = ap (λ l. cond (has_runs st.format (kind_of above F)) (runs_from st (kind_of above F) F l) no_runs) none ∙ by (has_runs st.format (kind_of above F))
   where
     by : (b : Bool) → cond b no_runs no_runs ≡ no_runs
     by true = refl
@@ -112,9 +112,9 @@ no_samples_no_runs st above F none = ap (λ l. cond (is_open_metrics st.format) 
 -- a sample of the family more
 pub runs_sample : (st : Setting) (F : List ℕ) (s : Sample) (above : List Owned)
     → runs_of st (record { family = F; item = items.Sample s } ∷ above) F
-    ≡ cond (is_open_metrics st.format) (with_group (runs_of st above F) (group_key F (sample_group st (kind_of above F) F s))) (runs_of st above F)
+    ≡ cond (has_runs st.format (kind_of above F)) (with_group (runs_of st above F) (group_key F (sample_group st (kind_of above F) F s))) (runs_of st above F)
 unfolding runs_of kind_of samples_of
-runs_sample st F s above = rw (bytes_same F) (by (is_open_metrics st.format))
+runs_sample st F s above = rw (bytes_same F) (by (has_runs st.format k))
   where
     k : Kind
     k = kind_of above F
@@ -124,11 +124,17 @@ runs_sample st F s above = rw (bytes_same F) (by (is_open_metrics st.format))
     by true = runs_more st k F (samples_of above F) s
     by false = refl
 
--- Interleaved, by the groups of the family
+-- the groups that are kept answer the rule where they are kept
+kept_or_none : (b : Bool) (r : Runs) (own : SampleKey) → (b && goes_back (cond b r no_runs) own) ≡ (b && goes_back r own)
+kept_or_none true r own = refl
+kept_or_none false r own = refl
+
+-- Interleaved, by the groups of the family, where samples share groups
 pub interleaved_kept : (st : Setting) (above : List Owned) (F : List ℕ) (s : Sample)
-    → (is_open_metrics st.format && goes_back (runs_of st above F) (group_key F (sample_group st (kind_of above F) F s))) ≡ is_interleaved st (kind_of above F) F (samples_of above F) s
+    → (has_runs st.format (kind_of above F) && goes_back (runs_of st above F) (group_key F (sample_group st (kind_of above F) F s)))
+    ≡ (not (is_alone (kind_of above F)) && is_interleaved st (kind_of above F) F (samples_of above F) s)
 unfolding runs_of
-interleaved_kept st above F s = by (is_open_metrics st.format) ∙ interleaved_runs st (kind_of above F) F (samples_of above F) s
+interleaved_kept st above F s = by (is_alone (kind_of above F))
   where
     r : Runs
     r = runs_from st (kind_of above F) F (samples_of above F)
@@ -136,6 +142,6 @@ interleaved_kept st above F s = by (is_open_metrics st.format) ∙ interleaved_r
     own : SampleKey
     own = group_key F (sample_group st (kind_of above F) F s)
 
-    by : (b : Bool) → (b && goes_back (cond b r no_runs) own) ≡ (b && goes_back r own)
+    by : (a : Bool) → (cond a false (is_open_metrics st.format) && goes_back (cond (cond a false (is_open_metrics st.format)) r no_runs) own) ≡ (not a && is_interleaved st (kind_of above F) F (samples_of above F) s)
     by true = refl
-    by false = refl
+    by false = kept_or_none (is_open_metrics st.format) r own ∙ interleaved_runs st (kind_of above F) F (samples_of above F) s

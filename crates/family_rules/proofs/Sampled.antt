@@ -26,16 +26,17 @@ use Rattle.sample_groups.specs.declared.part.Part.{Part}
 use Rattle.sample_groups.specs.Groups.{groups_from, known_group, or_empty, breaks_order, shared_labels}
 use Rattle.sample_groups.specs.Parts.{is_grouped, entry_of, part_of}
 use Rattle.sample_groups.proofs.Laws.{shared_group, order_kept}
-use Rattle.family_rules.specs.KeyedValues.{is_key_of}
+use Rattle.family_rules.specs.KeyedValues.{is_key_of, samples_at_end, is_passed}
 use Rattle.packed_keys.specs.declared.sample_key.SampleKey.{SampleKey}
-use Rattle.family_rules.specs.GroupRuns.{goes_back}
+use Rattle.family_rules.specs.GroupRuns.{is_alone, has_runs, goes_back}
 use Rattle.family_rules.specs.Checking.{Checking, groups_so_far, so_far, key_of, Stands}
 use Rattle.family_rules.specs.Steps.{is_current_family, current_kind, with_current, begun, left_stop, Takes, IsReady}
-use Rattle.family_rules.specs.Samples.{is_current_sample, TellsPart, told_part, told_left, has_bad_exemplar, is_bad_plain_value, key_in, is_back, entered_by, part_stop, order_stop, with_told, with_sample, with_added, sample_stop, add_stop, name_stop}
+use Rattle.family_rules.specs.Samples.{is_current_sample, TellsPart, told_part, told_left, has_bad_exemplar, is_bad_plain_value, current_samples, own_samples, seen_rule, key_in, is_back, entered_by, part_stop, order_stop, with_told, with_sample, with_added, sample_stop, add_stop, name_stop}
 use Rattle.family_rules.proofs.Lists.{bytes_same}
 use Rattle.family_rules.proofs.Faults.{fit_lines, sound_samples, left_fault, measure_fault, rest_fault, sample_fault}
 use Rattle.family_rules.proofs.Plain.{suffix_is, plain_value, plain_threshold, plain_order}
 use Rattle.family_rules.proofs.RunLaws.{interleaved_kept}
+use Rattle.family_rules.proofs.Passed.{last_none, back_seen, interleaved_passed}
 use Rattle.family_rules.proofs.Seen.{duplicate_seen}
 use Rattle.family_rules.proofs.Kept.{reversed_samples}
 use Rattle.family_rules.proofs.Standing.{ready_reached, ready_kind, stands_sample, split_left, split_own, left_kept, stays, own_owner, current_owner, ready_current_owner}
@@ -47,31 +48,58 @@ or_none : (a : Option Rule) → option_or a None ≡ a
 or_none None = refl
 or_none (Some r) = refl
 
--- Duplicate, then what else is broken, then TooMany, by the lists
-stop_kept : (st : Setting) (c : Checking) (earlier : List Item) (s : Sample) (broken : Option Rule) → Stands st c earlier
-    → sample_stop c (key_of c.setting s) broken ≡ cond (is_duplicate st (owned_lines st.format earlier) s) (Some rules.Duplicate) (option_or broken (cond (is_past_limit st earlier) (Some rules.TooMany) None))
+-- Interleaved or Duplicate, then what else is broken, then TooMany, by the lists
+stop_kept : (st : Setting) (c : Checking) (earlier : List Item) (s : Sample) (own : ℕ) (broken : Option Rule) → Stands st c earlier
+    → sample_stop c own (key_of c.setting s) broken
+    ≡ cond (is_duplicate st (owned_lines st.format earlier) s) (Some (seen_rule own (kept_labels c.setting.treatment s.labels) c.seen)) (option_or broken (cond (is_past_limit st earlier) (Some rules.TooMany) None))
 unfolding sample_stop is_past_limit
-stop_kept st c earlier s broken stands =
+stop_kept st c earlier s own broken stands =
     let double : is_key_of (key_of c.setting s) c.seen ≡ is_duplicate st (owned_lines st.format earlier) s =
     (λ i. is_key_of (key_of (stands.setting i) s) (stands.seen i)) ∙ duplicate_seen st (owned_lines st.format earlier) s in
     let past : nat_le c.setting.limit c.samples ≡ nat_le st.limit (count_by is_sample earlier) = λ i. nat_le (stands.setting i).limit (stands.samples i) in
-    λ i. cond (double i) (Some rules.Duplicate) (option_or broken (cond (past i) (Some rules.TooMany) None))
+    λ i. cond (double i) (Some (seen_rule own (kept_labels c.setting.treatment s.labels) c.seen)) (option_or broken (cond (past i) (Some rules.TooMany) None))
 
 -- a rule that is broken refuses the sample
-stop_some : (c : Checking) (key : SampleKey) (rule : Rule) → sample_stop c key (Some rule) ≡ None → ⊥
+stop_some : (c : Checking) (own : ℕ) (key : SampleKey) (rule : Rule) → sample_stop c own key (Some rule) ≡ None → ⊥
 unfolding sample_stop
-stop_some c key rule h = by (is_key_of key c.seen) h
+stop_some c own key rule h = by (is_key_of key c.seen) h
   where
-    by : (b : Bool) → cond b (Some rules.Duplicate) (Some rule) ≡ None → ⊥
+    by : (b : Bool) → cond b (Some (seen_rule own key.labels c.seen)) (Some rule) ≡ None → ⊥
     by true e = cc
     by false e = cc
 
+-- the rules behind Duplicate
+abbrev last_fault : Setting → List Item → List ℕ → Sample → Option Rule
+last_fault st earlier F s = let above = owned_lines st.format earlier in
+    option_or (option_or (measure_fault st (kind_of above F) F (samples_of above F) s) (left_fault st above (Some F))) (cond (is_past_limit st earlier) (Some rules.TooMany) None)
+
 -- the rest of the rules, by what the kind forbids and by what is left
-rest_kept : (st : Setting) (c : Checking) (earlier : List Item) (s : Sample) (F : List ℕ) (measure left : Option Rule) → Stands st c earlier
-    → measure ≡ measure_fault st (kind_of (owned_lines st.format earlier) F) F (samples_of (owned_lines st.format earlier) F) s → left ≡ left_fault st (owned_lines st.format earlier) (Some F)
-    → sample_stop c (key_of c.setting s) (option_or measure left) ≡ rest_fault st earlier F s
-rest_kept st c earlier s F measure left stands m l = stop_kept st c earlier s (option_or measure left) stands
-    ∙ (λ i. cond (is_duplicate st (owned_lines st.format earlier) s) (Some rules.Duplicate) (option_or (option_or (m i) (l i)) (cond (is_past_limit st earlier) (Some rules.TooMany) None)))
+rest_kept : (st : Setting) (c : Checking) (earlier : List Item) (s : Sample) (F : List ℕ) (own : ℕ) (back : Bool) (measure left : Option Rule) → Stands st c earlier
+    → is_passed (kept_labels c.setting.treatment s.labels) (samples_at_end own c.seen) ≡ back → measure ≡ measure_fault st (kind_of (owned_lines st.format earlier) F) F (samples_of (owned_lines st.format earlier) F) s → left ≡ left_fault st (owned_lines st.format earlier) (Some F)
+    → sample_stop c own (key_of c.setting s) (option_or measure left) ≡ cond (is_duplicate st (owned_lines st.format earlier) s) (Some (cond back rules.Interleaved rules.Duplicate)) (last_fault st earlier F s)
+rest_kept st c earlier s F own back measure left stands b m l = stop_kept st c earlier s own (option_or measure left) stands
+    ∙ (λ i. cond (is_duplicate st (owned_lines st.format earlier) s) (Some (cond (b i) rules.Interleaved rules.Duplicate)) (option_or (option_or (m i) (l i)) (cond (is_past_limit st earlier) (Some rules.TooMany) None)))
+
+-- Interleaved by the groups that have begun or by the samples that were seen, which alone tell it where each has a group of its own
+back_first : (alone back double : Bool) (rest : Option Rule) → (alone ≡ true → double ≡ false → back ≡ false)
+    → cond (not alone && back) (Some rules.Interleaved) (cond double (Some (cond (alone && back) rules.Interleaved rules.Duplicate)) rest) ≡ cond back (Some rules.Interleaved) (cond double (Some rules.Duplicate) rest)
+back_first false true double rest h = refl
+back_first false false double rest h = refl
+back_first true true true rest h = refl
+back_first true false true rest h = refl
+back_first true false false rest h = refl
+back_first true true false rest h = absurd (let f : true ≡ false = h refl refl in cc)
+
+back_or_suffix : (alone back : Bool) → cond (not alone && back) rules.Interleaved (cond (alone && back) rules.Interleaved rules.Suffix) ≡ cond back rules.Interleaved rules.Suffix
+back_or_suffix true true = refl
+back_or_suffix true false = refl
+back_or_suffix false true = refl
+back_or_suffix false false = refl
+
+-- no samples are asked
+no_own : (b : Bool) → ◌≡◌ {A = ℕ} (cond b 0 0) 0
+no_own true = refl
+no_own false = refl
 
 not_wrong : (st : Setting) (k : Kind) (F : List ℕ) (s : Sample) → is_sample_name st.format k F s.name ≡ true → has_wrong_suffix st k F s ≡ false
 unfolding has_wrong_suffix
@@ -79,22 +107,22 @@ not_wrong st k F s h = ap not h
 
 -- ---- what the steps of one sample did
 
-module _ (c mid after : Checking) (k : Kind) (labels : LabelSet) (told : Result (Option Part) Rule) (key : SampleKey) (broken : Option Rule) (entered : mid ≡ entered_by c k labels) where
-  pub added_stop : after ≡ with_current mid after.current → broken ≡ part_stop k labels told mid.current → (answer : Option Rule) → answer ≡ sample_stop after key broken → is_back c k labels ≡ false
-      → answer ≡ cond (is_back c k labels) (Some rules.Interleaved) (sample_stop c key (part_stop k labels told c.current))
+module _ (c mid after : Checking) (k : Kind) (labels : LabelSet) (told : Result (Option Part) Rule) (own : ℕ) (key : SampleKey) (broken : Option Rule) (entered : mid ≡ entered_by c k labels) where
+  pub added_stop : after ≡ with_current mid after.current → broken ≡ part_stop k labels told mid.current → (answer : Option Rule) → answer ≡ sample_stop after own key broken → is_back c k labels ≡ false
+      → answer ≡ cond (is_back c k labels) (Some rules.Interleaved) (sample_stop c own key (part_stop k labels told c.current))
   unfolding sample_stop
   added_stop rest told_is answer stop free =
-      stop ∙ ap (λ x. sample_stop x key broken) (rest ∙ ap (λ m. with_current m after.current) entered)
-      ∙ ap (sample_stop c key) (told_is ∙ ap (λ (m : Checking). part_stop k labels told m.current) entered)
-      ∙ sym (ap (λ b. cond b (Some rules.Interleaved) (sample_stop c key (part_stop k labels told c.current))) free)
+      stop ∙ ap (λ x. sample_stop x own key broken) (rest ∙ ap (λ m. with_current m after.current) entered)
+      ∙ ap (sample_stop c own key) (told_is ∙ ap (λ (m : Checking). part_stop k labels told m.current) entered)
+      ∙ sym (ap (λ b. cond b (Some rules.Interleaved) (sample_stop c own key (part_stop k labels told c.current))) free)
 
-  pub added_more : (broken ≡ None → after ≡ with_told mid k labels told) → (d : Checking) (value : Number) (answer : Option Rule) → answer ≡ sample_stop after key broken
+  pub added_more : (broken ≡ None → after ≡ with_told mid k labels told) → (d : Checking) (value : Number) (answer : Option Rule) → answer ≡ sample_stop after own key broken
       → (answer ≡ None → d ≡ with_sample after key value) → answer ≡ None → d ≡ with_sample (with_told (entered_by c k labels) k labels told) key value
   added_more taken d value answer stop step none = step none ∙ (λ i. with_sample ((taken (right broken (sym stop ∙ none)) ∙ ap (λ m. with_told m k labels told) entered) i) key value)
     where
-      right : (b : Option Rule) → sample_stop after key b ≡ None → b ≡ None
+      right : (b : Option Rule) → sample_stop after own key b ≡ None → b ≡ None
       right None e = refl
-      right (Some rule) e = absurd (stop_some after key rule e)
+      right (Some rule) e = absurd (stop_some after own key rule e)
 
 -- ---- a checker that is ready for a sample of this family
 
@@ -105,9 +133,17 @@ module _ (st : Setting) (c : Checking) (earlier : List Item) (F : List ℕ) (r :
   abbrev labels : LabelSet
   labels = kept_labels c.setting.treatment s.labels
 
+  -- Interleaved, by the samples that were seen, where each has a group of its own
+  passed_here : is_split above (record { family = F; item = items.Sample s }) ≡ false
+      → is_passed labels (samples_at_end (own_samples c k) c.seen) ≡ (is_alone (kind_of above F) && is_interleaved st (kind_of above F) F (samples_of above F) s)
+  unfolding so_far
+  passed_here free =
+      (λ i. is_passed (kept_labels (r.setting i).treatment s.labels) (samples_at_end (cond (is_open_metrics (r.setting i).format && is_alone (kind i)) (current_samples (r.current i)) 0) (r.seen i)))
+      ∙ interleaved_passed st above F s (fit_lines st earlier r.faultless) free
+
   -- Interleaved, by the groups that have begun
-  back_here : is_back c k labels ≡ is_interleaved st (kind_of above F) F (samples_of above F) s
-  back_here = (λ i. is_open_metrics (r.setting i).format && some_passes (λ x. goes_back (r.runs i) (key_in x (kind i) (kept_labels (r.setting i).treatment s.labels))) (r.current i)) ∙ interleaved_kept st above F s
+  back_here : is_back c k labels ≡ (not (is_alone (kind_of above F)) && is_interleaved st (kind_of above F) F (samples_of above F) s)
+  back_here = (λ i. has_runs (r.setting i).format (kind i) && some_passes (λ x. goes_back (r.runs i) (key_in x (kind i) (kept_labels (r.setting i).treatment s.labels))) (r.current i)) ∙ interleaved_kept st above F s
 
   -- Order, by the groups that are kept
   order_here : is_grouped st.format k ≡ true → has_wrong_suffix st (kind_of above F) F s ≡ false → has_bad_value st.format (kind_of above F) F s ≡ false → has_bad_threshold (kind_of above F) F s ≡ false
@@ -198,10 +234,15 @@ module _ (s : Sample) (c : Checking) (d : Checking) (own : is_current_sample c.s
         let measure : part_stop k (kept_labels c.setting.treatment s.labels) told c.current ≡ measure_fault st K F (samples_of above F) s =
         ap (λ t. part_stop k (kept_labels c.setting.treatment s.labels) t c.current) (told_here st earlier stands) ∙ measure_here st c earlier F ready s k kind (own_named st earlier stands) in
         let left : None ≡ left_fault st above (Some F) = sym (ap (λ b. cond b (Some rules.Incomplete) None) (stays st c earlier stands F (ap (λ k. is_current_family k F) stands.current ∙ (current_owner st c earlier stands s.name own).current))) in
-        let rest : sample_stop c (key_of c.setting s) (part_stop k (kept_labels c.setting.treatment s.labels) told c.current) ≡ rest_fault st earlier F s =
-        ap (sample_stop c (key_of c.setting s)) (measure ∙ sym (or_none (measure_fault st K F (samples_of above F) s)))
-        ∙ rest_kept st c earlier s F (measure_fault st K F (samples_of above F) s) None stands refl left in
+        let back : Bool = is_interleaved st K F (samples_of above F) s in
+        let passed : is_passed (kept_labels c.setting.treatment s.labels) (samples_at_end (own_samples c k) c.seen) ≡ (is_alone K && back) =
+        passed_here st c earlier F ready s k kind ((current_owner st c earlier stands s.name own).together (items.Sample s)) in
+        let rest : sample_stop c (own_samples c k) (key_of c.setting s) (part_stop k (kept_labels c.setting.treatment s.labels) told c.current)
+        ≡ cond (is_duplicate st above s) (Some (cond (is_alone K && back) rules.Interleaved rules.Duplicate)) (last_fault st earlier F s) =
+        ap (sample_stop c (own_samples c k) (key_of c.setting s)) (measure ∙ sym (or_none (measure_fault st K F (samples_of above F) s)))
+        ∙ rest_kept st c earlier s F (own_samples c k) (is_alone K && back) (measure_fault st K F (samples_of above F) s) None stands passed refl left in
         (λ i. cond (back_here st c earlier F ready s k kind i) (Some rules.Interleaved) (rest i))
+        ∙ back_first (is_alone K) back (is_duplicate st above s) (last_fault st earlier F s) (back_seen st above F s (fit_lines st earlier stands.faultless) (own_named st earlier stands))
         ∙ sym (own_fault st earlier stands before ∙ ap (λ b. cond b (Some rules.Exemplar) (cond (is_interleaved st K F (samples_of above F) s) (Some rules.Interleaved) (rest_fault st earlier F s))) good)
 
     pub own_added : (answer : Option Rule) → answer ≡ add_stop c k s told → (answer ≡ None → d ≡ with_added c k s told) → Takes (items.Sample s) c d answer
@@ -272,7 +313,10 @@ module _ (s : Sample) (c : Checking) (d : Checking) (other : is_current_sample c
         let above : List Owned = owned_lines st.format earlier in
         let back : Bool = is_interleaved st (kind_of above s.name) s.name (samples_of above s.name) s in
         let here : IsReady st c earlier s.name = ready st earlier stands in
-        ap Some (told ∙ ap (λ b. cond b rules.Interleaved rules.Suffix) (back_here st c earlier s.name here s (current_kind c.current) (ready_kind st c earlier s.name here)))
+        let kind = ready_kind st c earlier s.name here in
+        let passed = passed_here st c earlier s.name here s (current_kind c.current) kind (split_own st c earlier stands s.name (items.Sample s) h) in
+        ap Some (told ∙ (λ i. cond (back_here st c earlier s.name here s (current_kind c.current) kind i) rules.Interleaved (cond (passed i) rules.Interleaved rules.Suffix))
+        ∙ back_or_suffix (is_alone (kind_of above s.name)) back)
         ∙ either back
         ∙ sym (other_fault st earlier stands before false false back true x (split_own st c earlier stands s.name (items.Sample s) h) refl (ap not (name_here st earlier stands))))
       where
@@ -315,12 +359,8 @@ module _ (s : Sample) (c : Checking) (d : Checking) (other : is_current_sample c
       named st earlier stands = not_wrong st (kind_of (owned_lines st.format earlier) s.name) s.name s
           (ap (λ k. is_sample_name st.format k s.name s.name) (sym (unknown st earlier stands)) ∙ own_name s.name)
 
-      first_group : is_back (begun c s.name) Unknown (kept_labels c.setting.treatment s.labels) ≡ false
-      first_group = by (is_open_metrics c.setting.format)
-        where
-          by : (b : Bool) → (b && false) ≡ false
-          by true = refl
-          by false = refl
+      first_group : is_passed (kept_labels c.setting.treatment s.labels) (samples_at_end 0 c.seen) ≡ false
+      first_group = ap (is_passed (kept_labels c.setting.treatment s.labels)) (last_none c.seen)
 
       unmeasured : (st : Setting) (earlier : List Item) → Stands st c earlier
           → None ≡ measure_fault st (kind_of (owned_lines st.format earlier) s.name) s.name (samples_of (owned_lines st.format earlier) s.name) s
@@ -335,9 +375,9 @@ module _ (s : Sample) (c : Checking) (d : Checking) (other : is_current_sample c
       told_back None labels = refl
       told_back (Some rule) labels = refl
 
-      begin_stop : add_stop (begun c s.name) Unknown s (told_left (left_stop c.current)) ≡ sample_stop c (key_of c.setting s) (left_stop c.current)
+      begin_stop : add_stop (begun c s.name) Unknown s (told_left (left_stop c.current)) ≡ sample_stop c 0 (key_of c.setting s) (left_stop c.current)
       unfolding sample_stop
-      begin_stop = λ i. cond (first_group i) (Some rules.Interleaved) (sample_stop c (key_of c.setting s) (told_back (left_stop c.current) (kept_labels c.setting.treatment s.labels) i))
+      begin_stop = λ i. sample_stop c (no_own (is_open_metrics c.setting.format && true) i) (key_of c.setting s) (told_back (left_stop c.current) (kept_labels c.setting.treatment s.labels) i)
 
       pub other_begins : (answer : Option Rule) → answer ≡ add_stop (begun c s.name) Unknown s (told_left (left_stop c.current))
           → (answer ≡ None → d ≡ with_added (begun c s.name) Unknown s (told_left (left_stop c.current))) → Takes (items.Sample s) c d answer
@@ -355,10 +395,14 @@ module _ (s : Sample) (c : Checking) (d : Checking) (other : is_current_sample c
             where
               by : (o : Option Rule) → left_stop c.current ≡ o → o ≡ None
               by None e = refl
-              by (Some rule) e = absurd (stop_some c (key_of c.setting s) rule (ap (sample_stop c (key_of c.setting s)) (sym e) ∙ sym begin_stop ∙ sym stop ∙ none))
+              by (Some rule) e = absurd (stop_some c 0 (key_of c.setting s) rule (ap (sample_stop c 0 (key_of c.setting s)) (sym e) ∙ sym begin_stop ∙ sym stop ∙ none))
 
           fault : (st : Setting) (earlier : List Item) → Stands st c earlier → is_after_eof st earlier ≡ false → answer ≡ item_fault st earlier (items.Sample s)
           fault st earlier stands before =
-              let interleaved = sym (back_here st (begun c s.name) earlier s.name (begins st earlier stands) s Unknown (unknown st earlier stands)) ∙ first_group in
-              stop ∙ begin_stop ∙ rest_kept st c earlier s s.name None (left_stop c.current) stands (unmeasured st earlier stands) (left_kept st c earlier stands s.name h)
+              let above : List Owned = owned_lines st.format earlier in
+              let back : Bool = is_interleaved st (kind_of above s.name) s.name (samples_of above s.name) s in
+              let passed = passed_here st (begun c s.name) earlier s.name (begins st earlier stands) s Unknown (unknown st earlier stands) (together st earlier stands) in
+              let interleaved : back ≡ false = ap (λ k. is_alone k && back) (unknown st earlier stands) ∙ sym passed
+              ∙ (λ i. is_passed (kept_labels c.setting.treatment s.labels) (samples_at_end (no_own (is_open_metrics c.setting.format && true) i) c.seen)) ∙ first_group in
+              stop ∙ begin_stop ∙ rest_kept st c earlier s s.name 0 false None (left_stop c.current) stands first_group (unmeasured st earlier stands) (left_kept st c earlier stands s.name h)
               ∙ sym (other_fault st earlier stands before false false false false x (together st earlier stands) interleaved (named st earlier stands))

@@ -2,7 +2,7 @@
 use Rattle.std.proofs.lemmas.Bool.{le-leb}
 use Rattle.std.proofs.lemmas.Bool.Decides.{nat_tests}
 use Rattle.std.proofs.Common.{◌≡◌, ◌≤◌, ◌<◌, ◌⊎◌, arith, ℕ, Bool, true, false, cond, not, ◌&&◌, ◌||◌, List, [], ◌∷◌, ◌++◌, Option, Some, None, Result, Ok, Err, refl, sym, ap, subst, ◌∙◌, inl, inr, ◌+◌, is_some, count_by}
-use Rattle.std.specs.Prelude.{OnOk, IfOk, nat_le}
+use Rattle.std.specs.Prelude.{OnOk, IfOk, IfSome, nat_le}
 use Rattle.std.specs.Option.{option_or}
 use Rattle.exact_decimal.specs.declared.number.Number.{Number}
 use Rattle.page_model.specs.declared.item.Item.{Item}
@@ -20,7 +20,7 @@ use Rattle.family_rules.specs.KeyedValues.{is_key_of}
 use Rattle.family_rules.specs.GroupRuns.{nearest_runs}
 use Rattle.family_rules.specs.Checking.{Checking, so_far, left_families, current_family, seen_above, Stands}
 use Rattle.family_rules.specs.Steps.{line_of, is_current_family, begun, reached, with_descriptor, left_stop, place_stop, unit_stop, has_ended, Takes, TakesAny, IsReady}
-use Rattle.family_rules.specs.Samples.{with_counted, with_sample, sample_stop}
+use Rattle.family_rules.specs.Samples.{with_counted, with_sample, seen_rule, sample_stop}
 use Rattle.family_rules.proofs.Lists.{pairs}
 use Rattle.family_rules.proofs.Faults.{ended_fault, described_fault, unit_fault, left_fault, blank_fault, comment_fault, eof_fault}
 use Rattle.family_rules.proofs.Standing.{ready_reached, stands_described, unit_kept, place_kept, left_at_end}
@@ -116,24 +116,24 @@ pub negated_true : (a b : Bool) → a ≡ not b → a ≡ true → b ≡ false
 negated_true a false h e = refl
 negated_true a true h e = absurd (let f : true ≡ false = sym e ∙ h in cc)
 
-pub stop_duplicate : (c : Checking) (key : SampleKey) (broken : Option Rule) → is_key_of key c.seen ≡ true → Some rules.Duplicate ≡ sample_stop c key broken
+pub stop_seen : (c : Checking) (own : ℕ) (key : SampleKey) (broken : Option Rule) → is_key_of key c.seen ≡ true → (rule : Rule) → rule ≡ seen_rule own key.labels c.seen → Some rule ≡ sample_stop c own key broken
 unfolding sample_stop
-stop_duplicate c key broken h = rw h refl
+stop_seen c own key broken h rule told = ap Some told ∙ sym (ap (λ b. cond b (Some (seen_rule own key.labels c.seen)) (option_or broken (cond (nat_le c.setting.limit c.samples) (Some rules.TooMany) None))) h)
 
-pub stop_broken : (c : Checking) (key : SampleKey) (broken : Option Rule) → is_key_of key c.seen ≡ false → is_some broken ≡ true → broken ≡ sample_stop c key broken
+pub stop_broken : (c : Checking) (own : ℕ) (key : SampleKey) (broken : Option Rule) → is_key_of key c.seen ≡ false → is_some broken ≡ true → broken ≡ sample_stop c own key broken
 unfolding sample_stop
-stop_broken c key None h some = absurd (let f : false ≡ true = some in cc)
-stop_broken c key (Some rule) h some = rw h refl
+stop_broken c own key None h some = absurd (let f : false ≡ true = some in cc)
+stop_broken c own key (Some rule) h some = rw h refl
 
-pub stop_many : (c : Checking) (key : SampleKey) (broken : Option Rule) → is_key_of key c.seen ≡ false → is_some broken ≡ false → c.setting.limit ≤ c.samples → Some rules.TooMany ≡ sample_stop c key broken
+pub stop_many : (c : Checking) (own : ℕ) (key : SampleKey) (broken : Option Rule) → is_key_of key c.seen ≡ false → is_some broken ≡ false → c.setting.limit ≤ c.samples → Some rules.TooMany ≡ sample_stop c own key broken
 unfolding sample_stop
-stop_many c key (Some rule) h some many = absurd (let f : true ≡ false = some in cc)
-stop_many c key None h some many = rw (h, le-leb c.setting.limit c.samples many) refl
+stop_many c own key (Some rule) h some many = absurd (let f : true ≡ false = some in cc)
+stop_many c own key None h some many = rw (h, le-leb c.setting.limit c.samples many) refl
 
-pub stop_none : (c : Checking) (key : SampleKey) (broken : Option Rule) → is_key_of key c.seen ≡ false → is_some broken ≡ false → c.samples < c.setting.limit → None ≡ sample_stop c key broken
+pub stop_none : (c : Checking) (own : ℕ) (key : SampleKey) (broken : Option Rule) → is_key_of key c.seen ≡ false → is_some broken ≡ false → c.samples < c.setting.limit → None ≡ sample_stop c own key broken
 unfolding sample_stop
-stop_none c key (Some rule) h some few = absurd (let f : true ≡ false = some in cc)
-stop_none c key None h some few = let past : nat_le c.setting.limit c.samples ≡ false = grind (arith, nat_tests) in rw (h, past) refl
+stop_none c own key (Some rule) h some few = absurd (let f : true ≡ false = some in cc)
+stop_none c own key None h some few = let past : nat_le c.setting.limit c.samples ≡ false = grind (arith, nat_tests) in rw (h, past) refl
 
 -- ---- lines without an owner
 
@@ -190,9 +190,14 @@ module _ (c : Checking) where
     stands = λ st earlier s none. takes.stands st earlier s (sym (ended_kept st earlier s) ∙ h) none;
   }
 
+-- the value of an option, by what is said of it
+pub some_is : {A : Type 0} (o : Option A) (x y : A) → o ≡ Some x → IfSome o (λ z. z ≡ y) → x ≡ y
+some_is None x y e h = absurd (let f : None ≡ Some x = e in cc)
+some_is (Some z) x y e h = let same : z ≡ x = let f : Some z ≡ Some x = e in cc in sym same ∙ h
+
 -- a sample that was added stands behind the others
-pub put_new : {A : Type 0} (seen : List A) (x : A) (added : Bool) → added ≡ true → cond added (seen ++ x ∷ []) seen ≡ seen ++ x ∷ []
-put_new seen x added h = ap (λ b. cond b (seen ++ x ∷ []) seen) h
+pub put_new : {A : Type 0} (seen : List A) (x : A) (known : Bool) → known ≡ false → cond known seen (seen ++ x ∷ []) ≡ seen ++ x ∷ []
+put_new seen x known h = ap (λ b. cond b seen (seen ++ x ∷ [])) h
 
 -- an answer that is a rule
 pub is_rule : (P : Option Rule → Type 0) (broken : Option Rule) → is_some broken ≡ true → ((rule : Rule) → broken ≡ Some rule → P (Some rule)) → P broken

@@ -1,13 +1,15 @@
 -- The groups of a family, in the order in which they begin.
 -- OpenMetrics 1.0, "Metric": the samples of one group stand together.
-use Rattle.std.specs.Prelude.{◌≡◌, ⊤, ℕ, Bool, not, ◌&&◌, List, [], ◌∷◌, ◌++◌, map, reverse, Option, None, Some, if◌then◌else◌}
+use Rattle.std.specs.Prelude.{◌≡◌, ⊤, ℕ, Bool, true, false, not, ◌&&◌, List, [], ◌∷◌, ◌++◌, map, reverse, Option, None, Some, if◌then◌else◌}
 use Rattle.std.specs.List.{list_any}
 use Rattle.label_sets.specs.declared.kind.Kind.{Kind}
+use Rattle.label_sets.specs.declared.kind.Kind.TheVariants.{Gauge, Unknown, Info}
 use Rattle.label_sets.specs.declared.label_set.LabelSet.{LabelSet}
 use Rattle.label_sets.specs.Labels.{label_sets_eq}
 use Rattle.label_sets.specs.Lists.{first_of_each, some_passes}
 use Rattle.packed_keys.specs.declared.sample_key.SampleKey.{SampleKey}
 use Rattle.packed_keys.specs.Packing.{sample_key_eq}
+use Rattle.page_model.specs.declared.format.Format.{Format}
 use Rattle.page_model.specs.declared.item.Sample.{Sample}
 use Rattle.page_model.specs.Written.{Setting}
 use Rattle.page_model.specs.Owners.{Owned, kind_of, samples_of}
@@ -27,6 +29,17 @@ StartsEmpty (Some labels) begun = ⊤
 abbrev pub no_runs : Runs
 no_runs = record { begun = []; nearest = None }
 
+-- each sample of this kind has one name and a group of its own: its labels are those of its group
+abbrev pub is_alone : Kind → Bool
+is_alone Gauge = true
+is_alone Unknown = true
+is_alone Info = true
+is_alone _ = false
+
+-- the groups of this kind that have begun are kept: the format has the rule, and samples share groups
+abbrev pub has_runs : Format → Kind → Bool
+has_runs f kind = if is_alone kind then false else is_open_metrics f
+
 -- what tells a group from the others: its family and the labels that its samples share
 abbrev pub group_key : List ℕ → LabelSet → SampleKey
 group_key family labels = record { name = family; labels = labels }
@@ -39,9 +52,9 @@ runs_from st kind family (nearest ∷ samples) = record {
   nearest = Some (sample_group st kind family nearest);
 }
 
--- the groups of the samples of a family, where the format has the rule
+-- the groups of the samples of a family, where they are kept
 unfoldable pub runs_of : Setting → List Owned → List ℕ → Runs
-runs_of st above family = if is_open_metrics st.format then runs_from st (kind_of above family) family (samples_of above family) else no_runs
+runs_of st above family = if has_runs st.format (kind_of above family) then runs_from st (kind_of above family) family (samples_of above family) else no_runs
 
 -- the groups of the samples of the nearest line's family
 unfoldable pub nearest_runs : Setting → List Owned → Runs

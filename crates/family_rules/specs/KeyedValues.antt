@@ -1,10 +1,12 @@
 -- The samples of a page as keys and values, the keys beside their packed form where a page will be made (the bridge's own).
-use Rattle.std.specs.Prelude.{◌≡◌, ◌<◌, ⊤, Bool, List, [], ◌∷◌, Option, Some, None, MatchOption, length, vec_len, vec_capacity}
+use Rattle.std.specs.Prelude.{◌≡◌, ◌<◌, ◌-◌, ◌&&◌, ◌||◌, ⊤, ℕ, Bool, false, not, List, [], ◌∷◌, Option, Some, None, MatchOption, drop, length, vec_len, vec_capacity}
 use Rattle.std.specs.List.{list_any}
 use Rattle.std.specs.declared.vec.Vec.{Vec}
 use Rattle.std.specs.declared.alloc.Global.{Global}
 use Rattle.std.specs.Vec.Iter.{into_iter_items}
 use Rattle.exact_decimal.specs.declared.number.Number.{Number}
+use Rattle.label_sets.specs.declared.label_set.LabelSet.{LabelSet}
+use Rattle.label_sets.specs.Labels.{label_sets_eq}
 use Rattle.packed_keys.specs.declared.sample_key.SampleKey.{SampleKey}
 use Rattle.packed_keys.specs.Packing.{sample_key_eq}
 use Rattle.family_rules.specs.declared.keyed_values.KeySource.{KeySource}
@@ -13,6 +15,19 @@ use Rattle.family_rules.specs.declared.keyed_values.KeySource.TheVariants.{Kept,
 -- one of the samples has this key
 abbrev pub is_key_of : SampleKey → List (SampleKey × Number) → Bool
 is_key_of key samples = list_any (λ (e : SampleKey × Number). sample_key_eq key e.0) samples
+
+-- so many samples at the end
+abbrev pub samples_at_end : ℕ → List (SampleKey × Number) → List (SampleKey × Number)
+samples_at_end count samples = drop (length samples - count) samples
+
+-- behind samples of which one had these labels or none, and the last one had them or not: one has them, and the last one has not
+abbrev pub passed_from : LabelSet → Bool → Bool → List (SampleKey × Number) → Bool
+passed_from labels any last [] = any && not last
+passed_from labels any last (e ∷ samples) = passed_from labels (any || label_sets_eq e.0.labels labels) (label_sets_eq e.0.labels labels) samples
+
+-- one of the samples has these labels, and the last one has not
+abbrev pub is_passed : LabelSet → List (SampleKey × Number) → Bool
+is_passed labels samples = passed_from labels false false samples
 
 -- where keys are kept, they are these
 abbrev pub AreKept : Option (Vec SampleKey Global) → List SampleKey → Type 0
@@ -34,6 +49,6 @@ abbrev pub keys_to_come : KeySource → List SampleKey
 keys_to_come (Kept keys) = into_iter_items keys
 keys_to_come (Packed keys) = keys
 
--- what is next of a list, with what is left, or nothing of an empty one
-abbrev pub IsNext : {A : Type 0} → Option A → List A → List A → Type 0
-IsNext next old new = MatchOption next ((old ≡ []) × (new ≡ [])) (λ x. old ≡ x ∷ new)
+-- this comes next of what is to come, or nothing is to come
+abbrev pub ComesNext : {A : Type 0} → Option A → List A → List A → Type 0
+ComesNext next old new = MatchOption next ((old ≡ []) × (new ≡ [])) (λ x. old ≡ x ∷ new)

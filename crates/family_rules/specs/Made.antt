@@ -1,12 +1,15 @@
 -- The page of what a checker keeps (the bridge's own).
-use Rattle.std.specs.Prelude.{ℕ, List, [], ◌∷◌, map, filter_map, None, unwrap_or, drop, take, if◌then◌else◌}
+use Rattle.std.specs.Prelude.{◌≡◌, ℕ, List, [], ◌∷◌, map, filter_map, None, unwrap_or, drop, take, if◌then◌else◌}
 use Rattle.exact_decimal.specs.declared.number.Number.{Number}
 use Rattle.label_sets.specs.declared.kind.Kind.{Kind}
 use Rattle.page_model.specs.declared.format.Format.{Format}
+use Rattle.page_model.specs.declared.item.Item.{Item}
 use Rattle.page_model.specs.declared.page.Family.{Family}
 use Rattle.page_model.specs.declared.page.Reading.{Reading}
 use Rattle.page_model.specs.declared.page.Value.TheVariants as values
 use Rattle.page_model.specs.PageValues.{PageValue}
+use Rattle.page_model.specs.Readings.{page_of}
+use Rattle.page_model.specs.Written.{Setting}
 use Rattle.sample_groups.specs.Groups.{reading_from}
 use Rattle.sample_groups.specs.Parts.{is_grouped}
 use Rattle.packed_keys.specs.declared.sample_key.SampleKey.{SampleKey}
@@ -48,6 +51,10 @@ family_at format name f samples = record {
 unfoldable pub families_at : Format → List (List ℕ × FamilySoFar) → List (SampleKey × Number) → List Family
 families_at format [] samples = []
 families_at format (e ∷ es) samples = family_at format e.0 e.1 samples ∷ families_at format es (drop e.1.samples samples)
+
+-- the page of these lines has these families, and as many samples
+abbrev pub ArePartsOf : Setting → List Item → List Family × ℕ → Type 0
+ArePartsOf st earlier parts = page_of st earlier ≡ record { families = parts.0; samples = parts.1 }
 
 -- the page of what is kept
 unfoldable pub page_at : Checking → PageValue

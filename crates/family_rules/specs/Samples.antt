@@ -24,8 +24,8 @@ use Rattle.sample_groups.specs.Parts.{is_grouped, part_of}
 use Rattle.packed_keys.specs.declared.sample_key.SampleKey.{SampleKey}
 use Rattle.family_rules.specs.declared.family.Current.{Current}
 use Rattle.family_rules.specs.declared.family.FamilySoFar.{FamilySoFar}
-use Rattle.family_rules.specs.KeyedValues.{is_key_of}
-use Rattle.family_rules.specs.GroupRuns.{Runs, group_key, goes_back, with_group}
+use Rattle.family_rules.specs.KeyedValues.{is_key_of, samples_at_end, is_passed}
+use Rattle.family_rules.specs.GroupRuns.{Runs, is_alone, has_runs, group_key, goes_back, with_group}
 use Rattle.family_rules.specs.Checking.{Checking, kind_in, key_of}
 use Rattle.family_rules.specs.Steps.{current_with, with_current, current_kind}
 
@@ -69,10 +69,23 @@ fits_order kind labels part (Some k) = not (breaks_order (or_empty (known_group 
 abbrev pub order_stop : Kind → LabelSet → Part → Option Current → Option Rule
 order_stop kind labels part current = if fits_order kind labels part current then None else Some rules.Order
 
--- Duplicate, then what else is broken, then TooMany
-unfoldable pub sample_stop : Checking → SampleKey → Option Rule → Option Rule
-sample_stop c key broken =
-    if is_key_of key c.seen then Some rules.Duplicate
+-- how many samples the current family has
+abbrev pub current_samples : Option Current → ℕ
+current_samples None = 0
+current_samples (Some k) = k.family.samples
+
+-- how many samples at the end tell which groups have begun, where each has a group of its own
+abbrev pub own_samples : Checking → Kind → ℕ
+own_samples c kind = if is_open_metrics c.setting.format && is_alone kind then current_samples c.current else 0
+
+-- Interleaved or Duplicate, of a key that was seen: it goes back to one of so many samples at the end, or not
+abbrev pub seen_rule : ℕ → LabelSet → List (SampleKey × Number) → Rule
+seen_rule own labels seen = if is_passed labels (samples_at_end own seen) then rules.Interleaved else rules.Duplicate
+
+-- Interleaved or Duplicate, then what else is broken, then TooMany
+unfoldable pub sample_stop : Checking → ℕ → SampleKey → Option Rule → Option Rule
+sample_stop c own key broken =
+    if is_key_of key c.seen then Some (seen_rule own key.labels c.seen)
     else option_or broken (if nat_le c.setting.limit c.samples then Some rules.TooMany else None)
 
 -- ---- what a sample is to its group
@@ -131,14 +144,14 @@ has_bad_exemplar (Some k) s = is_bad_exemplar (kind_in k.family) k.name s
 abbrev pub key_in : Current → Kind → LabelSet → SampleKey
 key_in k kind labels = group_key k.name (group_of kind k.name labels)
 
--- Interleaved: a sample of the current family goes back to its group
+-- Interleaved: a sample of the current family goes back to its group, by the groups that have begun
 abbrev pub is_back : Checking → Kind → LabelSet → Bool
-is_back c kind labels = is_open_metrics c.setting.format && some_passes (λ k. goes_back c.runs (key_in k kind labels)) c.current
+is_back c kind labels = has_runs c.setting.format kind && some_passes (λ k. goes_back c.runs (key_in k kind labels)) c.current
 
--- the groups with a sample of the current family more, where the format has the rule
+-- the groups with a sample of the current family more, where they are kept
 abbrev pub runs_with : Format → Option Current → Kind → LabelSet → Runs → Runs
 runs_with f None kind labels r = r
-runs_with f (Some k) kind labels r = if is_open_metrics f then with_group r (key_in k kind labels) else r
+runs_with f (Some k) kind labels r = if has_runs f kind then with_group r (key_in k kind labels) else r
 
 -- a sample of the current family has gone to its group
 abbrev pub entered_by : Checking → Kind → LabelSet → Checking
@@ -146,10 +159,11 @@ entered_by c kind labels = record c { runs = runs_with c.setting.format c.curren
 
 -- ---- a sample more
 
--- Interleaved, then Duplicate, then what was told or Order, then TooMany
+-- Interleaved or Duplicate, then what was told or Order, then TooMany
 abbrev pub add_stop : Checking → Kind → Sample → Result (Option Part) Rule → Option Rule
 add_stop c kind s told = let labels = kept_labels c.setting.treatment s.labels in
-    if is_back c kind labels then Some rules.Interleaved else sample_stop c (key_of c.setting s) (part_stop kind labels told c.current)
+    if is_back c kind labels then Some rules.Interleaved
+    else sample_stop c (own_samples c kind) (key_of c.setting s) (part_stop kind labels told c.current)
 
 -- the current family has the sample
 abbrev pub with_added : Checking → Kind → Sample → Result (Option Part) Rule → Checking
@@ -158,4 +172,6 @@ with_added c kind s told = let labels = kept_labels c.setting.treatment s.labels
 
 -- Interleaved or Suffix, of a sample whose name the current family's kind doesn't allow
 abbrev pub name_stop : Checking → Sample → Rule
-name_stop c s = if is_back c (current_kind c.current) (kept_labels c.setting.treatment s.labels) then rules.Interleaved else rules.Suffix
+name_stop c s = let kind = current_kind c.current in let labels = kept_labels c.setting.treatment s.labels in
+    if is_back c kind labels then rules.Interleaved
+    else if is_passed labels (samples_at_end (own_samples c kind) c.seen) then rules.Interleaved else rules.Suffix

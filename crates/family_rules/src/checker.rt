@@ -62,7 +62,7 @@ impl Model for ItemChecker {
 impl ItemChecker {
     ghost use Rattle.family_rules.specs.Checking.{Stands, Answers, TellsEnd, HasStopped};
     ghost use Rattle.family_rules.specs.Steps.{Takes, TakesAny, has_ended, end_stop};
-    ghost use Rattle.family_rules.specs.Made.{page_at};
+    ghost use Rattle.family_rules.specs.Made.{ArePartsOf, page_at};
 
     /// A checker that has taken no line, and will make a page. `limit` is the most samples that the page may have.
     pub fn new(
@@ -252,7 +252,7 @@ impl ItemChecker {
     /// the page is empty or ends with a line feed. An earlier refusal, or want of memory, is answered again.
     pub fn close(self, line: u32, clean: bool) -> Result<(List<Family>, u32), PageFault>
         ensures answer { (st : Setting) (earlier : List Item) → Stands st self earlier → Answers line (end_fault st earlier clean) result }
-        ensures page { (st : Setting) (earlier : List Item) → Stands st self earlier → IfOk result (λ parts. page_of st earlier ≡ record { families = parts.0; samples = parts.1 }) }
+        ensures page { (st : Setting) (earlier : List Item) → Stands st self earlier → IfOk result (ArePartsOf st earlier) }
         ensures stopped { (fault : PageFault) → HasStopped self fault → result ≡ Err fault }
     {
         if let Some(fault) = self.end_fault(line, clean) {

@@ -1,15 +1,16 @@
 //! The values of a page's samples in one list, each by its key. Keys are packed, so that one that comes twice is
 //! found, and kept as they are where a page will be made of them, since reading them back takes longer.
-ghost use Rattle.std.specs.Prelude.{◌≡◌, ◌++◌, [], ◌∷◌, drop, not, IfOk, OnOk, List, if◌then◌else◌};
+ghost use Rattle.std.specs.Prelude.{◌≡◌, ◌++◌, [], ◌∷◌, drop, length, IfOk, IfSome, OnOk, List, is_some, if◌then◌else◌};
 ghost use Rattle.std.specs.Vec.Iter.{into_iter_items};
 ghost use Rattle.packed_keys.specs.declared.sample_key.SampleKey.{SampleKey as AnyKey};
-ghost use Rattle.family_rules.specs.KeyedValues.{is_key_of, keys_to_come, AreKept, HasRoomForKey, IsNext};
+ghost use Rattle.family_rules.specs.KeyedValues.{is_key_of, is_passed, samples_at_end, keys_to_come, AreKept, HasRoomForKey, ComesNext};
 
 use exact_decimal::Number;
-use label_sets::Memory;
+use label_sets::{LabelSet, Memory};
 use packed_keys::{Keys, SampleKey, SeenKeys};
 use std::alloc::Global;
 use std::marker::Model;
+use std::mem;
 use std::vec::IntoIter;
 
 /// The samples so far, each as its key and its value, in the order of their lines; no key comes twice.
@@ -69,19 +70,45 @@ impl KeyedValues {
         }
     }
 
-    /// Adds a sample, and answers whether its key is new.
-    pub fn insert(&mut self, key: SampleKey, value: Number) -> Result<bool, Memory>
-        ensures added { IfOk result (λ added. added ≡ not (is_key_of key self.old)) }
-        ensures samples { IfOk result (λ added. self.new ≡ (if added then self.old ++ (key, value) ∷ [] else self.old)) }
+    /// How many samples there are.
+    fn len(&self) -> usize
+        ensures { result ≡ length self.now }
+    {
+        self.values.len()
+    }
+
+    /// Adds a sample, and answers its key where that isn't new.
+    pub fn insert(&mut self, key: SampleKey, value: Number) -> Result<Option<SampleKey>, Memory>
+        ensures known { IfOk result (λ known. is_some known ≡ is_key_of key self.old) }
+        ensures key { IfOk result (λ known. IfSome known (λ k. k ≡ key)) }
+        ensures samples { IfOk result (λ known. self.new ≡ (if is_some known then self.old else self.old ++ (key, value) ∷ [])) }
     {
         make_room(&mut self.kept)?;
         self.values.reserve(1)?;
         let added = self.seen.insert(&key)?;
-        if added {
-            keep(&mut self.kept, key);
-            self.values.push_reserved(value);
+        if !added {
+            return Ok(Some(key));
         }
-        Ok(added)
+        keep(&mut self.kept, key);
+        self.values.push_reserved(value);
+        Ok(None)
+    }
+
+    /// Whether one of so many samples at the end has these labels, and the last one has not. What was seen is
+    /// forgotten.
+    pub fn take_passed(
+        &mut self,
+        alloc: Global,
+        count: u32,
+        labels: &LabelSet,
+    ) -> Result<bool, Memory>
+        ensures { IfOk result (λ passed. passed ≡ is_passed labels.now (samples_at_end count self.old)) }
+    {
+        let seen = mem::replace(self, KeyedValues::new(alloc, false));
+        let before = seen.len().saturating_sub(count as usize);
+        let mut samples = seen.into_entries();
+        samples.pass_over(before);
+        is_passed(alloc, samples, labels)
     }
 
     /// The samples one after the other.
@@ -108,7 +135,7 @@ enum KeySource {
 }
 
 /// Passes over so many items.
-fn pass_over<T: Drop>(items: &mut IntoIter<T>, count: u32)
+fn pass_over<T: Drop>(items: &mut IntoIter<T>, count: usize)
     ensures { into_iter_items items.new ≡ drop count (into_iter_items items.old) }
 {
     for _ in 0..count {
@@ -139,7 +166,7 @@ impl Model for KeyedEntries {
 /// The next key, where there is one.
 #[inline(always)]
 fn next_key(keys: &mut KeySource, alloc: Global) -> Result<Option<SampleKey>, Memory>
-    ensures { IfOk result (λ next. IsNext next (keys_to_come keys.old) (keys_to_come keys.new)) }
+    ensures { IfOk result (λ next. ComesNext next (keys_to_come keys.old) (keys_to_come keys.new)) }
 {
     match keys {
         KeySource::Kept(keys) => Ok(keys.next()),
@@ -148,12 +175,12 @@ fn next_key(keys: &mut KeySource, alloc: Global) -> Result<Option<SampleKey>, Me
 }
 
 /// Passes over so many keys.
-fn pass_over_keys(keys: &mut KeySource, count: u32)
+fn pass_over_keys(keys: &mut KeySource, count: usize)
     ensures { keys_to_come keys.new ≡ drop count (keys_to_come keys.old) }
 {
     match keys {
         KeySource::Kept(keys) => pass_over(keys, count),
-        KeySource::Packed(keys) => keys.pass_over(count as usize),
+        KeySource::Packed(keys) => keys.pass_over(count),
     }
 }
 
@@ -161,7 +188,7 @@ impl KeyedEntries {
     /// The next sample, where there is one.
     #[inline(always)]
     pub fn next(&mut self, alloc: Global) -> Result<Option<(SampleKey, Number)>, Memory>
-        ensures { IfOk result (λ next. IsNext next self.old self.new) }
+        ensures { IfOk result (λ next. ComesNext next self.old self.new) }
     {
         let Some(value) = self.values.next() else {
             return Ok(None);
@@ -174,10 +201,27 @@ impl KeyedEntries {
     }
 
     /// Passes over so many samples.
-    pub fn pass_over(&mut self, count: u32)
+    pub fn pass_over(&mut self, count: usize)
         ensures { self.new ≡ drop count self.old }
     {
         pass_over_keys(&mut self.keys, count);
         pass_over(&mut self.values, count);
+    }
+}
+
+/// Whether one of the samples has these labels, and the last one has not.
+fn is_passed(alloc: Global, samples: KeyedEntries, labels: &LabelSet) -> Result<bool, Memory>
+    ensures { IfOk result (λ passed. passed ≡ is_passed labels.now samples) }
+{
+    let mut samples = samples;
+    let mut any = false;
+    let mut last = false;
+    loop {
+        let next = samples.next(alloc)?;
+        let Some((key, _value)) = next else {
+            return Ok(any && !last);
+        };
+        last = key.labels == *labels;
+        any = any || last;
     }
 }

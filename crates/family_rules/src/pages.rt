@@ -79,7 +79,7 @@ fn family(
     let help = text_or_empty(known.help);
     let unit = text_or_empty(known.unit.into_text());
     if is_grouped(format, kind) {
-        samples.pass_over(known.samples);
+        samples.pass_over(known.samples as usize);
         let readings = known
             .groups
             .into_readings(alloc, format, kind, &name, &unit)?;

@@ -2,7 +2,7 @@
 ghost use Rattle.std.specs.Prelude.{◌≡◌, false, IfOk};
 ghost use Rattle.std.specs.Str.{bytes_eq};
 ghost use Rattle.page_model.specs.Owners.{group_of};
-ghost use Rattle.family_rules.specs.GroupRuns.{no_runs, group_key, is_of_nearest, goes_back, with_group};
+ghost use Rattle.family_rules.specs.GroupRuns.{no_runs, is_alone, group_key, is_of_nearest, goes_back, with_group};
 
 use label_sets::{Kind, LabelSet, Memory, Name};
 use packed_keys::{SampleKey, SeenKeys};
@@ -27,6 +27,13 @@ impl Model for GroupRuns {
     ghost view = { λ r. record { begun = r.begun; nearest = r.nearest } };
 
     ghost invariant = { λ r. StartsEmpty r.nearest r.begun };
+}
+
+/// Whether each sample of this kind has one name and a group of its own, so that its labels are those of its group.
+pub fn is_alone(kind: Kind) -> bool
+    ensures { result ≡ is_alone kind }
+{
+    matches!(kind, Kind::Gauge | Kind::Unknown | Kind::Info)
 }
 
 /// The labels that a sample of this kind of family shares with those of its group.

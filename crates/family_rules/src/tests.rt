@@ -248,7 +248,7 @@ fn builds_the_page(rt: HostRuntime) -> Result<(), PageFault> {
 }
 
 /// Lines of OpenMetrics that break a rule, with the line and the rule.
-const OPEN: [(&str, u32, Rule); 19] = [
+const OPEN: [(&str, u32, Rule); 20] = [
     ("gauge x;x a", 99, Rule::NoEof),
     ("histogram h;h_bucket le=1 2", 99, Rule::NoEof),
     ("eof;comment", 2, Rule::AfterEof),
@@ -257,6 +257,11 @@ const OPEN: [(&str, u32, Rule); 19] = [
     ("counter c;c a;eof", 2, Rule::Suffix),
     ("x a;x b;x a", 3, Rule::Interleaved),
     ("x a;x b;x b", 3, Rule::Duplicate),
+    (
+        "counter c;c_total a;gauge c_total;c_total b;c_total a",
+        5,
+        Rule::Duplicate,
+    ),
     ("info i;i_info a;i_info b;i a", 4, Rule::Interleaved),
     (
         "counter c;c_total a;c_total b;c_created a",

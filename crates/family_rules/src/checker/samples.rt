@@ -1,14 +1,14 @@
 //! Samples of the family that goes on, and of one that they begin.
-ghost use Rattle.std.specs.Prelude.{◌≡◌, None, true, false, not, IfOk, OnOk};
+ghost use Rattle.std.specs.Prelude.{◌≡◌, None, true, false, IfOk, OnOk};
 ghost use Rattle.page_model.specs.Owners.{kept_labels};
-ghost use Rattle.page_model.specs.Rules.{is_open_metrics};
 ghost use Rattle.page_model.specs.declared.item.Item.TheVariants as items;
+ghost use Rattle.family_rules.specs.GroupRuns.{has_runs};
 ghost use Rattle.family_rules.specs.Steps.{Takes, with_current, left_stop};
-ghost use Rattle.family_rules.specs.Samples.{TellsPart, is_current_sample, has_bad_exemplar, with_counted, with_part_at, with_told, told_left, fits_order, part_stop, is_back, entered_by, with_sample, with_added, sample_stop, add_stop, name_stop};
+ghost use Rattle.family_rules.specs.Samples.{TellsPart, is_current_sample, current_samples, own_samples, has_bad_exemplar, with_counted, with_part_at, with_told, told_left, fits_order, part_stop, is_back, entered_by, with_sample, with_added, seen_rule, sample_stop, add_stop, name_stop};
 
 use super::ItemChecker;
 use crate::exemplars::is_bad_exemplar;
-use crate::runs::group_labels;
+use crate::runs::{group_labels, is_alone};
 use crate::sample_values::part_or_rule;
 use exact_decimal::Number;
 use label_sets::{Kind, LabelSet, Memory, Name};
@@ -50,19 +50,54 @@ impl ItemChecker {
         }
     }
 
-    /// Adds a sample of the current family, or answers the rule that it breaks: 14, then the given one, then 20.
+    /// How many samples the current family has.
+    fn current_samples(&self) -> u32
+        ensures { result ≡ current_samples self.now.current }
+    {
+        match &self.current {
+            Some(current) => current.family.samples,
+            None => 0,
+        }
+    }
+
+    /// How many samples at the end tell which groups have begun, where each has a group of its own.
+    fn own_samples(&self, kind: Kind) -> u32
+        ensures { result ≡ own_samples self.now kind }
+    {
+        match self.format {
+            Format::OpenMetrics if is_alone(kind) => self.current_samples(),
+            Format::OpenMetrics | Format::Text => 0,
+        }
+    }
+
+    /// The rule that a key breaks that was seen: 12, where it goes back to one of so many samples at the end, or
+    /// 14. What was seen is forgotten.
+    fn seen_rule(&mut self, own: u32, labels: &LabelSet) -> Result<Rule, Memory>
+        ensures { IfOk result (λ rule. rule ≡ seen_rule own labels.now self.old.seen) }
+    {
+        let passed = self.seen.take_passed(self.alloc, own, labels)?;
+        if passed {
+            return Ok(Rule::Interleaved);
+        }
+        Ok(Rule::Duplicate)
+    }
+
+    /// Adds a sample of the current family, or answers the rule that it breaks: 12 or 14, then the given one, then
+    /// 20. The groups of so many samples at the end have begun.
     fn add_key(
         &mut self,
+        own: u32,
         key: SampleKey,
         value: Number,
         broken: Option<Rule>,
     ) -> Result<Option<Rule>, Memory>
-        ensures broken { IfOk result (λ answer. answer ≡ sample_stop self.old key broken) }
+        ensures broken { IfOk result (λ answer. answer ≡ sample_stop self.old own key broken) }
         ensures added { IfOk result (λ answer. answer ≡ None → self.new ≡ with_sample self.old key value) }
     {
-        let added = self.seen.insert(key, value)?;
-        if !added {
-            return Ok(Some(Rule::Duplicate));
+        let known = self.seen.insert(key, value)?;
+        if let Some(known) = known {
+            let rule = self.seen_rule(own, &known.labels)?;
+            return Ok(Some(rule));
         }
         if broken.is_some() {
             return Ok(broken);
@@ -112,7 +147,7 @@ impl ItemChecker {
         ensures back { IfOk result (λ back. back ≡ is_back self.old kind labels.now) }
         ensures entered { IfOk result (λ back. back ≡ false → self.new ≡ entered_by self.old kind labels.now) }
     {
-        if self.is_text() {
+        if !self.has_runs(kind) {
             return Ok(false);
         }
         match &self.current {
@@ -124,13 +159,16 @@ impl ItemChecker {
         }
     }
 
-    /// Whether the format has no rule 12.
-    fn is_text(&self) -> bool
-        ensures { is_open_metrics self.now.setting.format ≡ not result }
+    /// Whether the groups of this kind that have begun are kept.
+    fn has_runs(&self, kind: Kind) -> bool
+        ensures { result ≡ has_runs self.now.setting.format kind }
     {
+        if is_alone(kind) {
+            return false;
+        }
         match self.format {
-            Format::Text => true,
-            Format::OpenMetrics => false,
+            Format::Text => false,
+            Format::OpenMetrics => true,
         }
     }
 
@@ -186,12 +224,13 @@ impl ItemChecker {
             ..
         } = sample;
         let labels = self.kept_labels(labels)?;
+        let own = self.own_samples(kind);
         let back = self.enter(kind, &labels)?;
         if back {
             return Ok(Some(Rule::Interleaved));
         }
         let broken = self.add_told(kind, &labels, told)?;
-        self.add_key(SampleKey { name, labels }, value, broken)
+        self.add_key(own, SampleKey { name, labels }, value, broken)
     }
 
     /// Takes a sample of the current family, and answers the rule that it breaks: 10, 12, 14 to 17 or 20.
@@ -213,8 +252,13 @@ impl ItemChecker {
     {
         let kind = self.current_kind();
         let labels = self.kept_labels(sample.labels)?;
+        let own = self.own_samples(kind);
         let back = self.enter(kind, &labels)?;
         if back {
+            return Ok(Rule::Interleaved);
+        }
+        let passed = self.seen.take_passed(self.alloc, own, &labels)?;
+        if passed {
             return Ok(Rule::Interleaved);
         }
         Ok(Rule::Suffix)

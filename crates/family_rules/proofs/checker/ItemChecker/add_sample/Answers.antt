@@ -13,18 +13,18 @@ returns-clause-broken c =
     let key : SampleKey = record { name = c.args.sample.name; labels = c.in_ok-labels.labels } in
     let key_is : key ≡ key_of c.args.self.now.setting c.args.sample = λ i. record { name = c.args.sample.name; labels = c.in_ok-labels.ensures i } in
     if_ok _ _ c.add_key.result (λ answer stop.
-    added_stop c.args.self.now c.enter.new.self c.add_told.new.self c.args.kind c.in_ok-labels.labels c.args.told key c.in_ok-broken.broken
+    added_stop c.args.self.now c.enter.new.self c.add_told.new.self c.args.kind c.in_ok-labels.labels c.args.told c.own_samples-own.result key c.in_ok-broken.broken
     (c.in_ok-back.ensures.entered c.if-back.false) c.in_ok-broken.ensures.rest c.in_ok-broken.ensures.broken answer stop
     (sym c.in_ok-back.ensures.back ∙ c.if-back.false)
     ∙ (λ i. cond (is_back c.args.self.now c.args.kind (c.in_ok-labels.ensures i)) (Some rules.Interleaved)
-    (sample_stop c.args.self.now (key_is i) (part_stop c.args.kind (c.in_ok-labels.ensures i) c.args.told c.args.self.now.current)))) c.add_key.ensures.broken
+    (sample_stop c.args.self.now (c.own_samples-own.ensures i) (key_is i) (part_stop c.args.kind (c.in_ok-labels.ensures i) c.args.told c.args.self.now.current)))) c.add_key.ensures.broken
 
 pub returns-clause-added : goal.returns-clause-added
 returns-clause-added c =
     let key : SampleKey = record { name = c.args.sample.name; labels = c.in_ok-labels.labels } in
     let key_is : key ≡ key_of c.args.self.now.setting c.args.sample = λ i. record { name = c.args.sample.name; labels = c.in_ok-labels.ensures i } in
     if_ok_both _ _ _ c.add_key.result (λ answer stop step none.
-    added_more c.args.self.now c.enter.new.self c.add_told.new.self c.args.kind c.in_ok-labels.labels c.args.told key c.in_ok-broken.broken
+    added_more c.args.self.now c.enter.new.self c.add_told.new.self c.args.kind c.in_ok-labels.labels c.args.told c.own_samples-own.result key c.in_ok-broken.broken
     (c.in_ok-back.ensures.entered c.if-back.false) c.in_ok-broken.ensures.added c.add_key.new.self c.args.sample.value answer stop step none
     ∙ (λ i. with_sample (with_told (entered_by c.args.self.now c.args.kind (c.in_ok-labels.ensures i)) c.args.kind (c.in_ok-labels.ensures i) c.args.told) (key_is i) c.args.sample.value))
     c.add_key.ensures.broken c.add_key.ensures.added
