@@ -1,0 +1,3 @@
+mod NameCases
+pub mod Founders
+pub mod FewGathered

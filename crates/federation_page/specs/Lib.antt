@@ -1,0 +1,4 @@
+pub mod Candidates
+pub mod Conflicts
+pub mod Gathering
+pub mod Laws
