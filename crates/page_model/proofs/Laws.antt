@@ -6,5 +6,5 @@ pub use Rattle.page_model.proofs.Groups.{Member, label_sets_decide, agrees_in, i
 pub use Rattle.page_model.proofs.Prefixes.{fault_from-append, too_long_fault}
 pub use Rattle.page_model.proofs.Least.{none_found}
 pub use Rattle.page_model.proofs.KindLaws.{kind_of_page}
-pub use Rattle.page_model.proofs.Texts.{items_make_text}
+pub use Rattle.page_model.proofs.Texts.{items_make_text, Made, nothing_made, made_more, made_says}
 pub use Rattle.page_model.proofs.DistinctKeys.{page-distinct_keys}

@@ -4,13 +4,14 @@ use Rattle.std.specs.Option.{option_or, option_map}
 use Rattle.std.specs.List.{fold, flat_map, slice_split}
 use Rattle.std.proofs.lemmas.List.{append-nil}
 use Rattle.std.proofs.lemmas.List.Elements.{All-tail}
+use Rattle.std.proofs.lemmas.Grind.{flat_map-append}
 use Rattle.page_lines.specs.Lines.{is_line_feed, Plain, without_empty_last, lines_of, ends_clean}
 use Rattle.page_model.specs.declared.format.Format.{Format}
 use Rattle.page_model.specs.declared.item.Item.{Item}
 use Rattle.page_model.specs.Written.{Setting, item_of}
 use Rattle.page_model.specs.Faults.{Line, Fault, own_fault, item_fault, line_fault, end_fault, lines_fault, with_line, with_lines, fault_from, fault_of}
 use Rattle.page_model.specs.Readings.{page_of}
-use Rattle.page_model.specs.Pages.{AreLines, items_of, IsItemOfLine, AreItemsOfLines, AreFaultless, IsPageRead}
+use Rattle.page_model.specs.Pages.{AreLines, items_of, IsItemOfLine, AreItemsOfLines, AreFaultless, IsPageOf, IsPageRead}
 use Rattle.page_model.proofs.Prefixes.{fault_from-append}
 use Rattle.page_model.proofs.RightPages.{text_is_right}
 
@@ -116,10 +117,11 @@ plain-append (p ∷ ps) qs a b = (a.0, plain-append ps qs a.1 b)
 
 -- ---- the text of items
 
--- lines that spell these items and break no rule
-record Made (st : Setting) (items : List Item) : Type 0 where
+-- lines that spell these items and break no rule; the text is theirs
+pub record Made (st : Setting) (items : List Item) (text : List ℕ) : Type 0 where
   pieces : List (List ℕ)
   lines : List Line
+  text_is : text ≡ ended pieces
   plain : ArePlain pieces
   are_lines : AreLines st.format pieces lines
   without_fault : lines_fault st [] 1 lines ≡ None
@@ -129,9 +131,20 @@ one_line_none : (st : Setting) (earlier : List Item) (n : ℕ) (l : Line) → li
 unfolding lines_fault
 one_line_none st earlier n l e = rw e refl
 
-made_more : (st : Setting) (item : Item) (earlier : List Item) → Made st earlier → IsItemOfLine st item → item_fault st earlier item ≡ None → Made st (item ∷ earlier)
-unfolding line_fault with_lines
-made_more st item earlier m i e =
+ended_append : (ps qs : List (List ℕ)) → ended (ps ++ qs) ≡ ended ps ++ ended qs
+unfolding ended
+ended_append ps qs = flat_map-append (λ (piece : List ℕ). piece ++ 10 ∷ []) ps qs
+
+-- no items have no text
+pub nothing_made : (st : Setting) → Made st [] []
+unfolding lines_fault with_lines ended
+nothing_made st = record { pieces = []; lines = []; text_is = refl; plain = tt; are_lines = tt; without_fault = refl; items_are = refl }
+
+-- an item behind them has its line behind their text
+pub made_more : (st : Setting) (item : Item) (earlier : List Item) (text : List ℕ) → Made st earlier text → (i : IsItemOfLine st item) → item_fault st earlier item ≡ None
+    → Made st (item ∷ earlier) (text ++ (i.line ++ 10 ∷ []))
+unfolding line_fault with_lines ended
+made_more st item earlier text m i e =
     let l : Line = record { bytes = i.line; says = Some i.written } in
     let item_free : item_fault st earlier (item_of st.format i.written) ≡ None = ap (item_fault st earlier) (sym i.item_is) ∙ e in
     let line_free : line_fault st earlier l ≡ None = option_or-none (own_fault st l) (item_fault st earlier (item_of st.format i.written)) i.without_fault item_free in
@@ -139,35 +152,43 @@ made_more st item earlier m i e =
     record {
       pieces = m.pieces ++ i.line ∷ [];
       lines = m.lines ++ l ∷ [];
+      text_is = ap (λ t. t ++ (i.line ++ 10 ∷ [])) m.text_is ∙ ap (λ t. ended m.pieces ++ t) (sym (append-nil (i.line ++ 10 ∷ []))) ∙ sym (ended_append m.pieces (i.line ∷ []));
       plain = plain-append m.pieces (i.line ∷ []) m.plain (i.one_line, tt);
       are_lines = are_lines-append st.format m.pieces (i.line ∷ []) m.lines (l ∷ []) m.are_lines (refl, i.spelled, tt);
       without_fault = lines_fault-append st [] 1 m.lines (l ∷ []) m.without_fault (one_line_none st (with_lines st.format m.lines []) (1 + length m.lines) l here);
       items_are = with_lines-append st.format m.lines (l ∷ []) [] ∙ ap (with_line st.format l) m.items_are ∙ ap (λ x. x ∷ earlier) (sym i.item_is);
     }
 
-made : (st : Setting) (items : List Item) → AreItemsOfLines st items → AreFaultless st items → Made st items
-unfolding lines_fault with_lines
-made st [] l a = record { pieces = []; lines = []; plain = tt; are_lines = tt; without_fault = refl; items_are = refl }
-made st (item ∷ earlier) l a = made_more st item earlier (made st earlier l.1 a.1) l.0 a.0
+-- the text of the lines that spell these items
+text_of : (st : Setting) (items : List Item) → AreItemsOfLines st items → List ℕ
+text_of st [] l = []
+text_of st (item ∷ earlier) l = text_of st earlier l.1 ++ (l.0.line ++ 10 ∷ [])
+
+made : (st : Setting) (items : List Item) (l : AreItemsOfLines st items) → AreFaultless st items → Made st items (text_of st items l)
+unfolding text_of
+made st [] l a = nothing_made st
+made st (item ∷ earlier) l a = made_more st item earlier (text_of st earlier l.1) (made st earlier l.1 a.1) l.0 a.0
 
 end_only : (st : Setting) (earlier : List Item) (n : ℕ) (clean : Bool) → end_fault st earlier clean ≡ None → fault_from st earlier n [] clean ≡ None
 unfolding fault_from
 end_only st earlier n clean e = rw e refl
 
--- the page of items without a fault is that of a text
-pub items_make_text : (st : Setting) (items : List Item) → AreItemsOfLines st items → AreFaultless st items → end_fault st items true ≡ None → IsPageRead st (page_of st items)
-items_make_text st items l a e =
-    let m = made st items l a in
-    let bytes = ended m.pieces in
+-- the text of items without a fault says their page
+pub made_says : (st : Setting) (items : List Item) (text : List ℕ) → Made st items text → end_fault st items true ≡ None → IsPageOf st text (page_of st items)
+made_says st items text m e =
     let at_end : fault_from st (with_lines st.format m.lines []) (1 + length m.lines) [] true ≡ None =
     end_only st (with_lines st.format m.lines []) (1 + length m.lines) true (ap (λ above. end_fault st above true) m.items_are ∙ e) in
     let free : fault_of st m.lines true ≡ None =
     ap (λ ls. fault_from st [] 1 ls true) (sym (append-nil m.lines)) ∙ fault_from-append st [] 1 m.lines [] true
     ∙ option_or-none (lines_fault st [] 1 m.lines) (fault_from st (with_lines st.format m.lines []) (1 + length m.lines) [] true) m.without_fault at_end in
     let said : page_of st items ≡ page_of st (items_of st.format m.lines) = ap (page_of st) (sym (folded st.format m.lines [] ∙ m.items_are)) in
-    text_is_right st bytes (page_of st items) (record {
+    subst (λ t. IsPageOf st t (page_of st items)) (sym m.text_is) (record {
       lines = m.lines;
       are_lines = subst (λ ps. AreLines st.format ps m.lines) (sym (lines_of-ended m.pieces m.plain)) m.are_lines;
       without_fault = ap (fault_of st m.lines) (clean_ended m.pieces) ∙ free;
       page_is = said;
     })
+
+-- the page of items without a fault is that of a text
+pub items_make_text : (st : Setting) (items : List Item) → AreItemsOfLines st items → AreFaultless st items → end_fault st items true ≡ None → IsPageRead st (page_of st items)
+items_make_text st items l a e = text_is_right st (text_of st items l) (page_of st items) (made_says st items (text_of st items l) (made st items l a) e)
