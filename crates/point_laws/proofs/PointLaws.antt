@@ -26,7 +26,7 @@ use Rattle.otlp_tree.specs.declared.tree.Metric.{Metric}
 use Rattle.otlp_tree.specs.declared.tree.Shape.{Shape}
 use Rattle.otlp_tree.specs.declared.tree.Shape.TheVariants as shapes
 use Rattle.start_times.specs.Starts.{cumulative_layout}
-use Rattle.target_core.specs.Points.{point_at, point_of, number_in, histogram_in, summary_in, number_point, histogram_point, summary_point}
+use Rattle.target_core.specs.Points.{point_at, point_of, plain_number, histogram_in, summary_in, number_point, histogram_point, summary_point}
 use Rattle.target_core.specs.Trees.{some_of, shape_of, metric_of}
 use Rattle.point_laws.specs.PageLaws.{points_in, points_of_family, points_due, EachReadingHasAPoint}
 
@@ -58,8 +58,8 @@ map_some : {A B : Type 0} (f : A → B) (o : Option A) → is_some o ≡ true �
 map_some f None h = h
 map_some f (Some x) h = refl
 
-number_is : (v : Value) → IsPlain v → is_some (number_in v) ≡ true
-unfolding number_in
+number_is : (v : Value) → IsPlain v → is_some (plain_number v) ≡ true
+unfolding plain_number
 number_is (values.Plain n) h = refl
 number_is (values.Buckets buckets sum) h = absurd h
 number_is (values.Quantiles list count sum) h = absurd h
@@ -107,7 +107,7 @@ module _ (start : Reading → Option ℕ) (moment : ℕ) where
   number_points : (rs : List Reading) → AllByRecursion (λ (r : Reading). IsPlain r.value) rs → HavePoints (λ r. number_point (point_of start moment r)) rs
   unfolding number_point point_at
   number_points [] h = tt
-  number_points (r ∷ rs) h = (map_some (λ number. record { labels = r.key.labels; start = start r; time = moment; value = Some number }) (number_in r.value) (number_is r.value h.0), number_points rs h.1)
+  number_points (r ∷ rs) h = (map_some (λ number. record { labels = r.key.labels; start = start r; time = moment; value = Some number }) (plain_number r.value) (number_is r.value h.0), number_points rs h.1)
 
   histogram_points : (rs : List Reading) → AllByRecursion (λ (r : Reading). HasRisingBuckets r.value) rs → HavePoints (λ r. histogram_point (point_of start moment r)) rs
   unfolding histogram_point point_at

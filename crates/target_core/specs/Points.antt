@@ -40,9 +40,9 @@ points_with moment readings starts = map (λ (p : Reading × Option ℕ). point_
 -- ---- values
 
 -- the number of a value that is one
-unfoldable pub number_in : Value → Option Number
-number_in (values.Plain n) = Some n
-number_in _ = None
+unfoldable pub plain_number : Value → Option Number
+plain_number (values.Plain n) = Some n
+plain_number _ = None
 
 -- the histogram of a value that has cumulative buckets
 unfoldable pub histogram_in : Value → Option HistogramValue
@@ -58,7 +58,7 @@ summary_in _ = None
 
 -- a point of a gauge or a sum
 unfoldable pub number_point : Point → Option NumberPoint
-number_point p = option_map (λ number. record { labels = p.labels; start = p.start; time = p.time; value = Some number }) (number_in p.value)
+number_point p = option_map (λ number. record { labels = p.labels; start = p.start; time = p.time; value = Some number }) (plain_number p.value)
 
 -- the start of a point, or its time where it has none
 abbrev pub start_or_time : Point → ℕ

@@ -1,16 +1,17 @@
 -- What a target's state stands for.
 -- The bridge's own.
-use Rattle.std.specs.Prelude.{◌≡◌, ℕ, ◌<◌, ◌-◌, ◌^◌, Bool, true, false, List, [], ◌∷◌, Option, Some, None, ⊤}
+use Rattle.std.specs.Prelude.{◌≡◌, ℕ, ◌<◌, ◌-◌, ◌^◌, Bool, true, false, List, [], ◌∷◌, Option, Some, None, ⊤, Result, IfOk}
 use Rattle.page_model.specs.declared.page.Page.{Page}
 use Rattle.page_model.specs.declared.event.Event.{Event}
+use Rattle.page_model.specs.declared.event.Shown.{Shown}
 use Rattle.page_model.specs.Presence.{page_of_outcome}
-use Rattle.start_times.specs.Scrapes.{Scrape, last_moment, last_page, scrapes_of}
+use Rattle.start_times.specs.Scrapes.{Scrape, last_moment, last_page, moment_after, scrapes_of}
 use Rattle.start_times.specs.Starts.{Tracking}
 use Rattle.start_times.specs.Rows.{Tracked, Tracks}
 use Rattle.start_times.specs.Advancing.{HasDistinctKeys}
 use Rattle.otlp_tree.specs.declared.tree.Request.{Request}
 use Rattle.bridge_ports.specs.Targets.{Scraped}
-use Rattle.target_core.specs.Events.{request_after}
+use Rattle.target_core.specs.Events.{request_after, event_request, latest_shown}
 
 -- a state as its contracts see it: the target, what is kept of its series, whether its last page is still to be put among that,
 -- that page, and its last moment, where there was one
@@ -44,3 +45,11 @@ HasNextMoment (Some moment) = moment < 2 ^ 64 - 1
 abbrev pub Steps : Following → Event → Request → Following → Type 0
 Steps before e request after = (target : Scraped) (t : Tracking) (earlier : List Event) → StandsFor target t before earlier → HasDistinctKeys (page_of_outcome e.outcome)
     → (request ≡ request_after target t earlier e) × StandsFor target t after (e ∷ earlier)
+
+-- the tree of a first event is that of a target without a past
+abbrev pub IsFirstTree : {E : Type 0} → Following → Event → Result Request E → Type 0
+IsFirstTree before e result = before.moment ≡ None → IfOk result (λ request. request ≡ event_request before.target (moment_after None e.reading) e.outcome)
+
+-- for all events for which the state stands: what it shows is what they come to
+abbrev pub ShowsLatest : Following → Shown → Type 0
+ShowsLatest s shown = (target : Scraped) (t : Tracking) (events : List Event) → StandsFor target t s events → shown ≡ latest_shown target events

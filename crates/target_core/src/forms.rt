@@ -36,9 +36,9 @@ pub(crate) trait PointForm: Sized {
 }
 
 /// The number of a value that is one.
-#[tactic(auto, unfolding(crate::specs::Points::number_in))]
-fn number_in(value: &Value) -> Option<Number>
-    ensures { result ≡ spec.number_in value.now }
+#[tactic(auto, unfolding(crate::specs::Points::plain_number))]
+fn plain_number(value: &Value) -> Option<Number>
+    ensures { result ≡ spec.plain_number value.now }
 {
     match value {
         Value::Plain(number) => Some(*number),
@@ -58,7 +58,7 @@ impl PointForm for NumberPoint {
         moment: u64,
         reading: &Reading,
     ) -> Result<Option<Self>, Memory> {
-        let Some(number) = number_in(&reading.value) else {
+        let Some(number) = plain_number(&reading.value) else {
             return Ok(None);
         };
         Ok(Some(NumberPoint {

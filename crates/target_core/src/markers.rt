@@ -3,12 +3,12 @@ ghost use Rattle.std.specs.Prelude.{◌≡◌, ◌<◌, ◌++◌, ◌∷◌, [],
 ghost use Rattle.std.specs.Option.{option_map_or};
 ghost use Rattle.std.specs.List.{list_any};
 ghost use Rattle.std.specs.Str.{bytes_eq};
-ghost use Rattle.label_sets.specs.Keys.{kind_place};
 ghost use Rattle.target_core.specs.declared.markers.Marker.{Marker as AnyMarker};
 ghost use Rattle.target_core.specs.MarkerGroups.{marker_groups, identity_bytes, group_identity, no_group, first_group, with_marker, placed_group, placed_at};
 
 use byte_table::ByteTable;
 use label_sets::{Kind, Memory, SeriesKey};
+use packed_keys::kind_byte;
 use std::alloc::Global;
 use std::marker::Model;
 
@@ -90,22 +90,6 @@ impl MarkerGroup {
         ensures { result ≡ self.now.placed }
     {
         self.placed
-    }
-}
-
-/// The kind as a byte.
-fn kind_byte(kind: Kind) -> u8
-    ensures { result ≡ kind_place kind }
-{
-    match kind {
-        Kind::Counter => 0,
-        Kind::Gauge => 1,
-        Kind::Histogram => 2,
-        Kind::GaugeHistogram => 3,
-        Kind::StateSet => 4,
-        Kind::Info => 5,
-        Kind::Summary => 6,
-        Kind::Unknown => 7,
     }
 }
 

@@ -1,44 +1,12 @@
 //! Since when series without a past count.
 ghost use Rattle.std.specs.Prelude.{◌≡◌, ◌++◌, map, IfOk, OnOk};
 ghost use Rattle.page_model.specs.Presence.{all_readings};
-ghost use Rattle.start_times.specs.Starts as starts;
 ghost use Rattle.target_core.specs.Events as events;
 
-use label_sets::{Kind, Memory};
+use label_sets::Memory;
 use page_model::{Page, Reading};
+use start_times::{created_at, has_start};
 use std::alloc::Global;
-
-/// Whether the points of a kind have a start.
-#[tactic(auto, unfolding(start_times::specs::Starts::has_start))]
-fn has_start(kind: Kind) -> bool
-    ensures { result ≡ starts.has_start kind }
-{
-    match kind {
-        Kind::Counter | Kind::Histogram | Kind::Summary | Kind::Info | Kind::StateSet => true,
-        Kind::Gauge | Kind::GaugeHistogram | Kind::Unknown => false,
-    }
-}
-
-/// The time, where it isn't after the limit.
-#[tactic(auto, unfolding(start_times::specs::Starts::up_to))]
-fn up_to(limit: u64, time: u64) -> Option<u64>
-    ensures { result ≡ starts.up_to limit time }
-{
-    if time <= limit { Some(time) } else { None }
-}
-
-/// When the page says that the series was created, where that isn't after the moment.
-fn created_at(moment: u64, reading: &Reading) -> Option<u64>
-    ensures { result ≡ starts.created_at moment reading.now }
-{
-    let Some(created) = &reading.created else {
-        return None;
-    };
-    let Some(time) = exact_decimal::nanos(created) else {
-        return None;
-    };
-    up_to(moment, time)
-}
 
 /// When a series without a past began, where its kind has starts.
 #[tactic(auto, unfolding(crate::specs::Events::first_start))]

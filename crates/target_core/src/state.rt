@@ -10,9 +10,9 @@ ghost use Rattle.start_times.specs.Starts.{Tracking};
 ghost use Rattle.start_times.specs.Rows.{Tracks, kept_start};
 ghost use Rattle.staleness.specs.Vanished.{keys_gone};
 ghost use Rattle.bridge_ports.specs.Targets.{Scraped as AnyScraped};
-ghost use Rattle.target_core.specs.Events.{marker_with, latest_shown, first_start, event_request};
+ghost use Rattle.target_core.specs.Events.{marker_with, first_start};
 ghost use Rattle.target_core.specs.MarkerGroups.{marker_groups};
-ghost use Rattle.target_core.specs.States.{Steps, StandsFor, HasNextMoment};
+ghost use Rattle.target_core.specs.States.{Steps, StandsFor, HasNextMoment, IsFirstTree, ShowsLatest};
 ghost use Rattle.target_core.specs.Trees.{up_of, request_of};
 
 use crate::gone::gather;
@@ -188,7 +188,7 @@ impl TargetState {
         requires { HasNextMoment self.old.moment }
         ensures ok { IfOk result (λ request. Steps self.old event request self.new) }
         ensures moment { OnOk result (self.new.moment ≡ Some (scrapes.moment_after self.old.moment event.reading)) }
-        ensures first { self.old.moment ≡ None → IfOk result (λ request. request ≡ event_request self.old.target (scrapes.moment_after None event.reading) event.outcome) }
+        ensures first { IsFirstTree self.old event result }
         ensures err { OnErr result (self.new ≡ self.old) }
     {
         let moment = moment_after(self.moment, event.reading);
@@ -202,7 +202,7 @@ impl TargetState {
     /// What the target shows: its last page, which is empty where that scrape failed or where there was
     /// none, and the moment. The page has one owner more.
     pub fn latest(&self) -> Result<Shown, Memory>
-        ensures { IfOk result (λ shown. (target : AnyScraped) (t : Tracking) (events : Seq AnyEvent) → StandsFor target t self.now events → shown ≡ latest_shown target events) }
+        ensures { IfOk result (ShowsLatest self.now) }
     {
         let job = self.target.job().copy()?;
         let instance = self.target.instance().copy()?;
