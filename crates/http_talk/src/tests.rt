@@ -55,6 +55,18 @@ fn text(alloc: Global, parts: &[(&[u8], usize)]) -> Result<Vec<u8>, AllocError> 
     Ok(bytes)
 }
 
+/// What a reply of these parts comes to, at once and byte by byte.
+fn read(
+    alloc: Global,
+    parts: &[(&[u8], usize)],
+) -> Result<[Result<usize, ReplyFault>; 2], AllocError> {
+    let bytes = text(alloc, parts)?;
+    Ok([
+        whole(alloc, bytes.as_slice()),
+        by_bytes(alloc, bytes.as_slice()),
+    ])
+}
+
 fn address(alloc: Global) -> Result<Address, AllocError> {
     Ok(Address {
         host: Bytes::from_slice(alloc, b"h")?,
@@ -83,106 +95,107 @@ fn requests_are_written(rt: HostRuntime) -> Result<(), Fail> {
 #[test]
 fn heads_at_their_limits(rt: HostRuntime) -> Result<(), Fail> {
     let alloc = rt.alloc();
-    let rows: [(&[(&[u8], usize)], Result<usize, ReplyFault>); 8] = [
-        (&[(OK, 1), (b"a: b\r\n", 64), (b"\r\n+", 1)], Ok(1)),
-        (
-            &[(OK, 1), (b"a: b\r\n", 65), (b"\r\n+", 1)],
-            Err(ReplyFault::Head),
-        ),
-        (&[(OK, 1), (b"a: b\r\n", 65)], Err(ReplyFault::Truncated)),
-        (
-            &[(OK, 1), (b"a: ", 1), (b"v", 16_360), (b"\r\n\r\n", 1)],
-            Ok(0),
-        ),
-        (
-            &[(OK, 1), (b"a: ", 1), (b"v", 16_361), (b"\r\n\r\n", 1)],
-            Err(ReplyFault::Head),
-        ),
-        (
-            &[(b"HTTP/1.1 204 No Content\r\n\r\n", 1)],
-            Err(ReplyFault::Status(204)),
-        ),
-        (&[(b"HTTP/1.1 20O", 1)], Err(ReplyFault::Head)),
-        (
-            &[(OK, 1), (b"Transfer-Encoding: gzip\r\n\r\n", 1)],
-            Err(ReplyFault::Encoding),
-        ),
+    let by_fields: [(usize, Result<usize, ReplyFault>); 2] = [
+        (64, Ok(1)),
+        (65, Err(ReplyFault::Head)),
     ];
-    for (parts, expected) in rows {
-        let bytes = text(alloc, parts)?;
-        assert_eq!(rt; whole(alloc, bytes.as_slice()), expected);
-        assert_eq!(rt; by_bytes(alloc, bytes.as_slice()), expected);
+    for (fields, expected) in by_fields {
+        let parts: [(&[u8], usize); 3] = [(OK, 1), (b"a: b\r\n", fields), (b"\r\n+", 1)];
+        assert_eq!(rt; read(alloc, &parts)?, [expected, expected]);
+    }
+    let by_letters: [(usize, Result<usize, ReplyFault>); 2] = [
+        (16_360, Ok(0)),
+        (16_361, Err(ReplyFault::Head)),
+    ];
+    for (letters, expected) in by_letters {
+        let parts: [(&[u8], usize); 4] = [
+            (OK, 1),
+            (b"a: ", 1),
+            (b"v", letters),
+            (b"\r\n\r\n", 1),
+        ];
+        assert_eq!(rt; read(alloc, &parts)?, [expected, expected]);
     }
     Ok(())
 }
 
 #[test]
-fn lengths_at_their_limits(rt: HostRuntime) -> Result<(), Fail> {
+fn heads_that_are_refused(rt: HostRuntime) -> Result<(), Fail> {
     let alloc = rt.alloc();
-    let rows: [(&[(&[u8], usize)], Result<usize, ReplyFault>); 7] = [
+    let rows: [(&[u8], ReplyFault); 4] = [
+        (b"HTTP/1.1 200 OK\r\na: b\r\n", ReplyFault::Truncated),
+        (b"HTTP/1.1 204 No Content\r\n\r\n", ReplyFault::Status(204)),
+        (b"HTTP/1.1 20O", ReplyFault::Head),
         (
-            &[
-                (OK, 1),
-                (b"Content-Length: 000000000000000002\r\n\r\nab+", 1),
-            ],
-            Ok(2),
+            b"HTTP/1.1 200 OK\r\nTransfer-Encoding: gzip\r\n\r\n",
+            ReplyFault::Encoding,
         ),
+    ];
+    for (head, fault) in rows {
+        assert_eq!(rt; read(alloc, &[(head, 1)])?, [Err(fault), Err(fault)]);
+    }
+    Ok(())
+}
+
+#[test]
+fn lengths_by_their_digits(rt: HostRuntime) -> Result<(), Fail> {
+    let alloc = rt.alloc();
+    let rows: [(&[u8], Result<usize, ReplyFault>); 4] = [
+        (b"Content-Length: 000000000000000002\r\n\r\nab+", Ok(2)),
         (
-            &[
-                (OK, 1),
-                (b"Content-Length: 0000000000000000002\r\n\r\nab", 1),
-            ],
+            b"Content-Length: 0000000000000000002\r\n\r\nab",
             Err(ReplyFault::Head),
         ),
+        (b"Content-Length: 2\r\nContent-Length: 02\r\n\r\nab", Ok(2)),
         (
-            &[
-                (OK, 1),
-                (b"Content-Length: 2\r\nContent-Length: 02\r\n\r\nab", 1),
-            ],
-            Ok(2),
-        ),
-        (
-            &[
-                (OK, 1),
-                (b"Content-Length: 2\r\nContent-Length: 3\r\n\r\nab", 1),
-            ],
+            b"Content-Length: 2\r\nContent-Length: 3\r\n\r\nab",
             Err(ReplyFault::Head),
         ),
+    ];
+    for (rest, expected) in rows {
+        assert_eq!(rt; read(alloc, &[(OK, 1), (rest, 1)])?, [expected, expected]);
+    }
+    Ok(())
+}
+
+#[test]
+fn bodies_at_their_limit(rt: HostRuntime) -> Result<(), Fail> {
+    let alloc = rt.alloc();
+    let rows: [(&[u8], usize, Result<usize, ReplyFault>); 5] = [
+        (b"Content-Length: 1024\r\n\r\n", 1_024, Ok(1_024)),
         (
-            &[(OK, 1), (b"Content-Length: 1024\r\n\r\n", 1), (b"a", 1_024)],
-            Ok(1_024),
-        ),
-        (
-            &[(OK, 1), (b"Content-Length: 1024\r\n\r\n", 1), (b"a", 1_023)],
+            b"Content-Length: 1024\r\n\r\n",
+            1_023,
             Err(ReplyFault::Truncated),
         ),
-        (
-            &[(OK, 1), (b"Content-Length: 1025\r\n\r\n", 1)],
-            Err(ReplyFault::TooLong),
-        ),
+        (b"Content-Length: 1025\r\n\r\n", 0, Err(ReplyFault::TooLong)),
+        (b"\r\n", 1_024, Ok(1_024)),
+        (b"\r\n", 1_025, Err(ReplyFault::TooLong)),
     ];
-    for (parts, expected) in rows {
-        let bytes = text(alloc, parts)?;
-        assert_eq!(rt; whole(alloc, bytes.as_slice()), expected);
-        assert_eq!(rt; by_bytes(alloc, bytes.as_slice()), expected);
+    for (rest, letters, expected) in rows {
+        let parts: [(&[u8], usize); 3] = [(OK, 1), (rest, 1), (b"a", letters)];
+        assert_eq!(rt; read(alloc, &parts)?, [expected, expected]);
     }
     Ok(())
 }
 
 #[test]
-fn open_bodies_at_their_limit(rt: HostRuntime) -> Result<(), Fail> {
+fn chunks_by_their_sizes(rt: HostRuntime) -> Result<(), Fail> {
     let alloc = rt.alloc();
-    let rows: [(&[(&[u8], usize)], Result<usize, ReplyFault>); 2] = [
-        (&[(OK, 1), (b"\r\n", 1), (b"a", 1_024)], Ok(1_024)),
-        (
-            &[(OK, 1), (b"\r\n", 1), (b"a", 1_025)],
-            Err(ReplyFault::TooLong),
-        ),
+    let rows: [(&[u8], Result<usize, ReplyFault>); 7] = [
+        (b"2\r\nab\r\n1\r\nc\r\n0\r\n\r\n+", Ok(3)),
+        (b"00000001\r\na\r\n0\r\n\r\n", Ok(1)),
+        (b"000000001\r\na\r\n0\r\n\r\n", Err(ReplyFault::Chunk)),
+        (b"1\na", Err(ReplyFault::Chunk)),
+        (b"1\r\nab", Err(ReplyFault::Chunk)),
+        (b"FFFFFFFF\r\nab", Err(ReplyFault::Truncated)),
+        (b"2\r\nab\r\n0\r\n\r", Err(ReplyFault::Truncated)),
     ];
-    for (parts, expected) in rows {
-        let bytes = text(alloc, parts)?;
-        assert_eq!(rt; whole(alloc, bytes.as_slice()), expected);
-        assert_eq!(rt; by_bytes(alloc, bytes.as_slice()), expected);
+    for (body, expected) in rows {
+        assert_eq!(rt;
+            read(alloc, &[(CHUNKED, 1), (body, 1)])?,
+            [expected, expected]
+        );
     }
     Ok(())
 }
@@ -190,147 +203,49 @@ fn open_bodies_at_their_limit(rt: HostRuntime) -> Result<(), Fail> {
 #[test]
 fn chunks_at_their_limits(rt: HostRuntime) -> Result<(), Fail> {
     let alloc = rt.alloc();
-    let rows: [(&[(&[u8], usize)], Result<usize, ReplyFault>); 14] = [
+    let rows: [(&[u8], usize, &[u8], Result<usize, ReplyFault>); 6] = [
+        (b"1;", 1_020, b"\r\na\r\n0\r\n\r\n", Ok(1)),
+        (b"1;", 1_021, b"\r\na\r\n0\r\n\r\n", Err(ReplyFault::Chunk)),
+        (b"0\r\nt:", 16_380, b"\r\n\r\n", Ok(0)),
+        (b"0\r\nt:", 16_381, b"\r\n\r\n", Err(ReplyFault::Chunk)),
+        (b"400\r\n", 1_024, b"\r\n0\r\n\r\n", Ok(1_024)),
         (
-            &[(CHUNKED, 1), (b"2\r\nab\r\n1\r\nc\r\n0\r\n\r\n+", 1)],
-            Ok(3),
-        ),
-        (&[(CHUNKED, 1), (b"00000001\r\na\r\n0\r\n\r\n", 1)], Ok(1)),
-        (
-            &[(CHUNKED, 1), (b"000000001\r\na\r\n0\r\n\r\n", 1)],
-            Err(ReplyFault::Chunk),
-        ),
-        (
-            &[
-                (CHUNKED, 1),
-                (b"1;", 1),
-                (b"x", 1_020),
-                (b"\r\na\r\n0\r\n\r\n", 1),
-            ],
-            Ok(1),
-        ),
-        (
-            &[
-                (CHUNKED, 1),
-                (b"1;", 1),
-                (b"x", 1_021),
-                (b"\r\na\r\n0\r\n\r\n", 1),
-            ],
-            Err(ReplyFault::Chunk),
-        ),
-        (&[(CHUNKED, 1), (b"1\na", 1)], Err(ReplyFault::Chunk)),
-        (&[(CHUNKED, 1), (b"1\r\nab", 1)], Err(ReplyFault::Chunk)),
-        (
-            &[
-                (CHUNKED, 1),
-                (b"0\r\nt:", 1),
-                (b"x", 16_380),
-                (b"\r\n\r\n", 1),
-            ],
-            Ok(0),
-        ),
-        (
-            &[
-                (CHUNKED, 1),
-                (b"0\r\nt:", 1),
-                (b"x", 16_381),
-                (b"\r\n\r\n", 1),
-            ],
-            Err(ReplyFault::Chunk),
-        ),
-        (
-            &[
-                (CHUNKED, 1),
-                (b"1;", 1),
-                (b"x", 600),
-                (b"\r\na\r\n", 1),
-                (b"0\r\n\r\n", 1),
-            ],
-            Ok(1),
-        ),
-        (
-            &[
-                (CHUNKED, 1),
-                (b"400\r\n", 1),
-                (b"a", 1_024),
-                (b"\r\n0\r\n\r\n", 1),
-            ],
-            Ok(1_024),
-        ),
-        (
-            &[
-                (CHUNKED, 1),
-                (b"401\r\n", 1),
-                (b"a", 1_025),
-                (b"\r\n0\r\n\r\n", 1),
-            ],
+            b"401\r\n",
+            1_025,
+            b"\r\n0\r\n\r\n",
             Err(ReplyFault::TooLong),
         ),
-        (
-            &[(CHUNKED, 1), (b"FFFFFFFF\r\n", 1), (b"a", 1_024)],
-            Err(ReplyFault::Truncated),
-        ),
-        (
-            &[(CHUNKED, 1), (b"2\r\nab\r\n0\r\n\r", 1)],
-            Err(ReplyFault::Truncated),
-        ),
     ];
-    for (parts, expected) in rows {
-        let bytes = text(alloc, parts)?;
-        assert_eq!(rt; whole(alloc, bytes.as_slice()), expected);
-        assert_eq!(rt; by_bytes(alloc, bytes.as_slice()), expected);
+    for (front, letters, end, expected) in rows {
+        let parts: [(&[u8], usize); 4] = [(CHUNKED, 1), (front, 1), (b"x", letters), (end, 1)];
+        assert_eq!(rt; read(alloc, &parts)?, [expected, expected]);
     }
     Ok(())
 }
 
-// At most 8 * 1,024 + 65,536 = 73,728 bytes may come before a reply is whole. The head has 47, a chunk of one byte
-// with a line of 1,005 bytes has 1,008, and 73 of them leave 97 bytes for the last line
-// and the end. The byte past the number may still make the reply whole.
+/// At most 8 * 1,024 + 65,536 = 73,728 bytes may come before a reply is whole. The head has 47, a chunk of one
+/// byte with a line of 1,005 bytes has 1,008, and 73 of them leave 97 bytes for the last line and the end. The
+/// byte past the number may still make the reply whole.
 #[test]
 fn hundred_chunks_of_one_byte(rt: HostRuntime) -> Result<(), Fail> {
     let alloc = rt.alloc();
     let line = text(alloc, &[(b"1;", 1), (b"x", 1_001), (b"\r\na\r\n", 1)])?;
     let chunk = line.as_slice();
-    let rows: [(&[(&[u8], usize)], Result<usize, ReplyFault>); 4] = [
-        (
-            &[
-                (CHUNKED, 1),
-                (chunk, 73),
-                (b"0;", 1),
-                (b"x", 91),
-                (b"\r\n\r\n", 1),
-            ],
-            Ok(73),
-        ),
-        (
-            &[
-                (CHUNKED, 1),
-                (chunk, 73),
-                (b"0;", 1),
-                (b"x", 92),
-                (b"\r\n\r\n", 1),
-            ],
-            Ok(73),
-        ),
-        (
-            &[
-                (CHUNKED, 1),
-                (chunk, 73),
-                (b"0;", 1),
-                (b"x", 93),
-                (b"\r\n\r\n", 1),
-            ],
-            Err(ReplyFault::TooLong),
-        ),
-        (
-            &[(CHUNKED, 1), (chunk, 100), (b"0\r\n\r\n", 1)],
-            Err(ReplyFault::TooLong),
-        ),
+    let rows: [(usize, usize, Result<usize, ReplyFault>); 4] = [
+        (73, 91, Ok(73)),
+        (73, 92, Ok(73)),
+        (73, 93, Err(ReplyFault::TooLong)),
+        (100, 0, Err(ReplyFault::TooLong)),
     ];
-    for (parts, expected) in rows {
-        let bytes = text(alloc, parts)?;
-        assert_eq!(rt; whole(alloc, bytes.as_slice()), expected);
-        assert_eq!(rt; by_bytes(alloc, bytes.as_slice()), expected);
+    for (chunks, letters, expected) in rows {
+        let parts: [(&[u8], usize); 5] = [
+            (CHUNKED, 1),
+            (chunk, chunks),
+            (b"0;", 1),
+            (b"x", letters),
+            (b"\r\n\r\n", 1),
+        ];
+        assert_eq!(rt; read(alloc, &parts)?, [expected, expected]);
     }
     Ok(())
 }
