@@ -9,7 +9,7 @@ ghost use Rattle.page_model.specs.declared.format.Treatment.{Treatment as AnyTre
 ghost use Rattle.page_model.specs.declared.rule.Rule.TheVariants as rules;
 ghost use Rattle.page_lines.specs.declared.Step.TheVariants.{Line, More, TooLong};
 
-use crate::grammar::Grammar;
+use crate::grammar::{Grammar, read_line};
 use family_rules::Checker;
 use label_sets::{Label, Memory};
 use line_scan::LineRead;
@@ -129,7 +129,7 @@ impl<G: Grammar> PageReader<G> {
         ensures { TakesLine G.format self.old self.new result }
     {
         let line = self.lines.number();
-        match G::read_line(
+        match read_line::<G>(
             self.alloc,
             self.treatment,
             self.lines.line(),

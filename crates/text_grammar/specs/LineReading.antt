@@ -2,10 +2,11 @@
 -- Prometheus text format 0.0.4, "Text format details"; the rules are the bridge's own profile of it.
 use Rattle.std.specs.Prelude.{◌≡◌, ℕ, true, false, List, Option, Some, None, IsUtf8}
 use Rattle.label_sets.specs.declared.label.Label.{Label}
-use Rattle.label_sets.specs.Lists.{◌>>=◌}
+use Rattle.label_sets.specs.Lists.{◌>>=◌, when_true}
 use Rattle.label_sets.specs.Labels.{label_set}
 use Rattle.label_sets.specs.Escapes.{help_escape, unescaped}
 use Rattle.exact_decimal.specs.declared.number.Number.{Number}
+use Rattle.exact_decimal.specs.Tokens.{is_number_token}
 use Rattle.page_model.specs.declared.format.Treatment.{Treatment}
 use Rattle.page_model.specs.declared.item.Item.TheVariants as items
 use Rattle.page_model.specs.declared.rule.Rule.TheVariants as rules
@@ -36,6 +37,10 @@ type_of cs = named_at cs >>= λ x. kind_named x.1 >>= λ kind. Some (type_line x
 -- a sample line of these parts
 abbrev pub written_sample : List ℕ → List Label → List ℕ → Option (List ℕ) → Written
 written_sample name labels value stamp = sample (record { name = name; labels = labels; value = value; stamp = stamp; exemplar = None })
+
+-- what a sample line of these parts says, where its value is a number
+abbrev pub valued_sample : List ℕ → List Label → List ℕ → Option (List ℕ) → Option Written
+valued_sample name labels value stamp = when_true (is_number_token value) (written_sample name labels value stamp)
 
 -- the sample of a name, labels and numbers, unless the labels break a rule
 abbrev pub Makes : Treatment → List ℕ → List Label → Number → Option Number → LineRead → Type 0

@@ -2,14 +2,12 @@
 ghost use Rattle.std.specs.Prelude.{◌≡◌, ◌≤◌, ◌&&◌, ℕ, [], length, option_map, IfOk, IfSome, IsUtf8, MatchOption, true, false, None, Some, if◌then◌else◌};
 ghost use Rattle.std.specs.Option.{option_copied};
 ghost use Rattle.std.specs.Str.{bytes_eq};
-ghost use Rattle.label_sets.specs.Lists.{when_true};
-ghost use Rattle.exact_decimal.specs.Tokens.{is_number_token};
 ghost use Rattle.page_model.specs.TextItems.{is_integer_token};
 ghost use Rattle.page_model.specs.TextReading.{kind_named, marked_of, named_at, sample_of, trimmed_of};
 ghost use Rattle.page_model.specs.declared.format.Format.TheVariants.{Text};
 ghost use Rattle.page_model.specs.declared.format.Treatment.{Treatment as AnyTreatment};
 ghost use Rattle.line_scan.specs.LineReading.{Reads};
-ghost use Rattle.text_grammar.specs.LineReading.{IsNamedAt, Makes, help_of, type_of, written_sample};
+ghost use Rattle.text_grammar.specs.LineReading.{IsNamedAt, Makes, help_of, type_of, valued_sample};
 
 use crate::blanks::{NotBlank, at_blank, trimmed, without_leading_blanks};
 use crate::labels::middle_at;
@@ -145,7 +143,7 @@ fn read_sample(
 ) -> Result<LineRead, Memory>
     requires name { IsUtf8 name.now }
     requires stamp { IfSome stamp (λ token. is_integer_token token.now ≡ true) }
-    ensures { IfOk result (Reads Text treatment (when_true (is_number_token value.now) (written_sample name.now labels.items value.now (option_copied stamp.entry)))) }
+    ensures { IfOk result (Reads Text treatment (valued_sample name.now labels.items value.now (option_copied stamp.entry))) }
 {
     let value = match exact_decimal::read(value) {
         Ok(value) => value,
@@ -213,15 +211,12 @@ impl Grammar for TextLines {
         Format::Text
     }
 
-    fn read_line(
+    fn read_text(
         alloc: Global,
         treatment: Treatment,
         line: &[u8],
         labels: &mut Vec<Label>,
     ) -> Result<LineRead, Memory> {
-        match std::str::from_utf8(line) {
-            Ok(_) => trimmed_line(alloc, treatment, trimmed(line), labels),
-            Err(_) => Ok(LineRead::Refused(Rule::Utf8)),
-        }
+        trimmed_line(alloc, treatment, trimmed(line), labels)
     }
 }
