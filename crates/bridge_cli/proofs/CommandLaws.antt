@@ -9,8 +9,9 @@ use Rattle.page_model.specs.declared.format.Format.{Format}
 use Rattle.page_model.specs.declared.format.Format.TheVariants.{Text, OpenMetrics}
 use Rattle.bridge_cli.specs.declared.words.Command.{Command}
 use Rattle.bridge_cli.specs.declared.words.Command.TheVariants.{Help, Version, Check, Convert, Replay}
+use Rattle.replay_script.specs.ScriptParts.{format_word}
 use Rattle.bridge_cli.specs.Statuses.{code_of}
-use Rattle.bridge_cli.specs.CommandWords.{format_word, words_of, IsInLimits, IsCommand, FitNoForm, AskFor, reads_input, prints_pieces, takes_memory}
+use Rattle.bridge_cli.specs.CommandWords.{words_of, IsInLimits, IsCommand, FitNoForm, AskFor, reads_input, prints_pieces, takes_memory}
 use Rattle.bridge_cli.specs.Inputs.{IsInput}
 use Rattle.bridge_cli.specs.PageAnswers.{page_setting}
 use Rattle.bridge_cli.specs.CheckTexts.{checked_text}

@@ -1,6 +1,7 @@
 -- What a script's records come to is one text, and how it grows by one body.
 use Rattle.std.proofs.Common.{◌≡◌, ◌≢◌, ℕ, zero, suc, ◌+◌, ◌-◌, ◌^◌, ◌<◌, ◌≤◌, List, [], ◌∷◌, ◌++◌, length, get_or, Option, Some, None, Result, Ok, Err, refl, sym, ap, subst, ◌∙◌, arith, append_assoc, append-nil}
 use Rattle.std.specs.Prelude.{slice_get, OnOk, codes, ⊤}
+use Rattle.std.specs.List.{AllByRecursion}
 use Rattle.page_model.specs.declared.format.Format.{Format}
 use Rattle.otlp_json.specs.Texts.{request_text}
 use Rattle.target_core.specs.Events.{request_after}
@@ -9,65 +10,53 @@ use Rattle.std.proofs.lemmas.Option.{same_Some, none-some}
 use Rattle.page_model.specs.declared.event.Event.{Event}
 use Rattle.page_model.specs.declared.event.Outcome.{Outcome}
 use Rattle.page_model.specs.declared.event.Outcome.TheVariants as outcomes
+use Rattle.page_model.specs.declared.event.Cause.{Cause}
 use Rattle.page_model.specs.declared.event.Cause.TheVariants as causes
-use Rattle.page_model.specs.declared.page.Page.{Page}
-use Rattle.page_model.specs.declared.rule.Rule.{Rule}
-use Rattle.page_model.specs.declared.fault.PageFault.{PageFault}
-use Rattle.page_model.specs.declared.fault.PageFault.TheVariants as faults
-use Rattle.page_model.specs.Written.{Setting}
-use Rattle.page_model.specs.Pages.{FirstFault}
 use Rattle.page_model.specs.Presence.{page_of_outcome}
-use Rattle.page_model.proofs.Laws.{first_fault_once, page_of_once, fault_or_page, page-distinct_keys}
-use Rattle.page_feeding.specs.PageFeeding.{Answers, Refuses}
+use Rattle.page_model.proofs.Laws.{page-distinct_keys}
 use Rattle.bridge_ports.specs.Targets.{Scraped}
+use Rattle.bridge_ports.specs.declared.talk.End.{End}
+use Rattle.bridge_ports.specs.declared.talk.End.TheVariants as ends
+use Rattle.bridge_ports.specs.declared.talk.MemoryReply.{MemoryReply}
+use Rattle.http_talk.specs.Replies.{Verdict, refused, whole, Judged, waits, goes_on, decided, scraped_setting, IsPageOutcome, IsVerdictOutcome, IsEndOutcome, IsOutcomeBy, IsOutcomeOf, HasOutcome}
+use Rattle.http_talk.proofs.Laws.{outcome_once}
 use Rattle.start_times.specs.Scrapes.{last_moment, moment_after, scrape_after, scrapes_of}
 use Rattle.start_times.specs.Advancing.{HasDistinctKeys}
 use Rattle.target_core.specs.States.{Following, StandsFor, HasNextMoment}
 use Rattle.replay_script.specs.declared.header.Header.{Header}
-use Rattle.replay_script.specs.declared.script.PageRecord.{PageRecord}
 use Rattle.replay_script.specs.declared.script.ScriptTarget.{ScriptTarget}
 use Rattle.replay_script.specs.declared.script.Script.{Script}
+use Rattle.replay_script.specs.RightScripts.{IsRightHeader, IsRightTarget}
+use Rattle.plain_words.proofs.Laws.{in_range}
 use Rattle.bridge_cli.specs.declared.replaying.Cut.{Cut}
 use Rattle.bridge_cli.specs.declared.replaying.Cut.TheVariants as cuts
 use Rattle.bridge_cli.specs.Limits.{most_rounds}
-use Rattle.bridge_cli.specs.Replays.{tracking_of, limited_setting, IsOutcomeOf, gives_page, has_fault, ComesTo, too_long, is_read, IsEventOf, IsEventAt, AreEvents, body_after, bodies_of, IsTextOfSome, IsTextOf, IsTextAt, AreTexts, joined_texts, IsReplay, IsReplayOfSome}
+use Rattle.bridge_cli.specs.Replays.{tracking_of, reply_talk, IsEventOf, IsEventAt, AreEvents, body_after, bodies_of, IsTextOfSome, IsTextOf, IsTextAt, AreTexts, joined_texts, IsReplay, IsReplayOfSome}
 use Rattle.bridge_cli.specs.Printed.{MakesBody, PrintsNext, PrintsTarget, PrintsScript, PrintedSome, PrintedTargets}
 use Rattle.bridge_cli.specs.ProgramOutputs.{WroteFront}
 
 -- ---- one text
 
--- a page comes to one outcome
-outcome_once : (st : Setting) (body : List ℕ) (a b : Outcome) → IsOutcomeOf st body a → IsOutcomeOf st body b → a ≡ b
-outcome_once st body a b (gives_page p x) (gives_page q y) = ap outcomes.Page (page_of_once st body p q x y)
-outcome_once st body a b (gives_page p x) (has_fault l r y) = absurd (fault_or_page st body (l, r) p y x)
-outcome_once st body a b (has_fault l r x) (gives_page p y) = absurd (fault_or_page st body (l, r) p x y)
-outcome_once st body a b (has_fault l r x) (has_fault m s y) = ap (λ (f : ℕ × Rule). outcomes.Failed (causes.Page f.0 f.1)) (first_fault_once st body (l, r) (m, s) x y)
-
-comes_once : (h : Header) (r : PageRecord) (a b : Outcome) → ComesTo h r a → ComesTo h r b → a ≡ b
-comes_once h r a b (too_long x) (too_long y) = refl
-comes_once h r a b (too_long x) (is_read o short y) = absurd (omega (arith, x, short))
-comes_once h r a b (is_read o short x) (too_long y) = absurd (omega (arith, y, short))
-comes_once h r a b (is_read o short x) (is_read p also y) = outcome_once _ r.body o p x y
-
-event_once : (h : Header) (r s : PageRecord) (e f : Event) → r ≡ s → IsEventOf h r e → IsEventOf h s f → e ≡ f
+-- a reply comes to one event
+event_once : (h : Header) (r s : MemoryReply) (e f : Event) → r ≡ s → IsEventOf h r e → IsEventOf h s f → e ≡ f
 event_once h r s e f same a b =
-    let At : PageRecord → Type 0 = λ x. IsEventOf h x e in
+    let At : MemoryReply → Type 0 = λ x. IsEventOf h x e in
     let moved = subst At same a in
     let time : e.reading ≡ f.reading = moved.time ∙ sym b.time in
-    let outcome : e.outcome ≡ f.outcome = comes_once h s e.outcome f.outcome moved.comes_to b.comes_to in
+    let outcome : e.outcome ≡ f.outcome = outcome_once h.limit h.max_page (reply_talk s) e.outcome f.outcome moved.comes_to b.comes_to in
     let all : record { reading = e.reading; outcome = e.outcome } ≡ record { reading = f.reading; outcome = f.outcome } = cc in
     all
 
--- records come to one list of events, where there are as many
-events_once : (h : Header) (records : List PageRecord) (xs ys : List Event) → length xs ≡ length ys → AreEvents h records xs → AreEvents h records ys → xs ≡ ys
+-- replies come to one list of events, where there are as many
+events_once : (h : Header) (records : List MemoryReply) (xs ys : List Event) → length xs ≡ length ys → AreEvents h records xs → AreEvents h records ys → xs ≡ ys
 events_once h records [] [] same a b = refl
 events_once h records [] (y ∷ ys) same a b = absurd (omega (arith, same))
 events_once h records (x ∷ xs) [] same a b = absurd (omega (arith, same))
 events_once h records (x ∷ xs) (y ∷ ys) same a b =
     let shorter : length xs ≡ length ys = omega (arith, same) in
     let rest = events_once h records xs ys shorter a.1 b.1 in
-    let r = same_Some a.0.scraped b.0.scraped (sym a.0.stands ∙ ap (slice_get records) shorter ∙ b.0.stands) in
-    ap (λ e. e ∷ xs) (event_once h a.0.scraped b.0.scraped x y r a.0.is b.0.is) ∙ ap (λ es. y ∷ es) rest
+    let r = same_Some a.0.reply b.0.reply (sym a.0.stands ∙ ap (slice_get records) shorter ∙ b.0.stands) in
+    ap (λ e. e ∷ xs) (event_once h a.0.reply b.0.reply x y r a.0.is b.0.is) ∙ ap (λ es. y ∷ es) rest
 
 text_once : (h : Header) (t u : ScriptTarget) (a b : List ℕ) → t ≡ u → IsTextOf h t a → IsTextOf h u b → a ≡ b
 text_once h t u a b same x y =
@@ -92,21 +81,41 @@ replay_once s a b x y = x.says ∙ ap joined_texts (texts_once s x.texts y.texts
 
 -- ---- outcomes
 
--- what a reader answers of a page that it was fed whole
-pub whole_answer : (st : Setting) (body : List ℕ) (fault : PageFault) → Refuses st body fault → Answers st body (Err fault)
-whole_answer st body (faults.Refused line rule) refuses =
-    let At : List ℕ → Type 0 = λ bs. FirstFault st bs (line, rule) in subst At (append-nil body) (refuses [])
-whole_answer st body faults.Memory refuses = tt
-
--- the keys of what a record comes to are distinct
-pub outcome_keys : (h : Header) (r : PageRecord) (o : Outcome) → ComesTo h r o → HasDistinctKeys (page_of_outcome o)
+-- the keys of a page that a body holds are distinct
+page_keys : (limit : ℕ) (f : Format) (body : List ℕ) (o : Outcome) → IsPageOutcome limit f body o → HasDistinctKeys (page_of_outcome o)
 unfolding Rattle.std.specs.List.IsDistinct
-outcome_keys h r o (too_long x) = tt
-outcome_keys h r o (is_read p short x) = go p x
-  where
-    go : (p : Outcome) → IsOutcomeOf (record { format = r.format; treatment = Rattle.page_model.specs.declared.format.Treatment.TheVariants.Scraped; limit = h.limit }) r.body p → HasDistinctKeys (page_of_outcome p)
-    go p (gives_page page is) = page-distinct_keys _ r.body page is
-    go p (has_fault line rule has) = tt
+page_keys limit f body (outcomes.Page page) is = page-distinct_keys (scraped_setting f limit) body page is
+page_keys limit f body (outcomes.Failed cause) is = tt
+
+-- a failed scrape has no keys
+failed_keys : (o : Outcome) (cause : Cause) → o ≡ outcomes.Failed cause → HasDistinctKeys (page_of_outcome o)
+unfolding Rattle.std.specs.List.IsDistinct
+failed_keys o cause e = rw e tt
+
+verdict_keys : (limit : ℕ) (v : Verdict) (o : Outcome) → IsVerdictOutcome limit v o → HasDistinctKeys (page_of_outcome o)
+verdict_keys limit (refused cause) o is = failed_keys o cause is
+verdict_keys limit (whole f body) o is = page_keys limit f body o is
+
+end_keys : (limit : ℕ) (known : Judged) (o : Outcome) → IsEndOutcome limit known o → HasDistinctKeys (page_of_outcome o)
+end_keys limit waits o is = failed_keys o causes.Truncated is
+end_keys limit (goes_on f body) o is = page_keys limit f body o is
+end_keys limit (decided v) o is = verdict_keys limit v o is
+
+keys_by : (end : End) (limit : ℕ) (known : Judged) (o : Outcome) → IsOutcomeBy end limit known o → HasDistinctKeys (page_of_outcome o)
+keys_by ends.ConnectFailed limit known o is = failed_keys o causes.Connect is
+keys_by ends.WriteFailed limit known o is = failed_keys o causes.Write is
+keys_by ends.ReadFailed limit known o is = failed_keys o causes.Read is
+keys_by ends.Ended limit known o is = end_keys limit known o is
+keys_by ends.Left limit known o is = absurd is
+
+keys_of : (end : End) (limit : ℕ) (known : Judged) (o : Outcome) → IsOutcomeOf end limit known o → HasDistinctKeys (page_of_outcome o)
+keys_of end limit (decided v) o is = verdict_keys limit v o is
+keys_of end limit waits o is = keys_by end limit waits o is
+keys_of end limit (goes_on f body) o is = keys_by end limit (goes_on f body) o is
+
+-- the keys of what a reply comes to are distinct
+pub outcome_keys : (h : Header) (r : MemoryReply) (o : Outcome) → HasOutcome h.limit h.max_page (reply_talk r) o → HasDistinctKeys (page_of_outcome o)
+outcome_keys h r o has = keys_of r.end h.limit has.known o has.outcome_is
 
 -- ---- moments
 
@@ -131,6 +140,10 @@ near_next n (Some moment) few near = omega (arith, few, near)
 -- behind the events of a script a further moment fits
 pub next_moment : (target : Scraped) (h : Header) (s : Following) (events : List Event) → StandsFor target (tracking_of h) s events → length events ≤ most_rounds → HasNextMoment s.moment
 next_moment target h s events stands few = subst HasNextMoment (sym stands.moment_is) (near_next (length events) (last_moment (scrapes_of events)) few (last_near events))
+
+-- a target of a script has few scrapes
+pub rounds_few : (h : Header) (t : ScriptTarget) → IsRightHeader h → IsRightTarget h t → length t.scrapes ≤ most_rounds
+rounds_few h t header right = omega (arith, right.scrapes, (in_range 1 1000000 h.rounds header.rounds).1)
 
 -- ---- one body more
 
@@ -167,12 +180,12 @@ pub printed_none : (h : Header) (t : ScriptTarget) (state : Following) (held : O
 printed_none h t state held stands = record { events = []; are = tt; count = refl; stands = stands; written = grown_none held }
 
 -- the event behind those that were printed
-next_event : (h : Header) (t : ScriptTarget) (at : ℕ) (state : Following) (a b : Option (List ℕ)) (r : PageRecord) (e : Event) → (was : PrintedSome h t at state a b) → slice_get t.scrapes at ≡ Some r → IsEventOf h r e
+next_event : (h : Header) (t : ScriptTarget) (at : ℕ) (state : Following) (a b : Option (List ℕ)) (r : MemoryReply) (e : Event) → (was : PrintedSome h t at state a b) → slice_get t.scrapes at ≡ Some r → IsEventOf h r e
     → IsEventAt h t.scrapes (length was.events) e
-next_event h t at state a b r e was stands is = record { scraped = r; stands = ap (slice_get t.scrapes) was.count ∙ stands; is = is }
+next_event h t at state a b r e was stands is = record { reply = r; stands = ap (slice_get t.scrapes) was.count ∙ stands; is = is }
 
 -- a body more was printed
-pub printed_more : (h : Header) (t : ScriptTarget) (at : ℕ) (old new : Following) (a b c : Option (List ℕ)) (r : PageRecord) (e : Event) → (was : PrintedSome h t at old a b) → slice_get t.scrapes at ≡ Some r
+pub printed_more : (h : Header) (t : ScriptTarget) (at : ℕ) (old new : Following) (a b c : Option (List ℕ)) (r : MemoryReply) (e : Event) → (was : PrintedSome h t at old a b) → slice_get t.scrapes at ≡ Some r
     → IsEventOf h r e → StandsFor t.target (tracking_of h) new (e ∷ was.events) → Appends b c (body_after h t.target was.events e) → PrintedSome h t (at + 1) new a c
 printed_more h t at old new a b c r e was stands is state more = record {
   events = e ∷ was.events;
@@ -189,7 +202,7 @@ printed_all h t at state a b was all =
     (bodies_of h t.target was.events, record { events = was.events; are = was.are; all = was.count ∙ all; says = refl }, was.written)
 
 -- a front of the next body was written
-pub printed_front : (h : Header) (t : ScriptTarget) (at : ℕ) (state : Following) (a b c : Option (List ℕ)) (r : PageRecord) (e : Event) → (was : PrintedSome h t at state a b) → slice_get t.scrapes at ≡ Some r
+pub printed_front : (h : Header) (t : ScriptTarget) (at : ℕ) (state : Following) (a b c : Option (List ℕ)) (r : MemoryReply) (e : Event) → (was : PrintedSome h t at state a b) → slice_get t.scrapes at ≡ Some r
     → IsEventOf h r e → WroteFront b c (body_after h t.target was.events e) → (text : List ℕ) × IsTextOfSome h t text × WroteFront a c text
 printed_front h t at state a b c r e was stands is front = (
   bodies_of h t.target (e ∷ was.events),
@@ -239,15 +252,15 @@ targets_stop s at a b c t part was stands is more =
 
 -- ---- what is made
 
--- what is read of a record in its format
-pub read_as : (h : Header) (r : PageRecord) (f : Format) (bytes : List ℕ) (o : Outcome) → r.format ≡ f → bytes ≡ r.body → length r.body ≤ h.max_page → IsOutcomeOf (limited_setting h.limit f) bytes o → ComesTo h r o
-read_as h r f bytes o format body short is =
-    let AtFormat : Format → Type 0 = λ g. IsOutcomeOf (limited_setting h.limit g) bytes o in
-    let AtBody : List ℕ → Type 0 = λ bs. IsOutcomeOf (limited_setting h.limit r.format) bs o in
-    is_read o short (subst AtBody body (subst AtFormat (sym format) is))
+-- the event of a reply whose bytes were judged
+pub reply_event : (h : Header) (r : MemoryReply) (got : List ℕ) (o : Outcome) → got ≡ r.got → HasOutcome h.limit h.max_page (record { at = r.at; sent = []; got = got; end = r.end }) o
+    → IsEventOf h r (record { reading = r.at; outcome = o })
+reply_event h r got o same has =
+    let At : List ℕ → Type 0 = λ bytes. HasOutcome h.limit h.max_page (record { at = r.at; sent = []; got = bytes; end = r.end }) o in
+    record { time = refl; comes_to = subst At same has }
 
 -- a body that was made
-pub made_body : {E : Type 0} (h : Header) (target : Scraped) (r : PageRecord) (earlier : List Event) (new : Following) (body before text : List ℕ) (result : Result ⊤ E) (e : Event) → IsEventOf h r e
+pub made_body : {E : Type 0} (h : Header) (target : Scraped) (r : MemoryReply) (earlier : List Event) (new : Following) (body before text : List ℕ) (result : Result ⊤ E) (e : Event) → IsEventOf h r e
     → text ≡ request_text (request_after target (tracking_of h) earlier e) → StandsFor target (tracking_of h) new (e ∷ earlier) → before ≡ [] → OnOk result (body ≡ before ++ text ++ codes "\n")
     → MakesBody h target r earlier new body result
 unfolding body_after
@@ -257,8 +270,8 @@ made_body h target r earlier new body before text (Err wanting) e is same stands
 
 -- ---- where printing is cut off
 
--- printing a target was cut off at this record
-pub target_cut : (h : Header) (t : ScriptTarget) (at : ℕ) (old new : Following) (a b c : Option (List ℕ)) (r : PageRecord) (cut : Cut) → (was : PrintedSome h t at old a b) → slice_get t.scrapes at ≡ Some r
+-- printing a target was cut off at this reply
+pub target_cut : (h : Header) (t : ScriptTarget) (at : ℕ) (old new : Following) (a b c : Option (List ℕ)) (r : MemoryReply) (cut : Cut) → (was : PrintedSome h t at old a b) → slice_get t.scrapes at ≡ Some r
     → PrintsNext h t.target r was.events new b c (Err cut) → PrintsTarget h t a c (Err cut)
 target_cut h t at old new a b c r cuts.Write was stands next = printed_front h t at old a b c r next.0 was stands next.1 next.2
 target_cut h t at old new a b c r cuts.Memory was stands next = printed_stop h t at old a b c was next
@@ -272,3 +285,9 @@ script_cut s at a b c t cuts.Memory was stands next = targets_stop s at a b c t 
 -- a place in values that are the same
 pub place_in_same : {A : Type 0} (xs ys : List A) (i : ℕ) (x : A) → xs ≡ ys → i < length xs → x ≡ get_or xs i x → slice_get ys i ≡ Some x
 place_in_same xs ys i x same inside e = sym (ap (λ zs. slice_get zs i) same) ∙ at_place xs i x inside e
+
+-- what holds of each holds of the one at a place
+pub all_at : {A : Type 0} (P : A → Type 0) (xs : List A) (i : ℕ) (x : A) → AllByRecursion P xs → slice_get xs i ≡ Some x → P x
+all_at P [] i x all at = absurd (none-some x at)
+all_at P (y ∷ ys) zero x all at = subst P (same_Some y x at) all.0
+all_at P (y ∷ ys) (suc i) x all at = all_at P ys i x all.1 at

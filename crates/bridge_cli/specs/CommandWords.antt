@@ -1,27 +1,12 @@
 -- The words of the command line. The bridge's own.
-use Rattle.std.specs.Prelude.{◌≡◌, ℕ, ◌≤◌, Bool, true, false, List, [], ◌∷◌, ◌++◌, length, codes, IsTrue, ⊤}
-use Rattle.std.specs.List.{list_all}
-use Rattle.std.specs.Int.{is_in_range}
+use Rattle.std.specs.Prelude.{◌≡◌, ℕ, ◌≤◌, Bool, true, false, List, [], ◌∷◌, length, codes, ⊤}
 use Rattle.std.specs.Fmt.{decimal}
-use Rattle.page_model.specs.declared.format.Format.{Format}
-use Rattle.page_model.specs.declared.format.Format.TheVariants.{Text, OpenMetrics}
 use Rattle.bridge_ports.specs.Targets.{Scraped}
+use Rattle.plain_words.specs.Places.{IsHostAndPort}
+use Rattle.replay_script.specs.ScriptParts.{format_word}
 use Rattle.bridge_cli.specs.declared.words.Command.{Command}
 use Rattle.bridge_cli.specs.declared.words.Command.TheVariants.{Help, Version, Check, Convert, Replay}
-use Rattle.bridge_cli.specs.Limits.{most_page, most_script, most_nanos, most_job, most_host, most_port}
-
--- a host's characters: the visible ones of ASCII
-abbrev pub is_host_char : ℕ → Bool
-is_host_char c = is_in_range 0x21 0x7E c
-
--- a host of 1 to 255 characters, a colon and a port
-pub record IsPlace (instance host : List ℕ) (port : ℕ) : Type 0 where
-  pub text : instance ≡ host ++ (codes ":" ++ decimal port)
-  pub some_host : 1 ≤ length host
-  pub short_host : length host ≤ most_host
-  pub visible_host : IsTrue (list_all is_host_char host)
-  pub low_port : 1 ≤ port
-  pub high_port : port ≤ most_port
+use Rattle.bridge_cli.specs.Limits.{most_page, most_script, most_nanos, most_job, most_host}
 
 -- what is scraped of a host and a port: its metrics, whose times do not count
 unfoldable pub place_target : List ℕ → List ℕ → List ℕ → ℕ → Scraped
@@ -31,16 +16,11 @@ place_target job instance host port = record { job = job; instance = instance; a
 pub record IsTarget (t : Scraped) : Type 0 where
   pub some_job : 1 ≤ length t.job
   pub short_job : length t.job ≤ most_job
-  pub place : IsPlace t.instance t.address.host t.address.port
+  pub place : IsHostAndPort most_host t.instance t.address.host t.address.port
   pub path : t.address.path ≡ codes "/metrics"
   pub honor : t.honor ≡ false
 
 -- ---- the tables of the commands
-
--- the word of a format
-abbrev pub format_word : Format → List ℕ
-format_word Text = codes "text"
-format_word OpenMetrics = codes "openmetrics"
 
 -- the words that ask for a command; numbers are decimal digits without a sign or a leading zero
 abbrev pub words_of : Command → List (List ℕ)

@@ -29,10 +29,6 @@ most_job = 256
 abbrev pub most_host : ℕ
 most_host = 255
 
--- the greatest port
-abbrev pub most_port : ℕ
-most_port = 65535
-
 -- the most scrapes of a target of a script
 abbrev pub most_rounds : ℕ
 most_rounds = 1000000

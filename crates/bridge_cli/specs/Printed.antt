@@ -6,9 +6,9 @@ use Rattle.std.specs.Io.KnownBytes.{Appends}
 use Rattle.page_model.specs.declared.event.Event.{Event}
 use Rattle.bridge_ports.specs.Causes.{Rose}
 use Rattle.bridge_ports.specs.Targets.{Scraped}
+use Rattle.bridge_ports.specs.declared.talk.MemoryReply.{MemoryReply}
 use Rattle.target_core.specs.States.{Following, StandsFor}
 use Rattle.replay_script.specs.declared.header.Header.{Header}
-use Rattle.replay_script.specs.declared.script.PageRecord.{PageRecord}
 use Rattle.replay_script.specs.declared.script.ScriptTarget.{ScriptTarget}
 use Rattle.replay_script.specs.declared.script.Script.{Script}
 use Rattle.replay_script.specs.RightScripts.{IsRightScript}
@@ -64,14 +64,14 @@ CutCause before now (Ok done) = now ≡ before
 CutCause before now (Err Write) = Rose before now
 CutCause before now (Err Memory) = now ≡ before
 
--- what making the body of the next record came to, behind these events
-abbrev pub MakesBody : {E : Type 0} → Header → Scraped → PageRecord → List Event → Following → List ℕ → Result ⊤ E → Type 0
+-- what making the body of the next reply came to, behind these events
+abbrev pub MakesBody : {E : Type 0} → Header → Scraped → MemoryReply → List Event → Following → List ℕ → Result ⊤ E → Type 0
 MakesBody h target r earlier new body (Ok done) =
     (e : Event) × IsEventOf h r e × StandsFor target (tracking_of h) new (e ∷ earlier) × (body ≡ body_after h target earlier e)
 MakesBody h target r earlier new body (Err wanting) = ⊤
 
--- what printing the body of the next record came to, behind these events: it is printed, or a front of it, or nothing
-abbrev pub PrintsNext : Header → Scraped → PageRecord → List Event → Following → Option (List ℕ) → Option (List ℕ) → Result ⊤ Cut → Type 0
+-- what printing the body of the next reply came to, behind these events: it is printed, or a front of it, or nothing
+abbrev pub PrintsNext : Header → Scraped → MemoryReply → List Event → Following → Option (List ℕ) → Option (List ℕ) → Result ⊤ Cut → Type 0
 PrintsNext h target r earlier new before after (Ok done) =
     (e : Event) × IsEventOf h r e × StandsFor target (tracking_of h) new (e ∷ earlier) × Appends before after (body_after h target earlier e)
 PrintsNext h target r earlier new before after (Err Write) = (e : Event) × IsEventOf h r e × WroteFront before after (body_after h target earlier e)

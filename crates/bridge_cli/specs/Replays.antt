@@ -1,56 +1,39 @@
--- What `replay` prints: what the records of a script come to, and the texts of these events.
+-- What `replay` prints: what the replies of a script come to, and the texts of these events.
 -- OTLP/HTTP, JSON; the line feeds and the rest are the bridge's own.
-use Rattle.std.specs.Prelude.{◌≡◌, ℕ, ◌<◌, ◌≤◌, List, [], ◌∷◌, ◌++◌, length, codes, slice_get, Some, ⊤}
-use Rattle.page_model.specs.declared.format.Format.{Format}
-use Rattle.page_model.specs.declared.format.Treatment.TheVariants.{Scraped as AsScraped}
-use Rattle.page_model.specs.declared.page.Page.{Page}
-use Rattle.page_model.specs.declared.rule.Rule.{Rule}
-use Rattle.page_model.specs.declared.event.Cause.TheVariants as causes
-use Rattle.page_model.specs.declared.event.Outcome.{Outcome}
-use Rattle.page_model.specs.declared.event.Outcome.TheVariants as outcomes
+use Rattle.std.specs.Prelude.{◌≡◌, ℕ, List, [], ◌∷◌, ◌++◌, length, codes, slice_get, Some, ⊤}
 use Rattle.page_model.specs.declared.event.Event.{Event}
-use Rattle.page_model.specs.Written.{Setting}
-use Rattle.page_model.specs.Pages.{FirstFault, IsPageOf}
 use Rattle.bridge_ports.specs.Targets.{Scraped}
+use Rattle.bridge_ports.specs.declared.talk.MemoryReply.{MemoryReply}
+use Rattle.bridge_ports.specs.declared.talk.Talk.{Talk}
+use Rattle.http_talk.specs.Replies.{HasOutcome}
 use Rattle.start_times.specs.Starts.{Tracking}
 use Rattle.target_core.specs.Events.{request_after}
 use Rattle.otlp_json.specs.Texts.{request_text}
 use Rattle.replay_script.specs.declared.header.Header.{Header}
-use Rattle.replay_script.specs.declared.script.PageRecord.{PageRecord}
 use Rattle.replay_script.specs.declared.script.ScriptTarget.{ScriptTarget}
 use Rattle.replay_script.specs.declared.script.Script.{Script}
 
 -- ---- events
 
--- how a page of at most so many samples is read
-abbrev pub limited_setting : ℕ → Format → Setting
-limited_setting limit f = record { format = f; treatment = AsScraped; limit = limit }
+-- the talk that a reply stands for: its time, its whole bytes and its end
+abbrev pub reply_talk : MemoryReply → Talk
+reply_talk reply = record { at = reply.at; sent = []; got = reply.got; end = reply.end }
 
--- what a page of these bytes comes to: the page, or its first fault
-pub data IsOutcomeOf (st : Setting) (body : List ℕ) : Outcome → Type 0 where
-  gives_page : (page : Page) → IsPageOf st body page → IsOutcomeOf st body (outcomes.Page page)
-  has_fault : (line : ℕ) (rule : Rule) → FirstFault st body (line, rule) → IsOutcomeOf st body (outcomes.Failed (causes.Page line rule))
+-- the event that a reply comes to: a scrape's, at the time of the reply
+pub record IsEventOf (h : Header) (reply : MemoryReply) (e : Event) : Type 0 where
+  pub time : e.reading ≡ reply.at
+  pub comes_to : HasOutcome h.limit h.max_page (reply_talk reply) e.outcome
 
--- what a record comes to: a page of more bytes than the script allows is too long
-pub data ComesTo (h : Header) (r : PageRecord) : Outcome → Type 0 where
-  too_long : h.max_page < length r.body → ComesTo h r (outcomes.Failed causes.TooLong)
-  is_read : (outcome : Outcome) → length r.body ≤ h.max_page → IsOutcomeOf (limited_setting h.limit r.format) r.body outcome → ComesTo h r outcome
+-- the event is that of the reply at a place
+pub record IsEventAt (h : Header) (replies : List MemoryReply) (at : ℕ) (e : Event) : Type 0 where
+  pub reply : MemoryReply
+  pub stands : slice_get replies at ≡ Some reply
+  pub is : IsEventOf h reply e
 
--- the event that a record comes to
-pub record IsEventOf (h : Header) (r : PageRecord) (e : Event) : Type 0 where
-  pub time : e.reading ≡ r.at
-  pub comes_to : ComesTo h r e.outcome
-
--- the event is that of the record at a place
-pub record IsEventAt (h : Header) (records : List PageRecord) (at : ℕ) (e : Event) : Type 0 where
-  pub scraped : PageRecord
-  pub stands : slice_get records at ≡ Some scraped
-  pub is : IsEventOf h scraped e
-
--- these are the events of the first records of a target, the last event first
-abbrev pub AreEvents : Header → List PageRecord → List Event → Type 0
-AreEvents h records [] = ⊤
-AreEvents h records (e ∷ earlier) = IsEventAt h records (length earlier) e × AreEvents h records earlier
+-- these are the events of the first replies of a target, the last event first
+abbrev pub AreEvents : Header → List MemoryReply → List Event → Type 0
+AreEvents h replies [] = ⊤
+AreEvents h replies (e ∷ earlier) = IsEventAt h replies (length earlier) e × AreEvents h replies earlier
 
 -- ---- texts
 
@@ -73,7 +56,7 @@ pub record IsTextOfSome (h : Header) (t : ScriptTarget) (text : List ℕ) : Type
   pub are : AreEvents h t.scrapes events
   pub says : text ≡ bodies_of h t.target events
 
--- a text is that of all events of a target: of each record one
+-- a text is that of all events of a target: of each reply to a scrape one
 pub record IsTextOf (h : Header) (t : ScriptTarget) (text : List ℕ) : Type 0 where
   pub events : List Event
   pub are : AreEvents h t.scrapes events

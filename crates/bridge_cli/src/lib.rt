@@ -5,7 +5,6 @@ mod answer;
 mod commands;
 mod digits;
 mod limits;
-mod outcomes;
 mod output;
 mod pages;
 mod program;

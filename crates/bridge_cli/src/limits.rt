@@ -20,6 +20,3 @@ pub(crate) const MOST_JOB_BYTES: usize = 256;
 
 /// The most bytes of a host.
 pub(crate) const MOST_HOST_BYTES: usize = 255;
-
-/// The greatest port.
-pub(crate) const MOST_PORT: u64 = 65_535;

@@ -1,19 +1,18 @@
 //! The bodies of a script's events, which are printed one after the other as they are made.
-ghost use Rattle.std.specs.Prelude.{◌≡◌, ◌≤◌, [], List as Seq, length, IfOk};
+ghost use Rattle.std.specs.Prelude.{◌≡◌, [], List as Seq, IfOk};
 ghost use Rattle.bridge_ports.specs.Targets.{Scraped};
 ghost use Rattle.page_model.specs.declared.event.Event.{Event as AnyEvent};
 ghost use Rattle.target_core.specs.States.{StandsFor, HasNextMoment};
-ghost use Rattle.replay_script.specs.RightScripts.{IsRightHeader, IsRightScript};
-ghost use Rattle.bridge_cli.specs.Limits.{most_rounds};
+ghost use Rattle.replay_script.specs.RightScripts.{IsOver, IsRightHeader, IsRightTarget, IsRightScript};
 ghost use Rattle.bridge_cli.specs.Replays.{tracking_of};
 ghost use Rattle.bridge_cli.specs.Printed.{cut_status, CutCause, MakesBody, PrintsNext, PrintsTarget, PrintsScript};
 
-use crate::outcomes::outcome;
 use crate::output::write_all;
 use crate::status::Status;
-use bridge_ports::{Failed, Sink};
+use bridge_ports::{Failed, MemoryReply, Sink};
 use page_model::Event;
-use replay_script::{Header, PageRecord, Script, ScriptTarget};
+use replay_script::{Header, Script, ScriptTarget};
+use scrape_client::outcome;
 use std::alloc::{AllocError, Global};
 use target_core::TargetState;
 
@@ -38,22 +37,29 @@ impl Cut {
     }
 }
 
-/// Makes the body of the event of a record, with a line feed, in place of the last one.
+/// Makes the body of the event of a reply, with a line feed, in place of the last one.
 fn make_body(
     alloc: Global,
     header: &Header,
-    page: &PageRecord,
+    reply: &MemoryReply,
     state: &mut TargetState,
     body: &mut Vec<u8>,
 ) -> Result<(), AllocError>
     requires right { IsRightHeader header.now }
+    requires ended { IsOver reply.now }
     requires next { HasNextMoment state.old.moment }
     ensures { (target : Scraped) (earlier : Seq AnyEvent) → StandsFor target (tracking_of header.now) state.old earlier
-        → MakesBody header.now target page.now earlier state.new body.new.items result }
+        → MakesBody header.now target reply.now earlier state.new body.new.items result }
 {
-    let outcome = outcome(alloc, header, page)?;
+    let outcome = outcome(
+        alloc,
+        reply.got.as_slice(),
+        reply.end,
+        header.limit,
+        header.max_page,
+    )?;
     let event = Event {
-        reading: page.at,
+        reading: reply.at,
         outcome,
     };
     let request = state.step(alloc, event)?;
@@ -61,22 +67,23 @@ fn make_body(
     otlp_json::write_line(&request, body)
 }
 
-/// Prints the body of the event of a record.
+/// Prints the body of the event of a reply.
 fn print_next<O: Sink>(
     alloc: Global,
     header: &Header,
-    page: &PageRecord,
+    reply: &MemoryReply,
     state: &mut TargetState,
     body: &mut Vec<u8>,
     output: &mut O,
 ) -> Result<(), Cut>
     requires right { IsRightHeader header.now }
+    requires ended { IsOver reply.now }
     requires next { HasNextMoment state.old.moment }
     ensures printed { (target : Scraped) (earlier : Seq AnyEvent) → StandsFor target (tracking_of header.now) state.old earlier
-        → PrintsNext header.now target page.now earlier state.new (O.held output.old) (O.held output.new) result }
+        → PrintsNext header.now target reply.now earlier state.new (O.held output.old) (O.held output.new) result }
     ensures cause { CutCause (O.write_faults output.old) (O.write_faults output.new) result }
 {
-    match make_body(alloc, header, page, state, body) {
+    match make_body(alloc, header, reply, state, body) {
         Ok(()) => {}
         Err(AllocError) => return Err(Cut::Memory),
     }
@@ -87,7 +94,7 @@ fn print_next<O: Sink>(
 }
 
 /// Prints the bodies of a target, over a state that stands for no event.
-fn print_records<O: Sink>(
+fn print_replies<O: Sink>(
     alloc: Global,
     header: &Header,
     target: &ScriptTarget,
@@ -95,17 +102,17 @@ fn print_records<O: Sink>(
     output: &mut O,
 ) -> Result<(), Cut>
     requires right { IsRightHeader header.now }
-    requires few { length target.now.scrapes ≤ most_rounds }
+    requires target { IsRightTarget header.now target.now }
     requires fresh { StandsFor target.now.target (tracking_of header.now) start [] }
     ensures printed { PrintsTarget header.now target.now (O.held output.old) (O.held output.new) result }
     ensures cause { CutCause (O.write_faults output.old) (O.write_faults output.new) result }
 {
     let mut state = start;
     let mut body = Vec::new(alloc);
-    let records = target.scrapes.as_slice();
+    let replies = target.scrapes.as_slice();
     let mut at = 0usize;
-    while at < records.len() {
-        match print_next(alloc, header, &records[at], &mut state, &mut body, output) {
+    while at < replies.len() {
+        match print_next(alloc, header, &replies[at], &mut state, &mut body, output) {
             Ok(()) => at += 1,
             Err(cut) => return Err(cut),
         }
@@ -121,12 +128,12 @@ fn print_target<O: Sink>(
     output: &mut O,
 ) -> Result<(), Cut>
     requires right { IsRightHeader header.now }
-    requires few { length target.now.scrapes ≤ most_rounds }
+    requires target { IsRightTarget header.now target.now }
     ensures printed { PrintsTarget header.now target.now (O.held output.old) (O.held output.new) result }
     ensures cause { CutCause (O.write_faults output.old) (O.write_faults output.new) result }
 {
     match new_state(alloc, header, target) {
-        Ok(state) => print_records(alloc, header, target, state, output),
+        Ok(state) => print_replies(alloc, header, target, state, output),
         Err(AllocError) => Err(Cut::Memory),
     }
 }

@@ -1,5 +1,7 @@
 ghost use Rattle.bridge_ports.specs.Edges.{untold};
 
+mod replays;
+
 use crate::bridge;
 use bridge_ports::{Failed, MemorySink, MemorySource, Source};
 use label_sets::{Bytes, List, Memory};
@@ -434,37 +436,4 @@ fn endless_input_is_left(rt: HostRuntime) {
     assert_eq!(rt; status, 8);
     assert_eq!(rt; input.reads, 1025);
     assert!(rt; output.held() == b"input too long\n".as_slice());
-}
-
-// A counter that falls between its second and its third scrape.
-const FALLS: &[u8] =
-    b"bridge-script 1\nrounds 4\ntarget j h:1 /metrics\npage 10 text 21\n# TYPE c counter\nc 5\n\npage 20 text 21\n# TYPE c counter\nc 7\n\npage 30 text 21\n# TYPE c counter\nc 3\n\npage 40 text 21\n# TYPE c counter\nc 4\n\n";
-
-const FALLS_POINTS: [&str; 4] = [
-    r#"{"startTimeUnixNano":"10","timeUnixNano":"10","asDouble":5}"#,
-    r#"{"startTimeUnixNano":"10","timeUnixNano":"20","asDouble":7}"#,
-    r#"{"startTimeUnixNano":"30","timeUnixNano":"30","asDouble":3}"#,
-    r#"{"startTimeUnixNano":"30","timeUnixNano":"40","asDouble":4}"#,
-];
-
-// Two samples where one is allowed, and a page that is no text.
-const FAILS: &[u8] =
-    b"bridge-script 1\nlimit 1\nrounds 2\ntarget j h:1 /metrics\npage 10 text 8\nx 1\ny 2\n\npage 10 text 2\n!\n\n";
-
-#[test]
-fn replayed_scripts(rt: HostRuntime) {
-    let alloc = rt.alloc();
-    let falls = run(alloc, &["replay"], FALLS, None, ROOM).expect(&rt, "memory");
-    assert_eq!(rt; falls.status, 0);
-    let text = std::str::from_utf8(falls.output.held()).expect(&rt, "text");
-    for point in &FALLS_POINTS {
-        assert!(rt; text.contains(*point), "{point}");
-    }
-    let fails = run(alloc, &["replay"], FAILS, None, ROOM).expect(&rt, "memory");
-    assert_eq!(rt; fails.status, 0);
-    let text = std::str::from_utf8(fails.output.held()).expect(&rt, "text");
-    assert!(rt; text.contains(r#""timeUnixNano":"11","asDouble":0"#));
-    let refused = run(alloc, &["replay"], b"", None, ROOM).expect(&rt, "memory");
-    assert_eq!(rt; refused.status, 7);
-    assert!(rt; refused.output.held() == b"script line 1\n".as_slice());
 }

@@ -1,7 +1,5 @@
 //! The words of the command line.
 mod forms;
-mod numbers;
-mod place;
 mod target;
 
 use bridge_ports::Target;

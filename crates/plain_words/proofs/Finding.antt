@@ -15,7 +15,7 @@ use Rattle.std.proofs.lemmas.Slice.Eq.{bytes_eq-Decides}
 use Rattle.memchr.specs.Find.{NoneBefore, NoneAfter, Nowhere, Passes, is_byte}
 use Rattle.label_sets.specs.Lists.{◌>>=◌, when_true}
 use Rattle.plain_words.specs.WholeNumbers.{number_in}
-use Rattle.plain_words.specs.Places.{is_visible_word, is_port, most_port, is_colon, IsPlace, place_in}
+use Rattle.plain_words.specs.Places.{is_visible_word, is_port, most_port, is_colon, IsHostAndPort, place_in}
 use Rattle.plain_words.specs.HeadLines.{cut_first}
 use Rattle.plain_words.proofs.WordLaws.{number_found, number_spelled, place_found, place_spelled}
 
@@ -126,12 +126,12 @@ and_false true = refl
 and_false false = refl
 
 -- what is read as a place is one
-pub place_is : {A : Type 0} (host : A → List ℕ) (port : A → ℕ) (most : ℕ) (word : List ℕ) (r : Option A) → option_map (λ p. (host p, port p)) r ≡ place_in most word → IfSome r (λ p. IsPlace most word (host p) (port p))
+pub place_is : {A : Type 0} (host : A → List ℕ) (port : A → ℕ) (most : ℕ) (word : List ℕ) (r : Option A) → option_map (λ p. (host p, port p)) r ≡ place_in most word → IfSome r (λ p. IsHostAndPort most word (host p) (port p))
 place_is host port most word (Some p) e = let s = place_spelled most word (host p, port p) (sym e) in record { spelled = s.0; host_word = s.1; port_number = s.2 }
 place_is host port most word None e = tt
 
 -- what isn't read as a place is none
 pub is_no_place : {A : Type 0} (host : A → List ℕ) (port : A → ℕ) (most : ℕ) (word : List ℕ) (r : Option A) → option_map (λ p. (host p, port p)) r ≡ place_in most word
-    → IfNone r ((h : List ℕ) (n : ℕ) → ¬ IsPlace most word h n)
+    → IfNone r ((h : List ℕ) (n : ℕ) → ¬ IsHostAndPort most word h n)
 is_no_place host port most word (Some p) e = tt
 is_no_place host port most word None e = λ h n is. none-some (h, n) (e ∙ ap (place_in most) is.spelled ∙ place_found most h n is.host_word is.port_number)

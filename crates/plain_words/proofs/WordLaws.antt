@@ -2,7 +2,8 @@
 use Rattle.std.proofs.Common.{◌≡◌, ◌≢◌, ℕ, zero, suc, ◌+◌, ◌-◌, ◌^◌, ◌<◌, ◌≤◌, Bool, true, false, not, ◌&&◌, ◌||◌, List, [], ◌∷◌, ◌++◌, length, get_or, take, drop, Option, Some, refl, sym, ap, subst, ◌∙◌, arith, length-append, bytes_eq, codes, nat_le}
 use Rattle.std.specs.Fmt.{decimal}
 use Rattle.std.specs.Int.{is_in_range}
-use Rattle.std.specs.List.{list_any, before_last, after_last, suffix_len}
+use Rattle.std.specs.Str.{IsAscii}
+use Rattle.std.specs.List.{list_all, list_any, before_last, after_last, suffix_len}
 use Rattle.std.specs.Str.Parse.{digits_value}
 use Rattle.std.proofs.lemmas.Bool.{eqb-true, eq-eqb, ne_eqb, and_parts, leb-true, le-leb, true≢false}
 use Rattle.std.proofs.lemmas.Fmt.{decimal_is_IsNumeral}
@@ -13,7 +14,7 @@ use Rattle.std.proofs.lemmas.List.Folds.{list_any-append}
 use Rattle.std.proofs.lemmas.Slice.Eq.{bytes_eq-Decides}
 use Rattle.label_sets.specs.Lists.{◌>>=◌, when_true}
 use Rattle.plain_words.specs.WholeNumbers.{number_in}
-use Rattle.plain_words.specs.Places.{is_visible_word, is_port, most_port, is_colon, place_in}
+use Rattle.plain_words.specs.Places.{is_visible, is_visible_word, is_port, most_port, is_colon, place_in}
 use Rattle.plain_words.proofs.Steps.{bind_some, when_some, or_true, or_parts, or_first}
 
 -- the number of a printed number
@@ -104,6 +105,19 @@ in_range low high n e = let both = and_parts (nat_le low n) (nat_le n high) e in
 -- a port is a small number
 pub port_small : (port : ℕ) → is_port port ≡ true → port < 2 ^ 64
 port_small port e = let both = in_range 1 65535 port e in omega (arith, both.1)
+
+-- visible words are ASCII
+visible_ascii : (word : List ℕ) → list_all is_visible word ≡ true → IsAscii word
+visible_ascii [] e i = omega arith
+visible_ascii (c ∷ word) e zero = (let h = and_parts (is_visible c) (list_all is_visible word) e in let r = and_parts (nat_le 0x21 c) (nat_le c 0x7E) h.0 in omega (arith, leb-true c 0x7E r.1))
+visible_ascii (c ∷ word) e (suc i) = visible_ascii word (and_parts (is_visible c) (list_all is_visible word) e).1 i
+
+-- the parts of a visible word
+pub word_parts : (most : ℕ) (word : List ℕ) → is_visible_word most word ≡ true → (1 ≤ length word) × (length word ≤ most) × IsAscii word
+word_parts most word e =
+    let a = and_parts (nat_le 1 (length word) && nat_le (length word) most) (list_all is_visible word) e in
+    let b = and_parts (nat_le 1 (length word)) (nat_le (length word) most) a.0 in
+    (leb-true 1 (length word) b.0, leb-true (length word) most b.1, visible_ascii word a.1)
 
 -- the host and the port of a place
 pub place_found : (most : ℕ) (host : List ℕ) (port : ℕ) → is_visible_word most host ≡ true → is_port port ≡ true → place_in most (host ++ (codes ":" ++ decimal port)) ≡ Some (host, port)

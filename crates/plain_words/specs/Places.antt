@@ -24,7 +24,7 @@ abbrev pub is_port : ℕ → Bool
 is_port port = is_in_range 1 most_port port
 
 -- a host of 1 to `most` visible characters, a colon and a port
-pub record IsPlace (most : ℕ) (text host : List ℕ) (port : ℕ) : Type 0 where
+pub record IsHostAndPort (most : ℕ) (text host : List ℕ) (port : ℕ) : Type 0 where
   pub spelled : text ≡ host ++ (codes ":" ++ decimal port)
   pub host_word : IsTrue (is_visible_word most host)
   pub port_number : IsTrue (is_port port)

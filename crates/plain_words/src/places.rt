@@ -68,8 +68,8 @@ fn parted(most: usize, word: &[u8]) -> Option<Place<'_>>
 /// The host and the port of a word, where the host has 1 to `most` visible characters; the last colon
 /// parts them.
 pub fn host_and_port(most: usize, word: &[u8]) -> Option<Place<'_>>
-    ensures found { IfSome result (λ p. spec.IsPlace most word.now p.host.now p.port) }
-    ensures none { IfNone result ((host : List ℕ) (port : ℕ) → ¬ spec.IsPlace most word.now host port) }
+    ensures found { IfSome result (λ p. spec.IsHostAndPort most word.now p.host.now p.port) }
+    ensures none { IfNone result ((host : List ℕ) (port : ℕ) → ¬ spec.IsHostAndPort most word.now host port) }
     ensures only { option_map (λ place. (place.host.now, place.port)) result ≡ spec.place_in most word.now }
 {
     parted(most, word)

@@ -2,32 +2,34 @@
 use Rattle.std.proofs.Common.{◌≡◌, ◌≢◌, ℕ, zero, suc, ◌+◌, ◌*◌, ◌^◌, ◌<◌, ◌≤◌, Bool, true, false, cond, not, ◌&&◌, ◌||◌, ◌==◌, List, [], ◌∷◌, ◌++◌, length, get_or, take, drop, Option, Some, None, refl, sym, ap, subst, ◌∙◌, arith, append_assoc, bytes_eq, codes, nat_le, nat_lt, nat_eq, slice_index}
 use Rattle.std.specs.Fmt.{decimal}
 use Rattle.std.specs.List.{list_all, starts_with}
-use Rattle.std.proofs.lemmas.Bool.{and_parts, and_from, ltb-true, lt-ltb, true≢false}
+use Rattle.std.proofs.lemmas.Bool.{and_parts, and_from, ltb-true, lt-ltb}
 use Rattle.std.proofs.lemmas.List.{take_at, drop_at, drop-drop, get_or_at}
 use Rattle.std.proofs.lemmas.List.Folds.{list_all-append}
 use Rattle.page_model.specs.declared.format.Format.{Format}
 use Rattle.page_model.specs.declared.format.Format.TheVariants as formats
 use Rattle.plain_words.specs.Places.{is_visible, is_visible_word, is_port}
-use Rattle.plain_words.specs.HeadLines.{line_of}
+use Rattle.plain_words.specs.HeadLines.{head_line}
 use Rattle.plain_words.proofs.Laws.{number_found, place_found, in_range, port_small, decimal_visible, are_visible, words_found}
 use Rattle.replay_script.specs.declared.header.HeaderLine.{HeaderLine}
 use Rattle.replay_script.specs.declared.header.HeaderLine.TheVariants.{Keep, Tries, Limit, MaxPage, Cut, Rounds}
-use Rattle.replay_script.specs.HeaderLines.{row_of, is_in_row}
-use Rattle.replay_script.specs.ScriptParts.{format_word, TargetLine, Part, opening, header, target, page, scrape, post, record_words, part_words, part_text}
-use Rattle.replay_script.specs.ScriptRules.{may_follow, is_next_line, is_target_line, is_record, has_target}
-use Rattle.replay_script.specs.ScriptContents.{targets_of}
-use Rattle.replay_script.specs.ScriptReading.{most_number, body_at, header_line_in, format_in, header_in, target_in, page_at, target_or_page, part_with, part_at}
+use Rattle.replay_script.specs.HeaderLines.{header_row, is_in_row}
+use Rattle.replay_script.specs.declared.ending.Ending.{Ending}
+use Rattle.replay_script.specs.declared.ending.Ending.TheVariants.{ConnectFails, WriteFails, ReadFails, PeerEnds}
+use Rattle.replay_script.specs.ScriptParts.{ending_word, format_word, TargetLine, Part, opening, header, target, page, scrape, post, record_words, part_words, part_text}
+use Rattle.replay_script.specs.ScriptRules.{may_stand_behind, is_next_line, is_target_line, is_record, fits_ending, has_target, has_room_for_post}
+use Rattle.replay_script.specs.ScriptContents.{targets_of, header_number}
+use Rattle.replay_script.specs.ScriptReading.{most_number, body_at, header_line_in, ending_in, format_in, header_in, target_in, record_in, record_at, target_or_record, part_with, front_part}
 
 -- ---- what a part that may follow is made of
 
 -- the words and numbers of a part are right, whatever stands before it
 unfoldable pub is_well_formed : Part → Bool
 is_well_formed opening = true
-is_well_formed (header line n) = is_in_row (row_of line) n
+is_well_formed (header line n) = is_in_row (header_row line) n
 is_well_formed (target t) = is_target_line t
 is_well_formed (page at format body) = is_record at body
-is_well_formed (scrape at ending bytes) = false
-is_well_formed (post at ending bytes) = false
+is_well_formed (scrape at ending bytes) = is_record at bytes
+is_well_formed (post at ending bytes) = is_record at bytes
 
 -- ---- the body behind a head line
 
@@ -46,7 +48,7 @@ body_found bytes more =
 
 -- the words of a header line are visible
 header_visible : (line : HeaderLine) (n : ℕ) → n < 2 ^ 64 → are_visible (part_words (header line n)) ≡ true
-unfolding part_words row_of
+unfolding part_words header_row
 header_visible Keep n small = rw (decimal_visible n small) refl
 header_visible Tries n small = rw (decimal_visible n small) refl
 header_visible Limit n small = rw (decimal_visible n small) refl
@@ -55,8 +57,8 @@ header_visible Cut n small = rw (decimal_visible n small) refl
 header_visible Rounds n small = rw (decimal_visible n small) refl
 
 -- a header line's number is small
-header_small : (line : HeaderLine) (n : ℕ) → is_in_row (row_of line) n ≡ true → n < 2 ^ 64
-unfolding row_of
+header_small : (line : HeaderLine) (n : ℕ) → is_in_row (header_row line) n ≡ true → n < 2 ^ 64
+unfolding header_row
 header_small Keep n e = omega (arith, (in_range 0 4 n e).1)
 header_small Tries n e = omega (arith, (in_range 1 8 n e).1)
 header_small Limit n e = omega (arith, (in_range 1 200000 n e).1)
@@ -65,8 +67,8 @@ header_small Cut n e = omega (arith, (in_range 1 65536 n e).1)
 header_small Rounds n e = omega (arith, (in_range 1 1000000 n e).1)
 
 -- a header line is read as itself
-header_found : (line : HeaderLine) (n : ℕ) → n < 2 ^ 64 → header_in (row_of line).word (decimal n) ≡ Some (header line n)
-unfolding row_of header_in header_line_in
+header_found : (line : HeaderLine) (n : ℕ) → n < 2 ^ 64 → header_in (header_row line).word (decimal n) ≡ Some (header line n)
+unfolding header_row header_in header_line_in
 header_found Keep n small = rw (number_found most_number n (omega (arith, small)) small) refl
 header_found Tries n small = rw (number_found most_number n (omega (arith, small)) small) refl
 header_found Limit n small = rw (number_found most_number n (omega (arith, small)) small) refl
@@ -121,60 +123,85 @@ record_visible : (sort form : List ℕ) (at : ℕ) (bytes : List ℕ) → list_a
 record_visible sort form at bytes one three e =
     let small = record_small at bytes e in rw (one, decimal_visible at small.0, three, decimal_visible (length bytes) small.1) refl
 
--- a format is read as itself
-format_found : (format : Format) → format_in (format_word format) ≡ Some format
-unfolding format_in
-format_found formats.Text = refl
-format_found formats.OpenMetrics = refl
-
--- a record of a page is read as itself
-page_found : (at : ℕ) (format : Format) (bytes more : List ℕ) → is_record at bytes ≡ true
-    → page_at (decimal at) (format_word format) (decimal (length bytes)) ((bytes ++ 10 ∷ []) ++ more) ≡ Some (page at format bytes, more)
-unfolding page_at
-page_found at format bytes more e =
+-- a record is read as itself where its words are
+record_found : (sort form : List ℕ) (at : ℕ) (bytes more : List ℕ) (p : Part) → is_record at bytes ≡ true → record_in sort at form bytes ≡ Some p
+    → record_at sort (decimal at) form (decimal (length bytes)) ((bytes ++ 10 ∷ []) ++ more) ≡ Some (p, more)
+unfolding record_at
+record_found sort form at bytes more p e is =
     let small = record_small at bytes e in
-    let time = number_found most_number at (omega (arith, small.0)) small.0 in
-    let count = number_found most_number (length bytes) (omega (arith, small.1)) small.1 in
-    rw (time, format_found format, count, body_found bytes more) refl
+    rw (number_found most_number at (omega (arith, small.0)) small.0, number_found most_number (length bytes) (omega (arith, small.1)) small.1, body_found bytes more, is) refl
+
+page_in : (at : ℕ) (format : Format) (bytes : List ℕ) → record_in (codes "page") at (format_word format) bytes ≡ Some (page at format bytes)
+unfolding record_in format_in
+page_in at formats.Text bytes = refl
+page_in at formats.OpenMetrics bytes = refl
+
+scrape_in : (at : ℕ) (ending : Ending) (bytes : List ℕ) → record_in (codes "scrape") at (ending_word ending) bytes ≡ Some (scrape at ending bytes)
+unfolding record_in ending_in
+scrape_in at ConnectFails bytes = refl
+scrape_in at WriteFails bytes = refl
+scrape_in at ReadFails bytes = refl
+scrape_in at PeerEnds bytes = refl
+
+post_in : (at : ℕ) (ending : Ending) (bytes : List ℕ) → record_in (codes "post") at (ending_word ending) bytes ≡ Some (post at ending bytes)
+unfolding record_in ending_in
+post_in at ConnectFails bytes = refl
+post_in at WriteFails bytes = refl
+post_in at ReadFails bytes = refl
+post_in at PeerEnds bytes = refl
 
 format_visible : (format : Format) → list_all is_visible (format_word format) ≡ true
 format_visible formats.Text = refl
 format_visible formats.OpenMetrics = refl
 
+ending_visible : (ending : Ending) → list_all is_visible (ending_word ending) ≡ true
+ending_visible ConnectFails = refl
+ending_visible WriteFails = refl
+ending_visible ReadFails = refl
+ending_visible PeerEnds = refl
+
 -- ---- parts
 
 -- a line with words and what stands behind it is read as the words say
 line_found : (w : List ℕ) (ws : List (List ℕ)) (body more : List ℕ) (p : Part) → are_visible (w ∷ ws) ≡ true → part_with (w ∷ ws) (body ++ more) ≡ Some (p, more)
-    → part_at ((line_of (w ∷ ws) ++ body) ++ more) ≡ Some (p, more)
-unfolding part_at
+    → front_part ((head_line (w ∷ ws) ++ body) ++ more) ≡ Some (p, more)
+unfolding front_part
 line_found w ws body more p all is =
-    let text : (line_of (w ∷ ws) ++ body) ++ more ≡ line_of (w ∷ ws) ++ (body ++ more) = append_assoc (line_of (w ∷ ws)) body more in
+    let text : (head_line (w ∷ ws) ++ body) ++ more ≡ head_line (w ∷ ws) ++ (body ++ more) = append_assoc (head_line (w ∷ ws)) body more in
     rw (text, words_found w ws (body ++ more) all) is
 
 -- a part with right words is read as itself
-pub part_found : (p : Part) (more : List ℕ) → is_well_formed p ≡ true → part_at (part_text p ++ more) ≡ Some (p, more)
-unfolding is_well_formed part_words part_with header_in target_or_page
+pub part_found : (p : Part) (more : List ℕ) → is_well_formed p ≡ true → front_part (part_text p ++ more) ≡ Some (p, more)
+unfolding is_well_formed part_words part_with header_in target_or_record
 part_found opening more e = line_found (codes "bridge-script") (codes "1" ∷ []) [] more opening refl refl
 part_found (header line n) more e =
     let small = header_small line n e in
-    line_found (row_of line).word (decimal n ∷ []) [] more (header line n) (header_visible line n small) (rw (header_found line n small) refl)
+    line_found (header_row line).word (decimal n ∷ []) [] more (header line n) (header_visible line n small) (rw (header_found line n small) refl)
 part_found (target t) more e =
     let w = target_words t e in
     line_found (codes "target") (t.job ∷ (t.host ++ (codes ":" ++ decimal t.port)) ∷ t.path ∷ []) [] more (target t) (target_visible t w) (rw (target_found t w) refl)
 part_found (page at format bytes) more e =
     line_found (codes "page") (decimal at ∷ format_word format ∷ decimal (length bytes) ∷ []) (bytes ++ 10 ∷ []) more (page at format bytes)
     (record_visible (codes "page") (format_word format) at bytes refl (format_visible format) e)
-    (page_found at format bytes more e)
-part_found (scrape at ending bytes) more e = absurd (true≢false (sym e))
-part_found (post at ending bytes) more e = absurd (true≢false (sym e))
+    (record_found (codes "page") (format_word format) at bytes more (page at format bytes) e (page_in at format bytes))
+part_found (scrape at ending bytes) more e =
+    line_found (codes "scrape") (decimal at ∷ ending_word ending ∷ decimal (length bytes) ∷ []) (bytes ++ 10 ∷ []) more (scrape at ending bytes)
+    (record_visible (codes "scrape") (ending_word ending) at bytes refl (ending_visible ending) e)
+    (record_found (codes "scrape") (ending_word ending) at bytes more (scrape at ending bytes) e (scrape_in at ending bytes))
+part_found (post at ending bytes) more e =
+    line_found (codes "post") (decimal at ∷ ending_word ending ∷ decimal (length bytes) ∷ []) (bytes ++ 10 ∷ []) more (post at ending bytes)
+    (record_visible (codes "post") (ending_word ending) at bytes refl (ending_visible ending) e)
+    (record_found (codes "post") (ending_word ending) at bytes more (post at ending bytes) e (post_in at ending bytes))
 
 -- ---- a part that may follow has right words
 
-pub well_formed : (earlier : List Part) (p : Part) → may_follow earlier p ≡ true → is_well_formed p ≡ true
-unfolding may_follow is_well_formed
+pub well_formed : (earlier : List Part) (p : Part) → may_stand_behind earlier p ≡ true → is_well_formed p ≡ true
+unfolding may_stand_behind is_well_formed
 well_formed earlier opening e = refl
-well_formed earlier (header line n) e = (and_parts (is_next_line line earlier) (is_in_row (row_of line) n) e).1
+well_formed earlier (header line n) e = (and_parts (is_next_line line earlier) (is_in_row (header_row line) n) e).1
 well_formed earlier (target t) e = (and_parts _ (is_target_line t) (and_parts _ _ e).0).1
 well_formed earlier (page at format body) e = (and_parts (has_target (targets_of earlier)) (is_record at body) e).1
-well_formed earlier (scrape at ending bytes) e = e
-well_formed earlier (post at ending bytes) e = e
+well_formed earlier (scrape at ending bytes) e = (and_parts (has_target (targets_of earlier)) (is_record at bytes) (and_parts (has_target (targets_of earlier) && is_record at bytes) (fits_ending ending bytes) e).0).1
+well_formed earlier (post at ending bytes) e =
+    let room = has_room_for_post (header_number earlier Rounds * header_number earlier Tries) (targets_of earlier) in
+    (and_parts room (is_record at bytes) (and_parts (room && is_record at bytes) (fits_ending ending bytes) e).0).1

@@ -3,33 +3,31 @@ use Rattle.std.proofs.Common.{◌≡◌, ◌≢◌, ℕ, suc, false, List, [], �
 use Rattle.std.specs.List.{slice_split}
 use Rattle.std.proofs.lemmas.List.Splits.{length-slice_split}
 use Rattle.label_sets.specs.Lists.{◌>>=◌}
-use Rattle.page_model.specs.declared.format.Format.{Format}
 use Rattle.plain_words.specs.WholeNumbers.{number_in}
 use Rattle.plain_words.specs.HeadLines.{cut_first, is_space}
 use Rattle.plain_words.proofs.Laws.{split_uncut, split_cut, words_cut, words_uncut}
 use Rattle.replay_script.specs.declared.header.HeaderLine.{HeaderLine}
-use Rattle.replay_script.specs.ScriptParts.{Part, header, page}
-use Rattle.replay_script.specs.ScriptReading.{most_number, body_at, header_line_in, format_in, header_in, page_at, target_or_page, part_with, part_at}
+use Rattle.replay_script.specs.ScriptParts.{Part, header}
+use Rattle.replay_script.specs.ScriptReading.{most_number, body_at, header_line_in, header_in, record_in, record_at, target_or_record, part_with, front_part}
 
--- ---- a record of a page
+-- ---- a record
 
-pub page_steps : (time form count text : List ℕ) (at : Option ℕ) (format : Option Format) (len : Option ℕ) → at ≡ number_in most_number time → format ≡ format_in form → len ≡ number_in most_number count
-    → page_at time form count text ≡ (at >>= λ at. format >>= λ format. len >>= λ len. body_at len text >>= λ body. Some (page at format body.0, body.1))
-unfolding page_at
-page_steps time form count text at format len a f l = rw (a, f, l) refl
+pub record_no_time : (sort time form count text : List ℕ) → number_in most_number time ≡ None → record_at sort time form count text ≡ None
+unfolding record_at
+record_no_time sort time form count text e = rw e refl
 
-pub page_no_time : (time form count text : List ℕ) → number_in most_number time ≡ None → page_at time form count text ≡ None
-unfolding page_at
-page_no_time time form count text e = rw e refl
+pub record_no_count : (sort time form count text : List ℕ) (at : ℕ) → Some at ≡ number_in most_number time → number_in most_number count ≡ None → record_at sort time form count text ≡ None
+unfolding record_at
+record_no_count sort time form count text at a l = rw (sym a, l) refl
 
-pub page_no_count : (time form count text : List ℕ) (at : ℕ) (format : Format) → Some at ≡ number_in most_number time → Some format ≡ format_in form → number_in most_number count ≡ None
-    → page_at time form count text ≡ None
-page_no_count time form count text at format a f l = page_steps time form count text (Some at) (Some format) None a f (sym l)
+pub record_no_body : (sort time form count text : List ℕ) (at len : ℕ) → Some at ≡ number_in most_number time → Some len ≡ number_in most_number count → body_at len text ≡ None → record_at sort time form count text ≡ None
+unfolding record_at
+record_no_body sort time form count text at len a l b = rw (sym a, sym l, b) refl
 
-pub page_body : (time form count text : List ℕ) (at : ℕ) (format : Format) (len : ℕ) (body : Option (List ℕ × List ℕ)) → Some at ≡ number_in most_number time → Some format ≡ format_in form
-    → Some len ≡ number_in most_number count → body ≡ body_at len text → page_at time form count text ≡ (body >>= λ b. Some (page at format b.0, b.1))
-page_body time form count text at format len body a f l b =
-    page_steps time form count text (Some at) (Some format) (Some len) a f l ∙ ap (λ o. o >>= λ (x : List ℕ × List ℕ). Some (page at format x.0, x.1)) (sym b)
+pub record_made : (sort time form count text : List ℕ) (at len : ℕ) (bytes rest : List ℕ) (part : Option Part) → Some at ≡ number_in most_number time → Some len ≡ number_in most_number count
+    → Some (bytes, rest) ≡ body_at len text → part ≡ record_in sort at form bytes → record_at sort time form count text ≡ (part >>= λ p. Some (p, rest))
+unfolding record_at
+record_made sort time form count text at len bytes rest part a l b p = rw (sym a, sym l, sym b, sym p) refl
 
 -- ---- a header line
 
@@ -70,20 +68,20 @@ four_words line a r b s c d e f g h = split_cut line a r (sym e) ∙ ap (λ ws. 
 
 -- ---- the front of a text
 
-pub no_line : (text : List ℕ) → None ≡ cut_first 10 text → part_at text ≡ None
-unfolding part_at
+pub no_line : (text : List ℕ) → None ≡ cut_first 10 text → front_part text ≡ None
+unfolding front_part
 no_line text e = rw (words_uncut text (sym e)) refl
 
-pub line_front : (text line rest : List ℕ) → Some (line, rest) ≡ cut_first 10 text → part_at text ≡ part_with (slice_split is_space line) rest
-unfolding part_at
+pub line_front : (text line rest : List ℕ) → Some (line, rest) ≡ cut_first 10 text → front_part text ≡ part_with (slice_split is_space line) rest
+unfolding front_part
 line_front text line rest e = rw (words_cut text line rest (sym e)) refl
 
 pub two_front : (text line rest a b : List ℕ) (part : Option Part) → Some (line, rest) ≡ cut_first 10 text → slice_split is_space line ≡ a ∷ b ∷ [] → part ≡ header_in a b
-    → part_at text ≡ (part >>= λ p. Some (p, rest))
+    → front_part text ≡ (part >>= λ p. Some (p, rest))
 unfolding part_with
 two_front text line rest a b part e words is = line_front text line rest e ∙ ap (λ ws. part_with ws rest) words ∙ ap (λ o. o >>= λ p. Some (p, rest)) (sym is)
 
-pub four_front : (text line rest a b c d : List ℕ) → Some (line, rest) ≡ cut_first 10 text → slice_split is_space line ≡ a ∷ b ∷ c ∷ d ∷ [] → part_at text ≡ target_or_page a b c d rest
+pub four_front : (text line rest a b c d : List ℕ) → Some (line, rest) ≡ cut_first 10 text → slice_split is_space line ≡ a ∷ b ∷ c ∷ d ∷ [] → front_part text ≡ target_or_record a b c d rest
 unfolding part_with
 four_front text line rest a b c d e words = line_front text line rest e ∙ ap (λ ws. part_with ws rest) words
 
@@ -96,5 +94,5 @@ no_part (a ∷ b ∷ c ∷ []) rest two four = refl
 no_part (a ∷ b ∷ c ∷ d ∷ []) rest two four = absurd (four refl)
 no_part (a ∷ b ∷ c ∷ d ∷ e ∷ ws) rest two four = refl
 
-pub other_front : (text line rest : List ℕ) → Some (line, rest) ≡ cut_first 10 text → (length (slice_split is_space line) ≢ 2) × (length (slice_split is_space line) ≢ 4) → part_at text ≡ None
+pub other_front : (text line rest : List ℕ) → Some (line, rest) ≡ cut_first 10 text → (length (slice_split is_space line) ≢ 2) × (length (slice_split is_space line) ≢ 4) → front_part text ≡ None
 other_front text line rest e is = line_front text line rest e ∙ no_part (slice_split is_space line) rest is.0 is.1

@@ -6,10 +6,10 @@ use Rattle.plain_words.specs.HeadLines.{line_feeds}
 use Rattle.replay_script.specs.declared.script.Script.{Script}
 use Rattle.replay_script.specs.declared.progress.Progress.{Progress}
 use Rattle.replay_script.specs.ScriptParts.{Part, part_text, parts_text}
-use Rattle.replay_script.specs.ScriptRules.{may_follow, may_end}
+use Rattle.replay_script.specs.ScriptRules.{may_stand_behind, may_end}
 use Rattle.replay_script.specs.Scripts.{IsScript, IsStuck, HasScriptFault}
-use Rattle.replay_script.specs.ScriptReading.{part_at, next_part, is_empty}
-use Rattle.replay_script.specs.Progresses.{Knows, Takes, Ends, WasReadTo}
+use Rattle.replay_script.specs.ScriptReading.{front_part, next_part, is_empty}
+use Rattle.replay_script.specs.Progresses.{Knows, TakesPart, Ends, WasReadTo}
 use Rattle.replay_script.proofs.Spelled.{part_spelled}
 use Rattle.replay_script.proofs.Verdicts.{nothing_next, not_empty, part_length}
 
@@ -39,21 +39,21 @@ fault_at bytes rest p line was stuck is = record {
 }
 
 -- no part stands at the front of what is left
-pub stuck_without : (earlier : List Part) (rest : List ℕ) → rest ≢ [] → part_at rest ≡ None → IsStuck earlier rest
+pub stuck_without : (earlier : List Part) (rest : List ℕ) → rest ≢ [] → front_part rest ≡ None → IsStuck earlier rest
 unfolding next_part
 stuck_without earlier rest some none =
     let nothing : next_part earlier rest ≡ None = rw none refl in
     record { no_part = nothing_next earlier rest nothing; no_end = λ e. absurd (some e) }
 
 -- the part at the front may not follow
-pub stuck_refused : (earlier : List Part) (rest more : List ℕ) (p : Part) → rest ≢ [] → Some (p, more) ≡ part_at rest → may_follow earlier p ≡ false → IsStuck earlier rest
+pub stuck_refused : (earlier : List Part) (rest more : List ℕ) (p : Part) → rest ≢ [] → Some (p, more) ≡ front_part rest → may_stand_behind earlier p ≡ false → IsStuck earlier rest
 unfolding next_part
 stuck_refused earlier rest more p some is other =
     let nothing : next_part earlier rest ≡ None = rw (← is, other) refl in
     record { no_part = nothing_next earlier rest nothing; no_end = λ e. absurd (some e) }
 
 -- one part more was read
-pub read_more : (bytes rest more : List ℕ) (old new : Progress) (p : Part) → WasReadTo bytes rest old → Some (p, more) ≡ part_at rest → Takes p old new true → WasReadTo bytes more new × (length more < length rest)
+pub read_more : (bytes rest more : List ℕ) (old new : Progress) (p : Part) → WasReadTo bytes rest old → Some (p, more) ≡ front_part rest → TakesPart p old new true → WasReadTo bytes more new × (length more < length rest)
 read_more bytes rest more old new p was is takes =
     let both = takes was.parts was.in_order was.knows in
     let spelled : rest ≡ part_text p ++ more = part_spelled rest (p, more) (sym is) in (

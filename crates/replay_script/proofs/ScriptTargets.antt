@@ -2,29 +2,16 @@
 use Rattle.std.proofs.Common.{◌≡◌, ℕ, zero, suc, ◌+◌, ◌≤◌, ◌&&◌, true, List, [], ◌∷◌, ◌++◌, length, codes, sym, ap, ◌∙◌, subst, arith, nat_le, length-append}
 use Rattle.std.specs.Prelude.{IsUtf8}
 use Rattle.std.specs.Str.{IsAscii}
-use Rattle.std.specs.List.{list_all}
 use Rattle.std.specs.Fmt.{decimal}
 use Rattle.std.proofs.lemmas.Bool.{and_parts, leb-true}
 use Rattle.std.proofs.lemmas.Str.{IsUtf8-from_ascii, IsAscii-append}
 use Rattle.std.proofs.lemmas.Fmt.{IsAscii-decimal, length-decimal-le}
 use Rattle.bridge_ports.specs.Targets.{Scraped, IsTextUpTo, IsScraped}
-use Rattle.plain_words.specs.Places.{is_visible, is_visible_word, is_port}
+use Rattle.plain_words.specs.Places.{is_visible_word, is_port}
+use Rattle.plain_words.proofs.Laws.{word_parts}
 use Rattle.replay_script.specs.ScriptParts.{TargetLine}
 use Rattle.replay_script.specs.ScriptRules.{is_target_line}
 use Rattle.replay_script.proofs.Found.{target_words}
-
--- visible words are ASCII
-visible_ascii : (word : List ℕ) → list_all is_visible word ≡ true → IsAscii word
-visible_ascii [] e i = omega arith
-visible_ascii (c ∷ word) e zero = (let h = and_parts (is_visible c) (list_all is_visible word) e in let r = and_parts (nat_le 0x21 c) (nat_le c 0x7E) h.0 in omega (arith, leb-true c 0x7E r.1))
-visible_ascii (c ∷ word) e (suc i) = visible_ascii word (and_parts (is_visible c) (list_all is_visible word) e).1 i
-
--- the parts of a visible word
-pub word_parts : (most : ℕ) (word : List ℕ) → is_visible_word most word ≡ true → (1 ≤ length word) × (length word ≤ most) × IsAscii word
-word_parts most word e =
-    let a = and_parts (nat_le 1 (length word) && nat_le (length word) most) (list_all is_visible word) e in
-    let b = and_parts (nat_le 1 (length word)) (nat_le (length word) most) a.0 in
-    (leb-true 1 (length word) b.0, leb-true (length word) most b.1, visible_ascii word a.1)
 
 -- a colon
 colon : IsAscii (codes ":")

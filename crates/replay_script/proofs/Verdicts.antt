@@ -6,34 +6,34 @@ use Rattle.std.proofs.lemmas.Option.{none-some}
 use Rattle.label_sets.specs.Lists.{when_true}
 use Rattle.plain_words.proofs.Laws.{bind_some, when_some}
 use Rattle.replay_script.specs.declared.script.Script.{Script}
-use Rattle.replay_script.specs.ScriptParts.{Part, part_words, bytes_of, body_text, part_text, parts_text}
+use Rattle.replay_script.specs.ScriptParts.{Part, part_words, record_bytes, body_text, part_text, parts_text}
 use Rattle.replay_script.specs.ScriptContents.{script_of}
-use Rattle.replay_script.specs.ScriptRules.{may_follow, may_end, AreInOrder}
+use Rattle.replay_script.specs.ScriptRules.{may_stand_behind, may_end, AreInOrder}
 use Rattle.replay_script.specs.Scripts.{IsScript, IsStuck, HasScriptFault}
-use Rattle.replay_script.specs.ScriptReading.{part_at, next_part, is_empty, parts_from, answer_of, script_read}
+use Rattle.replay_script.specs.ScriptReading.{front_part, next_part, is_empty, parts_from, answer_of, script_read}
 use Rattle.replay_script.proofs.Found.{part_found, well_formed}
 use Rattle.replay_script.proofs.Spelled.{part_spelled}
 
 -- ---- one part
 
 -- a part that may follow is the next one
-next_found : (earlier : List Part) (p : Part) (more : List ℕ) → may_follow earlier p ≡ true → next_part earlier (part_text p ++ more) ≡ Some (p, more)
+next_found : (earlier : List Part) (p : Part) (more : List ℕ) → may_stand_behind earlier p ≡ true → next_part earlier (part_text p ++ more) ≡ Some (p, more)
 unfolding next_part
 next_found earlier p more e = rw (part_found p more (well_formed earlier p e), e) refl
 
 -- the next part is spelled at the front, and may follow
-pub next_spelled : (earlier : List Part) (text : List ℕ) (found : Part × List ℕ) → next_part earlier text ≡ Some found → (text ≡ part_text found.0 ++ found.1) × (may_follow earlier found.0 ≡ true)
+pub next_spelled : (earlier : List Part) (text : List ℕ) (found : Part × List ℕ) → next_part earlier text ≡ Some found → (text ≡ part_text found.0 ++ found.1) × (may_stand_behind earlier found.0 ≡ true)
 unfolding next_part
 next_spelled earlier text found e =
-    let first = bind_some (part_at text) (λ f. when_true (may_follow earlier f.0) f) found e in
-    let both = when_some (may_follow earlier first.0.0) first.0 found first.2 in
-    subst (λ (f : Part × List ℕ). (text ≡ part_text f.0 ++ f.1) × (may_follow earlier f.0 ≡ true)) both.1 (part_spelled text first.0 first.1, both.0)
+    let first = bind_some (front_part text) (λ f. when_true (may_stand_behind earlier f.0) f) found e in
+    let both = when_some (may_stand_behind earlier first.0.0) first.0 found first.2 in
+    subst (λ (f : Part × List ℕ). (text ≡ part_text f.0 ++ f.1) × (may_stand_behind earlier f.0 ≡ true)) both.1 (part_spelled text first.0 first.1, both.0)
 
 -- where no part comes next, none that may follow is spelled
-pub nothing_next : (earlier : List Part) (rest : List ℕ) → next_part earlier rest ≡ None → (p : Part) (more : List ℕ) → rest ≡ part_text p ++ more → may_follow earlier p ≡ false
-nothing_next earlier rest none p more text = go (may_follow earlier p) refl
+pub nothing_next : (earlier : List Part) (rest : List ℕ) → next_part earlier rest ≡ None → (p : Part) (more : List ℕ) → rest ≡ part_text p ++ more → may_stand_behind earlier p ≡ false
+nothing_next earlier rest none p more text = go (may_stand_behind earlier p) refl
   where
-    go : (b : Bool) → may_follow earlier p ≡ b → may_follow earlier p ≡ false
+    go : (b : Bool) → may_stand_behind earlier p ≡ b → may_stand_behind earlier p ≡ false
     go false e = e
     go true e =
         let found : next_part earlier rest ≡ Some (p, more) = ap (next_part earlier) text ∙ next_found earlier p more e in
@@ -55,12 +55,12 @@ text_behind [] body rest = refl
 text_behind (c ∷ line) body rest = refl
 
 pub not_empty : (p : Part) (rest : List ℕ) → is_empty (part_text p ++ rest) ≡ false
-not_empty p rest = text_behind (join_with_byte 32 (part_words p)) (body_text (bytes_of p)) rest
+not_empty p rest = text_behind (join_with_byte 32 (part_words p)) (body_text (record_bytes p)) rest
 
 pub part_length : (p : Part) → 1 ≤ length (part_text p)
 part_length p =
     let line = join_with_byte 32 (part_words p) in
-    omega (arith, length-append (line ++ 10 ∷ []) (body_text (bytes_of p)), length-append line (10 ∷ []))
+    omega (arith, length-append (line ++ 10 ∷ []) (body_text (record_bytes p)), length-append line (10 ∷ []))
 
 -- ---- all parts
 

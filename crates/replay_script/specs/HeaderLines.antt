@@ -13,13 +13,13 @@ pub record HeaderRow : Type 0 where
   pub default : Option ℕ
 
 -- the table of header lines
-unfoldable pub row_of : HeaderLine → HeaderRow
-row_of Keep = record { word = codes "keep"; least = 0; most = 4; default = Some 2 }
-row_of Tries = record { word = codes "tries"; least = 1; most = 8; default = Some 3 }
-row_of Limit = record { word = codes "limit"; least = 1; most = 200000; default = Some 20000 }
-row_of MaxPage = record { word = codes "maxpage"; least = 1024; most = 67108864; default = Some 16777216 }
-row_of Cut = record { word = codes "cut"; least = 1; most = 65536; default = Some 4096 }
-row_of Rounds = record { word = codes "rounds"; least = 1; most = 1000000; default = None }
+unfoldable pub header_row : HeaderLine → HeaderRow
+header_row Keep = record { word = codes "keep"; least = 0; most = 4; default = Some 2 }
+header_row Tries = record { word = codes "tries"; least = 1; most = 8; default = Some 3 }
+header_row Limit = record { word = codes "limit"; least = 1; most = 200000; default = Some 20000 }
+header_row MaxPage = record { word = codes "maxpage"; least = 1024; most = 67108864; default = Some 16777216 }
+header_row Cut = record { word = codes "cut"; least = 1; most = 65536; default = Some 4096 }
+header_row Rounds = record { word = codes "rounds"; least = 1; most = 1000000; default = None }
 
 -- the place of a line in the order of the header
 abbrev pub place_of : HeaderLine → ℕ

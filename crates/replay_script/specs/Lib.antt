@@ -6,4 +6,5 @@ pub mod Scripts
 pub mod LineWords
 pub mod ScriptReading
 pub mod Progresses
+pub mod WirePlans
 pub mod RightScripts

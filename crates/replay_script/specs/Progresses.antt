@@ -5,7 +5,7 @@ use Rattle.replay_script.specs.declared.header.Header.{Header}
 use Rattle.replay_script.specs.declared.header.HeaderLine.{HeaderLine}
 use Rattle.replay_script.specs.declared.header.HeaderLine.TheVariants.{Keep, Tries, Limit, MaxPage, Cut, Rounds}
 use Rattle.bridge_ports.specs.Targets.{Scraped}
-use Rattle.replay_script.specs.declared.script.PageRecord.{PageRecord}
+use Rattle.bridge_ports.specs.declared.talk.MemoryReply.{MemoryReply}
 use Rattle.replay_script.specs.declared.script.ScriptTarget.{ScriptTarget}
 use Rattle.replay_script.specs.declared.script.Script.{Script}
 use Rattle.replay_script.specs.declared.fault.ScriptFault.{ScriptFault}
@@ -16,9 +16,9 @@ use Rattle.replay_script.specs.declared.parts.TargetWords.{TargetWords}
 use Rattle.replay_script.specs.declared.parts.Front.{Front}
 use Rattle.replay_script.specs.declared.progress.Progress.{Progress}
 use Rattle.replay_script.specs.HeaderLines.{place_of}
-use Rattle.replay_script.specs.ScriptParts.{TargetLine, Part, opening, header, target, page, parts_text}
+use Rattle.replay_script.specs.ScriptParts.{TargetLine, Part, opening, header, target, page, scrape, post, parts_text}
 use Rattle.replay_script.specs.ScriptContents.{header_of, targets_of, script_of}
-use Rattle.replay_script.specs.ScriptRules.{may_follow, may_end, AreInOrder}
+use Rattle.replay_script.specs.ScriptRules.{may_stand_behind, may_end, AreInOrder}
 use Rattle.replay_script.specs.Scripts.{HasScriptFault}
 
 -- the words of a target line that were found
@@ -31,6 +31,8 @@ part_found_as found.Opening = opening
 part_found_as (found.Header line n) = header line n
 part_found_as (found.Target t) = target (words_found_as t)
 part_found_as (found.Page p) = page p.at p.format p.body.now
+part_found_as (found.Scrape r) = scrape r.at r.ending r.got.now
+part_found_as (found.Post r) = post r.at r.ending r.got.now
 
 -- the part that was found, and what stands behind it
 abbrev pub front_found_as : Front → Part × List ℕ
@@ -44,29 +46,30 @@ place_behind (header line n ∷ earlier) = place_of line
 place_behind _ = 6
 
 -- a header with another number of one line
-abbrev pub with_number : HeaderLine → ℕ → Header → Header
-with_number Keep n h = record { keep = n; tries = h.tries; limit = h.limit; max_page = h.max_page; cut = h.cut; rounds = h.rounds }
-with_number Tries n h = record { keep = h.keep; tries = n; limit = h.limit; max_page = h.max_page; cut = h.cut; rounds = h.rounds }
-with_number Limit n h = record { keep = h.keep; tries = h.tries; limit = n; max_page = h.max_page; cut = h.cut; rounds = h.rounds }
-with_number MaxPage n h = record { keep = h.keep; tries = h.tries; limit = h.limit; max_page = n; cut = h.cut; rounds = h.rounds }
-with_number Cut n h = record { keep = h.keep; tries = h.tries; limit = h.limit; max_page = h.max_page; cut = n; rounds = h.rounds }
-with_number Rounds n h = record { keep = h.keep; tries = h.tries; limit = h.limit; max_page = h.max_page; cut = h.cut; rounds = n }
+abbrev pub with_header_number : HeaderLine → ℕ → Header → Header
+with_header_number Keep n h = record { keep = n; tries = h.tries; limit = h.limit; max_page = h.max_page; cut = h.cut; rounds = h.rounds }
+with_header_number Tries n h = record { keep = h.keep; tries = n; limit = h.limit; max_page = h.max_page; cut = h.cut; rounds = h.rounds }
+with_header_number Limit n h = record { keep = h.keep; tries = h.tries; limit = n; max_page = h.max_page; cut = h.cut; rounds = h.rounds }
+with_header_number MaxPage n h = record { keep = h.keep; tries = h.tries; limit = h.limit; max_page = n; cut = h.cut; rounds = h.rounds }
+with_header_number Cut n h = record { keep = h.keep; tries = h.tries; limit = h.limit; max_page = h.max_page; cut = n; rounds = h.rounds }
+with_header_number Rounds n h = record { keep = h.keep; tries = h.tries; limit = h.limit; max_page = h.max_page; cut = h.cut; rounds = n }
 
--- the target that was read, with its records
-abbrev pub target_read : Option Scraped → List PageRecord → List ScriptTarget
-target_read None scrapes = []
-target_read (Some t) scrapes = record { target = t; scrapes = scrapes } ∷ []
+-- the target that was read, with the replies to its scrapes and posts
+abbrev pub target_read : Option Scraped → List MemoryReply → List MemoryReply → List ScriptTarget
+target_read None scrapes posts = []
+target_read (Some t) scrapes posts = record { target = t; scrapes = scrapes; posts = posts } ∷ []
 
 -- this is kept of these parts, of which the last comes first
 pub record Knows (parts : List Part) (p : Progress) : Type 0 where
   pub place : p.place ≡ place_behind parts
   pub header : p.header ≡ header_of parts
-  pub targets : targets_of parts ≡ target_read p.target p.scrapes.items
+  pub targets : targets_of parts ≡ target_read p.target p.scrapes.items p.posts.items
   pub no_scrapes : p.target ≡ None → p.scrapes.items ≡ []
+  pub no_posts : p.target ≡ None → p.posts.items ≡ []
 
 -- the answer to a part: whether it may follow, and where it may, what is kept of it too
-abbrev pub Takes : Part → Progress → Progress → Bool → Type 0
-Takes p old new taken = (earlier : List Part) → AreInOrder earlier → Knows earlier old → (taken ≡ may_follow earlier p) × (taken ≡ true → Knows (p ∷ earlier) new)
+abbrev pub TakesPart : Part → Progress → Progress → Bool → Type 0
+TakesPart p old new taken = (earlier : List Part) → AreInOrder earlier → Knows earlier old → (taken ≡ may_stand_behind earlier p) × (taken ≡ true → Knows (p ∷ earlier) new)
 
 -- what the parts say, where a script may end behind them
 abbrev pub Ends : List Part → Option Script → Type 0

@@ -4,20 +4,18 @@ use Rattle.std.specs.Prelude.{ℕ, List, [], ◌∷◌, ◌++◌, length, codes,
 use Rattle.std.specs.Fmt.{decimal}
 use Rattle.page_model.specs.declared.format.Format.{Format}
 use Rattle.page_model.specs.declared.format.Format.TheVariants as formats
-use Rattle.plain_words.specs.HeadLines.{line_of}
+use Rattle.plain_words.specs.HeadLines.{head_line}
 use Rattle.replay_script.specs.declared.header.HeaderLine.{HeaderLine}
-use Rattle.replay_script.specs.HeaderLines.{row_of}
-
--- how a reply ends, as a script writes it
-pub data Ending : Type 0 where
-  connect_fails write_fails read_fails peer_ends : Ending
+use Rattle.replay_script.specs.declared.ending.Ending.{Ending}
+use Rattle.replay_script.specs.declared.ending.Ending.TheVariants.{ConnectFails, WriteFails, ReadFails, PeerEnds}
+use Rattle.replay_script.specs.HeaderLines.{header_row}
 
 -- the word of an ending
 abbrev pub ending_word : Ending → List ℕ
-ending_word connect_fails = codes "connect"
-ending_word write_fails = codes "write"
-ending_word read_fails = codes "read"
-ending_word peer_ends = codes "ended"
+ending_word ConnectFails = codes "connect"
+ending_word WriteFails = codes "write"
+ending_word ReadFails = codes "read"
+ending_word PeerEnds = codes "ended"
 
 -- the word of a format
 abbrev pub format_word : Format → List ℕ
@@ -47,18 +45,18 @@ record_words sort at form bytes = sort ∷ decimal at ∷ form ∷ decimal (leng
 -- the words of a part's head line
 unfoldable pub part_words : Part → List (List ℕ)
 part_words opening = codes "bridge-script" ∷ codes "1" ∷ []
-part_words (header line n) = (row_of line).word ∷ decimal n ∷ []
+part_words (header line n) = (header_row line).word ∷ decimal n ∷ []
 part_words (target t) = codes "target" ∷ t.job ∷ (t.host ++ (codes ":" ++ decimal t.port)) ∷ t.path ∷ []
 part_words (page at format bytes) = record_words (codes "page") at (format_word format) bytes
 part_words (scrape at ending bytes) = record_words (codes "scrape") at (ending_word ending) bytes
 part_words (post at ending bytes) = record_words (codes "post") at (ending_word ending) bytes
 
 -- the bytes of a record
-abbrev pub bytes_of : Part → Option (List ℕ)
-bytes_of (page at format bytes) = Some bytes
-bytes_of (scrape at ending bytes) = Some bytes
-bytes_of (post at ending bytes) = Some bytes
-bytes_of _ = None
+abbrev pub record_bytes : Part → Option (List ℕ)
+record_bytes (page at format bytes) = Some bytes
+record_bytes (scrape at ending bytes) = Some bytes
+record_bytes (post at ending bytes) = Some bytes
+record_bytes _ = None
 
 -- bytes and the line feed behind them, where there are bytes
 abbrev pub body_text : Option (List ℕ) → List ℕ
@@ -67,7 +65,7 @@ body_text (Some bytes) = bytes ++ 10 ∷ []
 
 -- the text of a part
 abbrev pub part_text : Part → List ℕ
-part_text p = line_of (part_words p) ++ body_text (bytes_of p)
+part_text p = head_line (part_words p) ++ body_text (record_bytes p)
 
 -- the text of parts, of which the last comes first
 abbrev pub parts_text : List Part → List ℕ

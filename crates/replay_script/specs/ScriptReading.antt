@@ -9,10 +9,12 @@ use Rattle.plain_words.specs.Places.{place_in}
 use Rattle.plain_words.specs.HeadLines.{words_at, line_feeds}
 use Rattle.replay_script.specs.declared.script.Script.{Script}
 use Rattle.replay_script.specs.declared.header.HeaderLine.{HeaderLine}
-use Rattle.replay_script.specs.HeaderLines.{header_lines, row_of}
-use Rattle.replay_script.specs.ScriptParts.{format_word, Part, opening, header, target, page, parts_text}
+use Rattle.replay_script.specs.HeaderLines.{header_lines, header_row}
+use Rattle.replay_script.specs.declared.ending.Ending.{Ending}
+use Rattle.replay_script.specs.declared.ending.Ending.TheVariants.{ConnectFails, WriteFails, ReadFails, PeerEnds}
+use Rattle.replay_script.specs.ScriptParts.{ending_word, format_word, Part, opening, header, target, page, scrape, post, parts_text}
 use Rattle.replay_script.specs.ScriptContents.{script_of}
-use Rattle.replay_script.specs.ScriptRules.{may_follow, may_end}
+use Rattle.replay_script.specs.ScriptRules.{may_stand_behind, may_end}
 
 -- the greatest number that a head line may have
 abbrev pub most_number : ℕ
@@ -24,7 +26,11 @@ body_at count text = when_true (nat_lt count (length text) && slice_index text c
 
 -- the header line of a word
 unfoldable pub header_line_in : List ℕ → Option HeaderLine
-header_line_in word = first_some (λ line. when_true (bytes_eq word (row_of line).word) line) header_lines
+header_line_in word = first_some (λ line. when_true (bytes_eq word (header_row line).word) line) header_lines
+
+-- the ending of a word
+unfoldable pub ending_in : List ℕ → Option Ending
+ending_in word = first_some (λ ending. when_true (bytes_eq word (ending_word ending)) ending) (ConnectFails ∷ WriteFails ∷ ReadFails ∷ PeerEnds ∷ [])
 
 -- the format of a word
 unfoldable pub format_in : List ℕ → Option Format
@@ -39,33 +45,38 @@ header_in first second = if bytes_eq first (codes "bridge-script") then when_tru
 unfoldable pub target_in : List ℕ → List ℕ → List ℕ → Option Part
 target_in job place path = place_in 256 place >>= λ p. Some (target (record { job = job; host = p.0; port = p.1; path = path }))
 
--- a record of a page, with the bytes behind its head line
-unfoldable pub page_at : List ℕ → List ℕ → List ℕ → List ℕ → Option (Part × List ℕ)
-page_at time form count text = do
+-- a record of bytes
+unfoldable pub record_in : List ℕ → ℕ → List ℕ → List ℕ → Option Part
+record_in sort at form bytes = if bytes_eq sort (codes "page") then (format_in form >>= λ format. Some (page at format bytes)) else
+    (if bytes_eq sort (codes "scrape") then (ending_in form >>= λ ending. Some (scrape at ending bytes)) else
+    (if bytes_eq sort (codes "post") then (ending_in form >>= λ ending. Some (post at ending bytes)) else None))
+
+-- a record with the bytes behind its head line
+unfoldable pub record_at : List ℕ → List ℕ → List ℕ → List ℕ → List ℕ → Option (Part × List ℕ)
+record_at sort time form count text = do
   at ← number_in most_number time
-  format ← format_in form
   len ← number_in most_number count
   body ← body_at len text
-  Some (page at format body.0, body.1)
+  part ← record_in sort at form body.0
+  Some (part, body.1)
 
 -- a target line or a record
-unfoldable pub target_or_page : List ℕ → List ℕ → List ℕ → List ℕ → List ℕ → Option (Part × List ℕ)
-target_or_page a b c d text = if bytes_eq a (codes "target") then (target_in b c d >>= λ part. Some (part, text))
-    else (if bytes_eq a (codes "page") then page_at b c d text else None)
+unfoldable pub target_or_record : List ℕ → List ℕ → List ℕ → List ℕ → List ℕ → Option (Part × List ℕ)
+target_or_record a b c d text = if bytes_eq a (codes "target") then (target_in b c d >>= λ part. Some (part, text)) else record_at a b c d text
 
 -- the part whose head line has these words, and what stands behind it
 unfoldable pub part_with : List (List ℕ) → List ℕ → Option (Part × List ℕ)
 part_with (a ∷ b ∷ []) text = header_in a b >>= λ part. Some (part, text)
-part_with (a ∷ b ∷ c ∷ d ∷ []) text = target_or_page a b c d text
+part_with (a ∷ b ∷ c ∷ d ∷ []) text = target_or_record a b c d text
 part_with _ text = None
 
 -- the part at the front of a text, and what stands behind it
-unfoldable pub part_at : List ℕ → Option (Part × List ℕ)
-part_at text = words_at text >>= λ line. part_with line.0 line.1
+unfoldable pub front_part : List ℕ → Option (Part × List ℕ)
+front_part text = words_at text >>= λ line. part_with line.0 line.1
 
 -- the part at the front, where it may follow
 unfoldable pub next_part : List Part → List ℕ → Option (Part × List ℕ)
-next_part earlier text = part_at text >>= λ found. when_true (may_follow earlier found.0) found
+next_part earlier text = front_part text >>= λ found. when_true (may_stand_behind earlier found.0) found
 
 -- the text is empty
 abbrev pub is_empty : List ℕ → Bool

@@ -1,13 +1,15 @@
 -- Which part may stand behind which, and where a script may end.
 -- The bridge's own.
-use Rattle.std.specs.Prelude.{◌≡◌, ℕ, ◌^◌, Bool, true, false, not, ◌&&◌, ◌==◌, List, [], ◌∷◌, length, bytes_eq, is_some, nat_lt, nat_eq, codes, ⊤}
+use Rattle.std.specs.Prelude.{◌≡◌, ℕ, ◌^◌, ◌*◌, Bool, true, false, not, ◌&&◌, ◌==◌, List, [], ◌∷◌, length, bytes_eq, is_some, nat_lt, nat_eq, codes, ⊤}
 use Rattle.std.specs.List.{list_any, starts_with}
 use Rattle.plain_words.specs.Places.{is_visible_word, is_port}
 use Rattle.bridge_ports.specs.Targets.{Scraped}
 use Rattle.replay_script.specs.declared.script.ScriptTarget.{ScriptTarget}
 use Rattle.replay_script.specs.declared.header.HeaderLine.{HeaderLine}
-use Rattle.replay_script.specs.declared.header.HeaderLine.TheVariants.{Rounds}
-use Rattle.replay_script.specs.HeaderLines.{place_of, row_of, is_in_row}
+use Rattle.replay_script.specs.declared.header.HeaderLine.TheVariants.{Tries, Rounds}
+use Rattle.replay_script.specs.HeaderLines.{place_of, header_row, is_in_row}
+use Rattle.replay_script.specs.declared.ending.Ending.{Ending}
+use Rattle.replay_script.specs.declared.ending.Ending.TheVariants.{ConnectFails, WriteFails, ReadFails, PeerEnds}
 use Rattle.replay_script.specs.ScriptParts.{TargetLine, Part, opening, header, target, page, scrape, post}
 use Rattle.replay_script.specs.ScriptContents.{header_number, written_number, target_of, targets_of}
 
@@ -30,6 +32,11 @@ abbrev pub is_last_whole : ℕ → List ScriptTarget → Bool
 is_last_whole rounds [] = true
 is_last_whole rounds (last ∷ others) = has_all_scrapes rounds last
 
+-- the last target has room for one post more
+abbrev pub has_room_for_post : ℕ → List ScriptTarget → Bool
+has_room_for_post most [] = false
+has_room_for_post most (last ∷ others) = nat_lt (length last.posts) most
+
 -- the words of a target line: a job, a place, and a path that begins with a slash
 abbrev pub is_target_line : TargetLine → Bool
 is_target_line t = is_visible_word 256 t.job && is_visible_word 256 t.host && is_port t.port && is_visible_word 256 t.path && starts_with nat_eq t.path (codes "/")
@@ -46,6 +53,13 @@ is_named_before t targets = list_any (λ (other : ScriptTarget). same_names (tar
 abbrev pub is_record : ℕ → List ℕ → Bool
 is_record at bytes = nat_lt at (2 ^ 64) && nat_lt (length bytes) (2 ^ 32)
 
+-- a talk that fails before a byte comes has none
+abbrev pub fits_ending : Ending → List ℕ → Bool
+fits_ending ConnectFails bytes = nat_eq (length bytes) 0
+fits_ending WriteFails bytes = nat_eq (length bytes) 0
+fits_ending ReadFails bytes = true
+fits_ending PeerEnds bytes = true
+
 -- some target stands above
 abbrev pub has_target : List ScriptTarget → Bool
 has_target [] = false
@@ -55,16 +69,17 @@ has_target (last ∷ others) = true
 abbrev pub most_targets : ℕ
 most_targets = 1
 
--- the part may stand behind the earlier ones, of which the last comes first; records `scrape` and `post` never
-unfoldable pub may_follow : List Part → Part → Bool
-may_follow [] opening = true
-may_follow (p ∷ earlier) opening = false
-may_follow earlier (header line n) = is_next_line line earlier && is_in_row (row_of line) n
-may_follow earlier (target t) = has_rounds earlier && is_last_whole (header_number earlier Rounds) (targets_of earlier)
+-- the part may stand behind the earlier ones, of which the last comes first
+unfoldable pub may_stand_behind : List Part → Part → Bool
+may_stand_behind [] opening = true
+may_stand_behind (p ∷ earlier) opening = false
+may_stand_behind earlier (header line n) = is_next_line line earlier && is_in_row (header_row line) n
+may_stand_behind earlier (target t) = has_rounds earlier && is_last_whole (header_number earlier Rounds) (targets_of earlier)
     && nat_lt (length (targets_of earlier)) most_targets && is_target_line t && not (is_named_before t (targets_of earlier))
-may_follow earlier (page at format body) = has_target (targets_of earlier) && is_record at body
-may_follow earlier (scrape at ending bytes) = false
-may_follow earlier (post at ending bytes) = false
+may_stand_behind earlier (page at format body) = has_target (targets_of earlier) && is_record at body
+may_stand_behind earlier (scrape at ending bytes) = has_target (targets_of earlier) && is_record at bytes && fits_ending ending bytes
+may_stand_behind earlier (post at ending bytes) = has_room_for_post (header_number earlier Rounds * header_number earlier Tries) (targets_of earlier)
+    && is_record at bytes && fits_ending ending bytes
 
 -- a script may end behind these parts
 unfoldable pub may_end : List Part → Bool
@@ -73,4 +88,4 @@ may_end earlier = has_target (targets_of earlier) && is_last_whole (header_numbe
 -- each part may stand behind those before it
 abbrev pub AreInOrder : List Part → Type 0
 AreInOrder [] = ⊤
-AreInOrder (p ∷ earlier) = (may_follow earlier p ≡ true) × AreInOrder earlier
+AreInOrder (p ∷ earlier) = (may_stand_behind earlier p ≡ true) × AreInOrder earlier

@@ -1,7 +1,7 @@
 //! The header of a script.
 ghost use Rattle.std.specs.Prelude.{◌≡◌, []};
 ghost use Rattle.replay_script.specs.HeaderLines as spec;
-ghost use Rattle.replay_script.specs.Progresses.{with_number};
+ghost use Rattle.replay_script.specs.Progresses.{with_header_number};
 ghost use Rattle.replay_script.specs.ScriptContents.{header_of};
 
 /// A line of the header.
@@ -48,9 +48,9 @@ impl HeaderLine {
     }
 
     /// The least and the greatest number that the line may have.
-    #[tactic(auto, unfolding(crate::specs::HeaderLines::row_of))]
+    #[tactic(auto, unfolding(crate::specs::HeaderLines::header_row))]
     fn range(self) -> (u32, u32)
-        ensures { result ≡ ((spec.row_of self).least, (spec.row_of self).most) }
+        ensures { result ≡ ((spec.header_row self).least, (spec.header_row self).most) }
     {
         match self {
             HeaderLine::Keep => (0, 4),
@@ -64,7 +64,7 @@ impl HeaderLine {
 
     /// Whether the line may have the number.
     pub(crate) fn may_have(self, number: u64) -> bool
-        ensures { result ≡ spec.is_in_row (spec.row_of self) number }
+        ensures { result ≡ spec.is_in_row (spec.header_row self) number }
     {
         let (least, most) = self.range();
         u64::from(least) <= number && number <= u64::from(most)
@@ -73,7 +73,7 @@ impl HeaderLine {
 
 impl Header {
     /// The header without lines; it has no number of rounds.
-    #[tactic(auto, unfolding(crate::specs::HeaderLines::row_of, crate::specs::ScriptContents::header_of))]
+    #[tactic(auto, unfolding(crate::specs::HeaderLines::header_row, crate::specs::ScriptContents::header_of))]
     pub(crate) fn new() -> Header
         ensures { result ≡ header_of [] }
     {
@@ -89,7 +89,7 @@ impl Header {
 
     /// The header with the number of a line.
     pub(crate) fn with(self, line: HeaderLine, number: u32) -> Header
-        ensures { result ≡ with_number line number self }
+        ensures { result ≡ with_header_number line number self }
     {
         match line {
             HeaderLine::Keep => Header {

@@ -3,8 +3,9 @@ ghost use Rattle.std.specs.Prelude.{◌≡◌, option_map};
 ghost use Rattle.replay_script.specs.ScriptReading as spec;
 ghost use Rattle.replay_script.specs.Progresses.{part_found_as, front_found_as};
 
+use crate::ending::Ending;
 use crate::header::HeaderLine;
-use crate::words::{Words, format_named, header_line, split_words};
+use crate::words::{Words, ending_named, format_named, header_line, split_words};
 use page_model::Format;
 use plain_words::{cut_first, host_and_port, number};
 
@@ -28,6 +29,14 @@ pub(crate) struct PageWords<'a> {
     pub(crate) body: &'a [u8],
 }
 
+/// A record of raw bytes.
+#[derive(Clone, Copy)]
+pub(crate) struct ReplyWords<'a> {
+    pub(crate) at: u64,
+    pub(crate) ending: Ending,
+    pub(crate) got: &'a [u8],
+}
+
 /// A part that stands in a script.
 #[derive(Clone, Copy)]
 pub(crate) enum FoundPart<'a> {
@@ -35,6 +44,8 @@ pub(crate) enum FoundPart<'a> {
     Header(HeaderLine, u64),
     Target(TargetWords<'a>),
     Page(PageWords<'a>),
+    Scrape(ReplyWords<'a>),
+    Post(ReplyWords<'a>),
 }
 
 /// The part at the front of a text, and what stands behind it.
@@ -96,34 +107,74 @@ fn target_part<'a>(job: &'a [u8], place: &'a [u8], path: &'a [u8]) -> Option<Fou
     }
 }
 
-/// A record of a page with these words, and what stands behind its bytes.
-#[tactic(auto, unfolding(crate::specs::ScriptReading::page_at))]
-fn page_front<'a>(time: &[u8], form: &[u8], count: &[u8], text: &'a [u8]) -> Option<Front<'a>>
-    ensures { option_map front_found_as result ≡ spec.page_at time.now form.now count.now text.now }
+/// A record of this sort and form, with these bytes.
+#[tactic(auto, unfolding(crate::specs::ScriptReading::record_in))]
+fn record_part<'a>(sort: &[u8], at: u64, form: &[u8], bytes: &'a [u8]) -> Option<FoundPart<'a>>
+    ensures { option_map part_found_as result ≡ spec.record_in sort.now at form.now bytes.now }
+{
+    if sort == b"page".as_slice() {
+        return match format_named(form) {
+            Some(format) => Some(FoundPart::Page(PageWords {
+                at,
+                format,
+                body: bytes,
+            })),
+            None => None,
+        };
+    }
+    if sort == b"scrape".as_slice() {
+        return match ending_named(form) {
+            Some(ending) => Some(FoundPart::Scrape(ReplyWords {
+                at,
+                ending,
+                got: bytes,
+            })),
+            None => None,
+        };
+    }
+    if sort == b"post".as_slice() {
+        return match ending_named(form) {
+            Some(ending) => Some(FoundPart::Post(ReplyWords {
+                at,
+                ending,
+                got: bytes,
+            })),
+            None => None,
+        };
+    }
+    None
+}
+
+/// A record of these words, and what stands behind its bytes.
+fn record_front<'a>(
+    sort: &[u8],
+    time: &[u8],
+    form: &[u8],
+    count: &[u8],
+    text: &'a [u8],
+) -> Option<Front<'a>>
+    ensures { option_map front_found_as result ≡ spec.record_at sort.now time.now form.now count.now text.now }
 {
     let at = match number(time, u64::MAX) {
         Some(at) => at,
-        None => return None,
-    };
-    let format = match format_named(form) {
-        Some(format) => format,
         None => return None,
     };
     let count = match number(count, u64::MAX) {
         Some(count) => count,
         None => return None,
     };
-    match body_at(count, text) {
-        Some((body, rest)) => Some(Front {
-            part: FoundPart::Page(PageWords { at, format, body }),
-            rest,
-        }),
+    let (bytes, rest) = match body_at(count, text) {
+        Some(parts) => parts,
+        None => return None,
+    };
+    match record_part(sort, at, form, bytes) {
+        Some(part) => Some(Front { part, rest }),
         None => None,
     }
 }
 
 /// A target line or a record of these words, and what stands behind it.
-#[tactic(auto, unfolding(crate::specs::ScriptReading::target_or_page))]
+#[tactic(auto, unfolding(crate::specs::ScriptReading::target_or_record))]
 fn four_words<'a>(
     first: &[u8],
     second: &'a [u8],
@@ -131,7 +182,7 @@ fn four_words<'a>(
     fourth: &'a [u8],
     text: &'a [u8],
 ) -> Option<Front<'a>>
-    ensures { option_map front_found_as result ≡ spec.target_or_page first.now second.now third.now fourth.now text.now }
+    ensures { option_map front_found_as result ≡ spec.target_or_record first.now second.now third.now fourth.now text.now }
 {
     if first == b"target".as_slice() {
         return match target_part(second, third, fourth) {
@@ -139,15 +190,12 @@ fn four_words<'a>(
             None => None,
         };
     }
-    if first == b"page".as_slice() {
-        return page_front(second, third, fourth, text);
-    }
-    None
+    record_front(first, second, third, fourth, text)
 }
 
-/// The part at the front of a text, and what stands behind it. Records `scrape` and `post` are none.
-pub(crate) fn part_at(text: &[u8]) -> Option<Front<'_>>
-    ensures { option_map front_found_as result ≡ spec.part_at text.now }
+/// The part at the front of a text, and what stands behind it.
+pub(crate) fn front_part(text: &[u8]) -> Option<Front<'_>>
+    ensures { option_map front_found_as result ≡ spec.front_part text.now }
 {
     let (line, rest) = match cut_first(b'\n', text) {
         Some(parts) => parts,

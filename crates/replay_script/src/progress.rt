@@ -1,14 +1,15 @@
 //! What is kept of the parts that were read.
-ghost use Rattle.std.specs.Prelude.{◌≡◌, List as Seq, [], IfOk};
+ghost use Rattle.std.specs.Prelude.{◌≡◌, ◌*◌, List as Seq, [], length, nat_lt, IfOk};
 ghost use Rattle.replay_script.specs.ScriptParts as spec;
-ghost use Rattle.replay_script.specs.Progresses.{part_found_as, words_found_as, Knows, Takes, Ends};
+ghost use Rattle.replay_script.specs.Progresses.{part_found_as, words_found_as, Knows, TakesPart, Ends};
 
 use crate::header::{Header, HeaderLine};
-use crate::parts::{FoundPart, PageWords, TargetWords};
-use crate::script::{PageRecord, Script, ScriptTarget};
+use crate::parts::{FoundPart, PageWords, ReplyWords, TargetWords};
+use crate::replies::{page_reply, raw_reply};
+use crate::script::{Script, ScriptTarget};
 use crate::targets::{is_target_line, target};
-use bridge_ports::Target;
-use label_sets::{Bytes, List};
+use bridge_ports::{MemoryReply, Target};
+use label_sets::List;
 use std::alloc::{AllocError, Global};
 
 /// The place before the opening line.
@@ -27,7 +28,8 @@ pub(crate) struct Progress {
     place: u32,
     header: Header,
     target: Option<Target>,
-    scrapes: Vec<PageRecord>,
+    scrapes: Vec<MemoryReply>,
+    posts: Vec<MemoryReply>,
 }
 
 impl Progress {
@@ -40,12 +42,13 @@ impl Progress {
             header: Header::new(),
             target: None,
             scrapes: Vec::new(alloc),
+            posts: Vec::new(alloc),
         }
     }
 
     /// Takes the opening line, where it may follow.
     fn open_script(&mut self) -> bool
-        ensures { Takes spec.opening self.old self.new result }
+        ensures { TakesPart spec.opening self.old self.new result }
     {
         if self.place != BEFORE_ALL {
             return false;
@@ -56,7 +59,7 @@ impl Progress {
 
     /// Takes a header line, where it may follow.
     fn header_line(&mut self, line: HeaderLine, number: u64) -> bool
-        ensures { Takes (spec.header line number) self.old self.new result }
+        ensures { TakesPart (spec.header line number) self.old self.new result }
     {
         if line.place() <= self.place {
             return false;
@@ -71,7 +74,7 @@ impl Progress {
 
     /// Takes a target line, where it may follow.
     fn target_line(&mut self, alloc: Global, words: &TargetWords<'_>) -> Result<bool, AllocError>
-        ensures { IfOk result (Takes (spec.target (words_found_as words.now)) self.old self.new) }
+        ensures { IfOk result (TakesPart (spec.target (words_found_as words.now)) self.old self.new) }
     {
         if self.header.rounds == 0 {
             return Ok(false);
@@ -90,7 +93,7 @@ impl Progress {
 
     /// Takes a record of a page, where it may follow.
     fn page(&mut self, alloc: Global, page: &PageWords<'_>) -> Result<bool, AllocError>
-        ensures { IfOk result (Takes (spec.page page.now.at page.now.format page.now.body.now) self.old self.new) }
+        ensures { IfOk result (TakesPart (spec.page page.now.at page.now.format page.now.body.now) self.old self.new) }
     {
         if self.target.is_none() {
             return Ok(false);
@@ -98,25 +101,72 @@ impl Progress {
         if page.body.len() > MOST_BODY_BYTES {
             return Ok(false);
         }
-        let body = Bytes::from_slice(alloc, page.body)?;
-        self.scrapes.push(PageRecord {
-            at: page.at,
-            format: page.format,
-            body,
-        })?;
+        let reply = page_reply(alloc, page.at, page.format, page.body)?;
+        self.scrapes.push(reply)?;
+        self.place = BEHIND_HEADER;
+        Ok(true)
+    }
+
+    /// Takes a record of a scrape, where it may follow.
+    fn scrape(&mut self, alloc: Global, words: &ReplyWords<'_>) -> Result<bool, AllocError>
+        ensures { IfOk result (TakesPart (spec.scrape words.now.at words.now.ending words.now.got.now) self.old self.new) }
+    {
+        if self.target.is_none() {
+            return Ok(false);
+        }
+        if words.got.len() > MOST_BODY_BYTES {
+            return Ok(false);
+        }
+        if !words.ending.may_have(words.got) {
+            return Ok(false);
+        }
+        let reply = raw_reply(alloc, words.at, words.ending, words.got)?;
+        self.scrapes.push(reply)?;
+        self.place = BEHIND_HEADER;
+        Ok(true)
+    }
+
+    /// Whether there may be one post more.
+    fn may_post(&self) -> bool
+        ensures { result ≡ nat_lt (length self.now.posts.items) (self.now.header.rounds * self.now.header.tries) }
+    {
+        let most = u64::from(self.header.rounds).saturating_mul(u64::from(self.header.tries));
+        (self.posts.len() as u64) < most
+    }
+
+    /// Takes a record of a post, where it may follow.
+    fn post(&mut self, alloc: Global, words: &ReplyWords<'_>) -> Result<bool, AllocError>
+        ensures { IfOk result (TakesPart (spec.post words.now.at words.now.ending words.now.got.now) self.old self.new) }
+    {
+        if self.target.is_none() {
+            return Ok(false);
+        }
+        if !self.may_post() {
+            return Ok(false);
+        }
+        if words.got.len() > MOST_BODY_BYTES {
+            return Ok(false);
+        }
+        if !words.ending.may_have(words.got) {
+            return Ok(false);
+        }
+        let reply = raw_reply(alloc, words.at, words.ending, words.got)?;
+        self.posts.push(reply)?;
         self.place = BEHIND_HEADER;
         Ok(true)
     }
 
     /// Takes the next part, where it may follow.
     pub(crate) fn take(&mut self, alloc: Global, part: &FoundPart<'_>) -> Result<bool, AllocError>
-        ensures { IfOk result (Takes (part_found_as part.now) self.old self.new) }
+        ensures { IfOk result (TakesPart (part_found_as part.now) self.old self.new) }
     {
         match part {
             FoundPart::Opening => Ok(self.open_script()),
             FoundPart::Header(line, number) => Ok(self.header_line(*line, *number)),
             FoundPart::Target(words) => self.target_line(alloc, words),
             FoundPart::Page(page) => self.page(alloc, page),
+            FoundPart::Scrape(words) => self.scrape(alloc, words),
+            FoundPart::Post(words) => self.post(alloc, words),
         }
     }
 
@@ -128,6 +178,7 @@ impl Progress {
             header,
             target,
             scrapes,
+            posts,
             ..
         } = self;
         let target = match target {
@@ -138,8 +189,13 @@ impl Progress {
             return Ok(None);
         }
         let scrapes = List::from_vec(scrapes)?;
+        let posts = List::from_vec(posts)?;
         let mut targets = Vec::new(alloc);
-        targets.push(ScriptTarget { target, scrapes })?;
+        targets.push(ScriptTarget {
+            target,
+            scrapes,
+            posts,
+        })?;
         let targets = List::from_vec(targets)?;
         Ok(Some(Script { header, targets }))
     }

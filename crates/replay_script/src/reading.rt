@@ -5,7 +5,7 @@ ghost use Rattle.replay_script.specs.Progresses.{IsFaultOf};
 
 use crate::counting::line_at;
 use crate::fault::ScriptFault;
-use crate::parts::part_at;
+use crate::parts::front_part;
 use crate::progress::Progress;
 use crate::script::Script;
 use std::alloc::Global;
@@ -18,7 +18,7 @@ pub fn read(alloc: Global, bytes: &[u8]) -> Result<Script, ScriptFault>
     let mut progress = Progress::new(alloc);
     let mut rest = bytes;
     while !rest.is_empty() {
-        let front = match part_at(rest) {
+        let front = match front_part(rest) {
             Some(front) => front,
             None => return Err(ScriptFault::Line(line_at(bytes, rest))),
         };

@@ -1,25 +1,16 @@
 //! What a script says.
 use crate::header::Header;
-use bridge_ports::Target;
-use label_sets::{Bytes, List};
-use page_model::Format;
+use bridge_ports::{MemoryReply, Target};
+use label_sets::List;
 
-/// A page that a target answers.
-#[derive(Drop)]
-pub struct PageRecord {
-    /// The reading of the clock, in nanoseconds since the Unix epoch.
-    pub at: u64,
-    /// The format of the page.
-    pub format: Format,
-    /// The bytes of the page.
-    pub body: Bytes,
-}
-
-/// A target, and what it answers to its scrapes in order.
+/// A target, and what its two wires answer in order.
 #[derive(Drop)]
 pub struct ScriptTarget {
     pub target: Target,
-    pub scrapes: List<PageRecord>,
+    /// The replies to its scrapes, of which there is one for each round.
+    pub scrapes: List<MemoryReply>,
+    /// The replies to its posts.
+    pub posts: List<MemoryReply>,
 }
 
 /// What a script says.

@@ -1,4 +1,5 @@
-use crate::{ScriptFault, read, scripts_are_right};
+use crate::{ScriptFault, collector, default_reply, read, scripts_are_right};
+use bridge_ports::End;
 use std::alloc::Global;
 
 const FALLS: &[u8] =
@@ -22,8 +23,37 @@ fn one_script(rt: HostRuntime) {
     assert!(rt; target.target.instance().as_bytes() == b"h:1".as_slice());
     assert_eq!(rt; target.scrapes.len(), 2);
     assert_eq!(rt; target.scrapes.as_slice()[1].at, 20);
-    assert!(rt; target.scrapes.as_slice()[1].body.as_slice() == b"# EOF\n".as_slice());
+    assert!(rt;
+        target.scrapes.as_slice()[0].got.as_slice()
+            == b"HTTP/1.1 200 OK\r\nContent-Type: text/plain; version=0.0.4\r\nContent-Length: 4\r\n\r\nx 1\n".as_slice()
+    );
+    assert!(rt; target.scrapes.as_slice()[1].end == End::Ended);
+    assert_eq!(rt; target.posts.len(), 0);
     scripts_are_right();
+}
+
+#[test]
+fn raw_replies(rt: HostRuntime) {
+    let script = read(
+        rt.alloc(),
+        b"bridge-script 1\ntries 1\nrounds 1\ntarget j h:1 /m\nscrape 7 read 2\nHT\npost 8 connect 0\n\n",
+    )
+    .expect(&rt, "a script");
+    let target = &script.targets.as_slice()[0];
+    let scraped = &target.scrapes.as_slice()[0];
+    assert_eq!(rt; scraped.at, 7);
+    assert!(rt; scraped.got.as_slice() == b"HT".as_slice());
+    assert!(rt; scraped.end == End::ReadFailed);
+    assert_eq!(rt; target.posts.len(), 1);
+    assert!(rt; target.posts.as_slice()[0].end == End::ConnectFailed);
+}
+
+#[test]
+fn what_wires_answer(rt: HostRuntime) {
+    let reply = default_reply(rt.alloc()).expect(&rt, "a reply");
+    assert_eq!(rt; reply.at, 0);
+    let collector = collector(rt.alloc()).expect(&rt, "an address");
+    assert_eq!(rt; collector.port, 4_318);
 }
 
 #[test]
@@ -40,9 +70,16 @@ fn refused_lines(rt: HostRuntime) {
     assert_eq!(rt;
         line(
             alloc,
-            b"bridge-script 1\nrounds 1\ntarget j h:1 /m\nscrape 1 connect 0\n\n"
+            b"bridge-script 1\nrounds 1\ntarget j h:1 /m\nscrape 1 connect 1\nx\n"
         ),
         Some(4)
+    );
+    assert_eq!(rt;
+        line(
+            alloc,
+            b"bridge-script 1\ntries 1\nrounds 1\ntarget j h:1 /m\npost 1 connect 0\n\npost 2 connect 0\n\n"
+        ),
+        Some(7)
     );
     assert_eq!(rt;
         line(

@@ -3,6 +3,7 @@ ghost use Rattle.std.specs.Prelude.{◌≡◌, ℕ, List, length, ◌≢◌};
 ghost use Rattle.replay_script.specs.ScriptReading as spec;
 ghost use Rattle.replay_script.specs.LineWords.{AreWordsOf};
 
+use crate::ending::Ending;
 use crate::header::HeaderLine;
 use page_model::Format;
 use plain_words::cut_first;
@@ -51,8 +52,28 @@ pub fn format_named(word: &[u8]) -> Option<Format>
     None
 }
 
+/// The ending that a word names.
+#[tactic(auto, unfolding(crate::specs::ScriptReading::ending_in))]
+pub(crate) fn ending_named(word: &[u8]) -> Option<Ending>
+    ensures { result ≡ spec.ending_in word.now }
+{
+    if word == b"connect".as_slice() {
+        return Some(Ending::ConnectFails);
+    }
+    if word == b"write".as_slice() {
+        return Some(Ending::WriteFails);
+    }
+    if word == b"read".as_slice() {
+        return Some(Ending::ReadFails);
+    }
+    if word == b"ended".as_slice() {
+        return Some(Ending::PeerEnds);
+    }
+    None
+}
+
 /// The header line that a word names.
-#[tactic(auto, unfolding(crate::specs::ScriptReading::header_line_in, crate::specs::HeaderLines::row_of))]
+#[tactic(auto, unfolding(crate::specs::ScriptReading::header_line_in, crate::specs::HeaderLines::header_row))]
 pub(crate) fn header_line(word: &[u8]) -> Option<HeaderLine>
     ensures { result ≡ spec.header_line_in word.now }
 {

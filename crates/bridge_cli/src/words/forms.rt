@@ -1,14 +1,14 @@
 //! The forms of the command line.
 ghost use Rattle.std.specs.Prelude.{◌≡◌, ◌≢◌, List, ℕ, [], ◌∷◌, map, codes, string_bytes, IfOk, IfSome, IfNone, OnErr};
 ghost use Rattle.page_model.specs.declared.format.Format.{Format as AnyFormat};
-ghost use Rattle.bridge_cli.specs.CommandWords.{IsCommand, FitNoForm, AskFor, format_word, takes_memory};
+ghost use Rattle.bridge_cli.specs.CommandWords.{IsCommand, FitNoForm, AskFor, takes_memory};
+ghost use Rattle.replay_script.specs.ScriptParts.{format_word};
 
 use super::Command;
-use super::numbers::number;
-use super::place::host_and_port;
 use super::target::target;
-use crate::limits::{MOST_JOB_BYTES, MOST_NANOS};
+use crate::limits::{MOST_HOST_BYTES, MOST_JOB_BYTES, MOST_NANOS};
 use page_model::Format;
+use plain_words::{host_and_port, number};
 use std::alloc::{AllocError, Global};
 
 /// The command that one word asks for.
@@ -33,13 +33,7 @@ fn format_named(word: &str) -> Option<Format>
     ensures found { IfSome result (λ format. word.now ≡ format_word format) }
     ensures none { IfNone result ((format : AnyFormat) → word.now ≢ format_word format) }
 {
-    if word == "text" {
-        return Some(Format::Text);
-    }
-    if word == "openmetrics" {
-        return Some(Format::OpenMetrics);
-    }
-    None
+    replay_script::format_named(word.as_bytes())
 }
 
 /// The command that two words ask for.
@@ -77,11 +71,11 @@ fn conversion(
     if job.len() > MOST_JOB_BYTES {
         return Ok(None);
     }
-    let place = match host_and_port(instance) {
+    let place = match host_and_port(MOST_HOST_BYTES, instance.as_bytes()) {
         Some(place) => place,
         None => return Ok(None),
     };
-    let nanos = match number(time, MOST_NANOS) {
+    let nanos = match number(time.as_bytes(), MOST_NANOS) {
         Some(nanos) => nanos,
         None => return Ok(None),
     };

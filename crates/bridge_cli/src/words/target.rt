@@ -1,7 +1,8 @@
 //! The target that words name.
 ghost use Rattle.std.specs.Prelude.{◌≡◌, ◌≤◌, length, IfOk, IsUtf8};
-ghost use Rattle.bridge_cli.specs.CommandWords.{IsPlace, place_target};
-ghost use Rattle.bridge_cli.specs.Limits.{most_job};
+ghost use Rattle.bridge_cli.specs.CommandWords.{place_target};
+ghost use Rattle.bridge_cli.specs.Limits.{most_host, most_job};
+ghost use Rattle.plain_words.specs.Places.{IsHostAndPort};
 
 use bridge_ports::{Address, Target};
 use label_sets::{Bytes, Text};
@@ -24,17 +25,17 @@ pub(super) fn target(
     alloc: Global,
     job: &str,
     instance: &str,
-    host: &str,
+    host: &[u8],
     port: u16,
 ) -> Result<Target, AllocError>
     requires some { 1 ≤ length job.now }
     requires short { length job.now ≤ most_job }
-    requires place { IsPlace instance.now host.now port }
+    requires place { IsHostAndPort most_host instance.now host.now port }
     ensures { IfOk result (λ t. t ≡ place_target job.now instance.now host.now port) }
 {
     let job = word_text(alloc, job)?;
     let instance = word_text(alloc, instance)?;
-    let host = Bytes::from_slice(alloc, host.as_bytes())?;
+    let host = Bytes::from_slice(alloc, host)?;
     let path = Bytes::from_slice(alloc, METRICS_PATH.as_bytes())?;
     let address = Address { host, port, path };
     Ok(Target::new(job, instance, address, false))

@@ -1,6 +1,12 @@
 use Rattle.std.proofs.Common.{◌∙◌, arith}
-use Rattle.bridge_cli.proofs.ReplayLaws.{place_in_same, targets_more, script_cut}
+use Rattle.replay_script.specs.RightScripts.{IsRightTarget}
+use Rattle.bridge_cli.proofs.ReplayLaws.{all_at, place_in_same, targets_more, script_cut}
 use Rattle.bridge_cli.proofs.replaying.print_script.Goals as goal
+
+pub print_target-requires-clause-target : goal.print_target-requires-clause-target
+print_target-requires-clause-target g c =
+    all_at (IsRightTarget c.args.script.now.header) c.args.script.now.targets c.loop-at.at c.index-targets-at.result c.requires.targets
+    (place_in_same _ _ c.loop-at.at c.index-targets-at.result c.loop-at.invariant.1 c.loop-at-test.true c.index-targets-at.is)
 
 pub loop-at-preserved : goal.loop-at-preserved
 loop-at-preserved g c =

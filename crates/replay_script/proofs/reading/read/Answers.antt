@@ -1,5 +1,5 @@
 use Rattle.std.proofs.Common.{sym, subst, ◌∙◌}
-use Rattle.replay_script.specs.Progresses.{part_found_as, Takes, Ends}
+use Rattle.replay_script.specs.Progresses.{part_found_as, TakesPart, Ends}
 use Rattle.replay_script.proofs.ReadOn.{rest_short, fault_at, stuck_without, stuck_refused, stuck_at_end, read_more, some_left, none_left}
 use Rattle.replay_script.proofs.reading.read.Goals as goal
 
@@ -18,13 +18,13 @@ returns-then-not-branch-clause-fault c =
 pub loop-front-preserved : goal.loop-front-preserved
 loop-front-preserved c =
     let more = read_more c.args.bytes.now c.loop-front.rest.now c.in-Some.front.rest.now c.loop-front.progress c.take.new.self (part_found_as c.in-Some.front.part) c.loop-front.invariant.1 c.in-Some.ensures
-    (subst (λ b. Takes (part_found_as c.in-Some.front.part) c.loop-front.progress c.take.new.self b) c.if-not-branch.false c.in_ok-take.ensures) in
+    (subst (λ b. TakesPart (part_found_as c.in-Some.front.part) c.loop-front.progress c.take.new.self b) c.if-not-branch.false c.in_ok-take.ensures) in
     (rest_short _ _ _ more.0, more.0)
 
 pub loop-front-smaller : goal.loop-front-smaller
 loop-front-smaller c =
     (read_more c.args.bytes.now c.loop-front.rest.now c.in-Some.front.rest.now c.loop-front.progress c.take.new.self (part_found_as c.in-Some.front.part) c.loop-front.invariant.1 c.in-Some.ensures
-    (subst (λ b. Takes (part_found_as c.in-Some.front.part) c.loop-front.progress c.take.new.self b) c.if-not-branch.false c.in_ok-take.ensures)).1
+    (subst (λ b. TakesPart (part_found_as c.in-Some.front.part) c.loop-front.progress c.take.new.self b) c.if-not-branch.false c.in_ok-take.ensures)).1
 
 pub returns-in-None-2-clause-fault : goal.returns-in-None-2-clause-fault
 returns-in-None-2-clause-fault c =

@@ -1,6 +1,6 @@
 use Rattle.std.proofs.Common.{◌≡◌, [], ◌∷◌, map}
 use Rattle.std.specs.Prelude.{string_bytes, codes}
-use Rattle.bridge_cli.specs.CommandWords.{format_word}
+use Rattle.replay_script.specs.ScriptParts.{format_word}
 use Rattle.bridge_cli.proofs.WordLaws.{conversion_words, no_format, alike}
 use Rattle.bridge_cli.proofs.words.forms.command.Goals as goal
 use Rattle.bridge_cli.proofs.words.forms.command.Goals.{After-conversion}

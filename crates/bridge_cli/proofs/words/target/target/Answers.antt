@@ -8,7 +8,7 @@ new-requires c =
     subst IsScraped (λ i. record {
       job = sym c.in_ok-job.ensures.same i;
       instance = sym c.in_ok-instance.ensures.same i;
-      address = record { host = sym (c.in_ok-host.ensures ∙ c.as_bytes.ensures.value) i; port = c.args.port; path = c.in_ok-path.path };
+      address = record { host = sym c.in_ok-host.ensures i; port = c.args.port; path = c.in_ok-path.path };
       honor = false;
     })
     (place_is_scraped c.args.job.now c.args.instance.now c.args.host.now c.in_ok-path.path c.args.port c.in_ok-job.ensures.text c.in_ok-instance.ensures.text

@@ -1,14 +1,14 @@
 use Rattle.std.proofs.Common.{not, ◌∷◌, [], ◌++◌, refl, ap, ◌∙◌, arith}
-use Rattle.replay_script.proofs.Kept.{no_target_above, long_record, page_taken}
+use Rattle.replay_script.proofs.KeptRecords.{no_target_above, long_page, page_taken}
 use Rattle.replay_script.proofs.progress.Progress.page.Goals as goal
 
 pub returns-then-is_none : goal.returns-then-is_none
 returns-then-is_none c = no_target_above c.args.page.now.at c.args.page.now.format c.args.page.now.body.now c.args.self.now _ (c.is_none.ensures ∙ ap not c.if-is_none.true)
 
 pub returns-then-page-gt-MOST_BODY_BYTES : goal.returns-then-page-gt-MOST_BODY_BYTES
-returns-then-page-gt-MOST_BODY_BYTES c = long_record c.args.page.now.at c.args.page.now.format c.args.page.now.body.now c.args.self.now _ c.if-page-gt-MOST_BODY_BYTES.true
+returns-then-page-gt-MOST_BODY_BYTES c = long_page c.args.page.now.at c.args.page.now.format c.args.page.now.body.now c.args.self.now _ c.if-page-gt-MOST_BODY_BYTES.true
 
 pub returns : goal.returns
 returns c =
     page_taken c.args.page.now.at c.args.page.now.format c.args.page.now.body.now c.args.self.now _ (c.is_none.ensures ∙ ap not c.if-is_none.false) (omega arith) (omega (arith, c.if-page-gt-MOST_BODY_BYTES.false)) refl refl refl
-    (c.in_ok-push.ensures.items ∙ ap (λ b. c.args.self.now.scrapes.items ++ record { at = c.args.page.now.at; format = c.args.page.now.format; body = b } ∷ []) c.in_ok-body.ensures)
+    (c.in_ok-push.ensures.items ∙ ap (λ r. c.args.self.now.scrapes.items ++ r ∷ []) c.in_ok-reply.ensures) refl

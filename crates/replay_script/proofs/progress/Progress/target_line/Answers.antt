@@ -15,4 +15,4 @@ returns-then-not-is_target_line c = no_target_line (words_found_as c.args.words.
 pub returns : goal.returns
 returns c =
     target_taken (words_found_as c.args.words.now) c.args.self.now _ c.if-self-eq0.false (sym c.is_some.ensures ∙ c.if-is_some.false) (sym c.is_target_line.ensures ∙ c.if-not-is_target_line.false)
-    refl refl (ap Some c.in_ok-target.ensures) refl
+    refl refl (ap Some c.in_ok-target.ensures) refl refl

@@ -1,0 +1,139 @@
+//! What `replay` prints of scripts.
+use super::{ROOM, joined, run};
+
+// A counter that falls between its second and its third scrape.
+const FALLS: &[u8] =
+    b"bridge-script 1\nrounds 4\ntarget j h:1 /metrics\npage 10 text 21\n# TYPE c counter\nc 5\n\npage 20 text 21\n# TYPE c counter\nc 7\n\npage 30 text 21\n# TYPE c counter\nc 3\n\npage 40 text 21\n# TYPE c counter\nc 4\n\n";
+
+const FALLS_POINTS: [&str; 4] = [
+    r#"{"startTimeUnixNano":"10","timeUnixNano":"10","asDouble":5}"#,
+    r#"{"startTimeUnixNano":"10","timeUnixNano":"20","asDouble":7}"#,
+    r#"{"startTimeUnixNano":"30","timeUnixNano":"30","asDouble":3}"#,
+    r#"{"startTimeUnixNano":"30","timeUnixNano":"40","asDouble":4}"#,
+];
+
+// Two samples where one is allowed, and a page that is no text.
+const FAILS: &[u8] =
+    b"bridge-script 1\nlimit 1\nrounds 2\ntarget j h:1 /metrics\npage 10 text 8\nx 1\ny 2\n\npage 10 text 2\n!\n\n";
+
+#[test]
+fn replayed_scripts(rt: HostRuntime) {
+    let alloc = rt.alloc();
+    let falls = run(alloc, &["replay"], FALLS, None, ROOM).expect(&rt, "memory");
+    assert_eq!(rt; falls.status, 0);
+    let text = std::str::from_utf8(falls.output.held()).expect(&rt, "text");
+    for point in &FALLS_POINTS {
+        assert!(rt; text.contains(*point), "{point}");
+    }
+    let fails = run(alloc, &["replay"], FAILS, None, ROOM).expect(&rt, "memory");
+    assert_eq!(rt; fails.status, 0);
+    let text = std::str::from_utf8(fails.output.held()).expect(&rt, "text");
+    assert!(rt; text.contains(r#""timeUnixNano":"11","asDouble":0"#));
+    let refused = run(alloc, &["replay"], b"", None, ROOM).expect(&rt, "memory");
+    assert_eq!(rt; refused.status, 7);
+    assert!(rt; refused.output.held() == b"script line 1\n".as_slice());
+}
+
+const CREATED: &str =
+    "rounds 3\ntarget j h:1 /metrics\npage 2000000000 openmetrics 47\n# TYPE c counter\nc_total 5\nc_created 1.5\n# EOF\n\npage 3000000000 openmetrics 47\n# TYPE c counter\nc_total 6\nc_created 2.5\n# EOF\n\npage 4000000000 openmetrics 33\n# TYPE c counter\nc_total 7\n# EOF\n\n";
+
+const TWO_FAILED: &str =
+    "rounds 4\ntarget j h:1 /metrics\npage 10 text 33\n# TYPE c_total counter\nc_total 5\n\nscrape 20 connect 0\n\nscrape 30 read 3\nHTT\npage 40 text 33\n# TYPE c_total counter\nc_total 6\n\n";
+
+const ONE_FAILED: &str =
+    "rounds 3\ntarget j h:1 /metrics\npage 10 text 33\n# TYPE c_total counter\nc_total 5\n\npage 20 text 2\n!\n\npage 30 text 33\n# TYPE c_total counter\nc_total 6\n\n";
+
+const KINDS: &str =
+    "rounds 2\ntarget j h:1 /metrics\npage 10 text 19\n# TYPE q gauge\nq 1\n\npage 20 text 21\n# TYPE q counter\nq 2\n\n";
+
+const MARKED: &str = r#"{"startTimeUnixNano":"10","timeUnixNano":"20","flags":1}"#;
+
+const MARKED_AGAIN: &str = r#""timeUnixNano":"30","flags":1}"#;
+
+const BEGUN_ANEW: &str = r#"{"startTimeUnixNano":"40","timeUnixNano":"40","asDouble":6}"#;
+
+const BECOMES_COUNTER: &str =
+    r#"{"scope":{"name":"bridge"},"metrics":[{"name":"q","sum":{"dataPoints":[{"startTimeUnixNano":"20","timeUnixNano":"20","asDouble":2}],"aggregationTemporality":2,"isMonotonic":true}},{"name":"q","gauge":{"dataPoints":[{"timeUnixNano":"20","flags":1}]}}]},"#;
+
+// The lines before the rounds, the rest of a script, what is printed of it, and what is not.
+const HISTORIES: [(&str, &str, &str, &str); 12] = [
+    (
+        "",
+        CREATED,
+        r#"{"startTimeUnixNano":"1500000000","timeUnixNano":"2000000000","asDouble":5}"#,
+        r#""startTimeUnixNano":"2000000000""#,
+    ),
+    (
+        "",
+        CREATED,
+        r#"{"startTimeUnixNano":"2500000000","timeUnixNano":"3000000000","asDouble":6}"#,
+        r#""startTimeUnixNano":"3000000000""#,
+    ),
+    (
+        "",
+        CREATED,
+        r#"{"startTimeUnixNano":"4000000000","timeUnixNano":"4000000000","asDouble":7}"#,
+        r#""startTimeUnixNano":"2500000000","timeUnixNano":"4000000000""#,
+    ),
+    (
+        "keep 2\n",
+        TWO_FAILED,
+        r#"{"startTimeUnixNano":"10","timeUnixNano":"40","asDouble":6}"#,
+        BEGUN_ANEW,
+    ),
+    ("keep 2\n", TWO_FAILED, MARKED, MARKED_AGAIN),
+    ("keep 1\n", TWO_FAILED, BEGUN_ANEW, MARKED_AGAIN),
+    ("keep 1\n", TWO_FAILED, MARKED, MARKED_AGAIN),
+    ("keep 0\n", TWO_FAILED, BEGUN_ANEW, MARKED_AGAIN),
+    ("keep 0\n", TWO_FAILED, MARKED, MARKED_AGAIN),
+    (
+        "keep 1\n",
+        ONE_FAILED,
+        r#"{"startTimeUnixNano":"10","timeUnixNano":"30","asDouble":6}"#,
+        MARKED_AGAIN,
+    ),
+    (
+        "keep 0\n",
+        ONE_FAILED,
+        r#"{"startTimeUnixNano":"30","timeUnixNano":"30","asDouble":6}"#,
+        MARKED_AGAIN,
+    ),
+    ("", KINDS, BECOMES_COUNTER, r#""startTimeUnixNano":"10""#),
+];
+
+#[test]
+fn replayed_histories(rt: HostRuntime) {
+    let alloc = rt.alloc();
+    for (head, records, told, untold) in &HISTORIES {
+        let script = joined(alloc, &["bridge-script 1\n", *head, *records]).expect(&rt, "memory");
+        let ended = run(alloc, &["replay"], script.as_bytes(), None, ROOM).expect(&rt, "memory");
+        assert_eq!(rt; ended.status, 0);
+        let text = std::str::from_utf8(ended.output.held()).expect(&rt, "text");
+        assert!(rt; text.contains(*told), "{told}");
+        assert!(rt; !text.contains(*untold), "{untold}");
+    }
+}
+
+// A reply in chunks, read a byte at a time, and its first 60 bytes.
+const CHUNKED: &str =
+    "bridge-script 1\ncut 1\nrounds 2\ntarget j h:1 /metrics\nscrape 10 ended 71\nHTTP/1.1 200 OK\r\nTransfer-Encoding: chunked\r\n\r\n4;a=b\r\nx 1\n\r\n0\r\nT: v\r\n\r\n\nscrape 20 ended 60\nHTTP/1.1 200 OK\r\nTransfer-Encoding: chunked\r\n\r\n4;a=b\r\nx 1\n\r\n\n";
+
+// The page of the whole reply; a marker for its series and `up` 0 where it is cut off.
+const CHUNKED_POINTS: [&str; 4] = [
+    r#"{"name":"x","gauge":{"dataPoints":[{"timeUnixNano":"10","asDouble":1}]}}"#,
+    r#"{"name":"up","gauge":{"dataPoints":[{"timeUnixNano":"10","asDouble":1}]}}"#,
+    r#"{"name":"x","gauge":{"dataPoints":[{"timeUnixNano":"20","flags":1}]}}"#,
+    r#"{"name":"up","gauge":{"dataPoints":[{"timeUnixNano":"20","asDouble":0}]}}"#,
+];
+
+#[test]
+fn replayed_chunks(rt: HostRuntime) {
+    let chunked = run(rt.alloc(), &["replay"], CHUNKED.as_bytes(), None, ROOM).expect(
+        &rt, "memory",
+    );
+    assert_eq!(rt; chunked.status, 0);
+    let text = std::str::from_utf8(chunked.output.held()).expect(&rt, "text");
+    for point in &CHUNKED_POINTS {
+        assert!(rt; text.contains(*point), "{point}");
+    }
+}
