@@ -1,0 +1,155 @@
+//! What a visit makes before its posts: each step is a decision, and none posts anything.
+ghost use Rattle.std.specs.Prelude.{◌≡◌, IfOk};
+ghost use Rattle.bridge_ports.specs.declared.talk.Stage.TheVariants as stages;
+ghost use Rattle.target_core.specs.States.{HasNextMoment};
+ghost use Rattle.otlp_json.specs.Texts.{request_text};
+ghost use Rattle.http_talk.specs.Requests.{post_request};
+ghost use Rattle.series_table.specs.Talking.{AreInRange};
+ghost use Rattle.series_table.specs.Counting as counting;
+ghost use Rattle.series_table.specs.Making.{due_after, TakesEvent, ShowsTwice, Prepares};
+
+use crate::aim::Aim;
+use crate::point_counts::{PointCounts, of_tree};
+use bridge_ports::{Address, Wire};
+use http_talk::post_text;
+use label_sets::{Bytes, Memory};
+use otlp_json::{length, write};
+use otlp_tree::Request;
+use page_model::{Event, Outcome, Shown, page_laws};
+use scrape_client::scrape;
+use std::alloc::{AllocError, Global};
+use target_core::TargetState;
+
+/// The event of a scrape, as its tree and what else is kept of it.
+#[derive(Drop)]
+pub(crate) struct Taken {
+    tree: Request,
+    reading: u64,
+    failed: bool,
+}
+
+/// All that the posts of a visit, and its end, need.
+#[derive(Drop)]
+pub(crate) struct Prepared {
+    /// The reading of the clock at the scrape, in nanoseconds since the Unix epoch.
+    pub(crate) reading: u64,
+    pub(crate) failed: bool,
+    pub(crate) points: PointCounts,
+    /// The request that is posted.
+    pub(crate) text: Bytes,
+    pub(crate) shown: Shown,
+    pub(crate) second: Shown,
+}
+
+/// When a visit is due behind so many others, of which the first had this reading.
+pub(crate) fn due_after(first: Option<u64>, visits: u64, interval: u64) -> u64
+    ensures { result ≡ due_after first visits interval }
+{
+    match first {
+        Some(first) => first.saturating_add(visits.saturating_mul(interval)),
+        None => 0,
+    }
+}
+
+fn has_failed(event: &Event) -> bool
+    ensures { result ≡ counting.has_failed event.now }
+{
+    match event.outcome {
+        Outcome::Page(_) => false,
+        Outcome::Failed(_) => true,
+    }
+}
+
+/// Scrapes once, and has the state take the event.
+fn take_event<W: Wire>(
+    alloc: Global,
+    aim: &Aim,
+    wire: &mut W,
+    state: &mut TargetState,
+    due: u64,
+) -> Result<Taken, Memory>
+    requires free { (W.state wire.old).stage ≡ stages.Idle }
+    requires ranges { AreInRange aim.now.settings }
+    requires next { HasNextMoment state.old.moment }
+    ensures { TakesEvent aim.now (W.state wire.old) (W.state wire.new) state.old state.new result }
+{
+    page_laws::distinct_keys();
+    page_laws::right_pages();
+    let settings = &aim.settings;
+    let Ok(event) = scrape(
+        alloc,
+        wire,
+        &aim.target,
+        due,
+        settings.limit,
+        settings.max_page,
+    ) else {
+        return Err(AllocError);
+    };
+    let reading = event.reading;
+    let failed = has_failed(&event);
+    match state.step(alloc, event) {
+        Ok(tree) => Ok(Taken {
+            tree,
+            reading,
+            failed,
+        }),
+        Err(AllocError) => Err(AllocError),
+    }
+}
+
+/// The request that posts a tree's text.
+fn body_request(alloc: Global, to: &Address, tree: &Request) -> Result<Bytes, Memory>
+    ensures { IfOk result (λ text. text ≡ post_request to.now (request_text tree.now)) }
+{
+    let mut body = Vec::with_capacity(alloc, length(tree) as usize)?;
+    write(tree, &mut body)?;
+    post_text(alloc, to, body.as_slice())
+}
+
+/// What a state shows, twice.
+fn shown_twice(state: &TargetState) -> Result<(Shown, Shown), Memory>
+    ensures { IfOk result (λ pages. ShowsTwice state.now pages) }
+{
+    let shown = state.latest()?;
+    let second = shown.copy()?;
+    Ok((shown, second))
+}
+
+/// Does all of a visit that can want memory: the scrape, the step, the texts, what is shown then, and the
+/// room of the posts.
+pub(crate) fn prepare<W: Wire>(
+    alloc: Global,
+    aim: &Aim,
+    wire: &mut W,
+    post: &mut W,
+    state: &mut TargetState,
+    due: u64,
+) -> Result<Prepared, Memory>
+    requires free { (W.state wire.old).stage ≡ stages.Idle }
+    requires post_free { (W.state post.old).stage ≡ stages.Idle }
+    requires ranges { AreInRange aim.now.settings }
+    requires next { HasNextMoment state.old.moment }
+    ensures { Prepares aim.now (W.state wire.old) (W.state wire.new) (W.state post.old) (W.state post.new) state.old state.new result }
+{
+    let Ok(taken) = take_event(alloc, aim, wire, state, due) else {
+        return Err(AllocError);
+    };
+    let Ok(text) = body_request(alloc, &aim.to, &taken.tree) else {
+        return Err(AllocError);
+    };
+    let Ok((shown, second)) = shown_twice(state) else {
+        return Err(AllocError);
+    };
+    match post.ready(alloc, aim.settings.tries, text.len() as u64) {
+        Ok(()) => Ok(Prepared {
+            reading: taken.reading,
+            failed: taken.failed,
+            points: of_tree(&taken.tree),
+            text,
+            shown,
+            second,
+        }),
+        Err(AllocError) => Err(AllocError),
+    }
+}

@@ -1,0 +1,211 @@
+//! The track of one target: its wires, its state, what it shows and what it counts.
+ghost use Rattle.std.specs.Prelude.{◌≡◌, ◌<◌, ◌≤◌, [], IfOk, IfErr};
+ghost use Rattle.target_core.specs.Events.{latest_shown};
+ghost use Rattle.target_core.specs.States.{StandsFor};
+ghost use Rattle.series_table.specs.declared.track.TrackFault.TheVariants as faults;
+ghost use Rattle.series_table.specs.Talking.{AreInRange};
+ghost use Rattle.series_table.specs.HttpTalks.{talking};
+ghost use Rattle.series_table.specs.Records.{IsFresh, IsNew, IsTrack, PostsWhatItsTalksTell, Visits, most_visits};
+
+use crate::aim::Aim;
+use crate::counts::Counts;
+use crate::making::{due_after, prepare};
+use crate::visited::Visited;
+use bridge_ports::{Address, Settings, Target, Wire};
+use label_sets::Memory;
+use otlp_sender::post;
+use page_model::{Shown, page_laws};
+use std::alloc::Global;
+use std::marker::Model;
+use target_core::TargetState;
+
+/// A target that is visited over its two wires. What it posted is, in order, the texts of a function of its own
+/// scrape talks, whatever becomes of them; its type keeps that. No field holds a list of events or of talks.
+pub struct Track<W: Wire> {
+    aim: Aim,
+    scrape: W,
+    post: W,
+    state: TargetState,
+    /// The reading of the first visit, in nanoseconds since the Unix epoch.
+    first: Option<u64>,
+    shown: Shown,
+    second: Option<Shown>,
+    counts: Counts,
+    halted: bool,
+}
+
+/// Why there is no track.
+pub enum TrackFault<W: Wire> {
+    /// There was no memory; these are its two wires, that of scrapes first.
+    Memory(W, W),
+}
+
+impl<W: Wire> Model for Track<W> {
+    ghost use Rattle.series_table.specs.Records.{Kept, IsTrack};
+    ghost use Rattle.series_table.specs.Keeping.{kept_by};
+    ghost use Rattle.series_table.specs.HttpTalks.{talking};
+
+    ghost Value = { Kept };
+
+    ghost view = { λ t. kept_by t.aim (W.state t.scrape) (W.state t.post) t.state t.shown t.second t.counts t.halted };
+
+    ghost invariant = { λ t.
+        IsTrack talking (kept_by t.aim (W.state t.scrape) (W.state t.post) t.state t.shown t.second t.counts t.halted) };
+}
+
+/// What a track begins with: the target, its state, and what it shows.
+#[derive(Drop)]
+struct Beginning {
+    target: Target,
+    state: TargetState,
+    shown: Shown,
+}
+
+/// The beginning of a target's track.
+fn begin(alloc: Global, target: Target, keep: u32) -> Result<Beginning, Memory>
+    requires { keep ≤ 4 }
+    ensures target { IfOk result (λ b. b.target ≡ target) }
+    ensures state { IfOk result (λ b. StandsFor target (record { keep = keep }) b.state []) }
+    ensures shown { IfOk result (λ b. b.shown ≡ latest_shown target []) }
+{
+    let state = TargetState::new(alloc, target.copy()?, keep)?;
+    let shown = state.latest()?;
+    Ok(Beginning {
+        target,
+        state,
+        shown,
+    })
+}
+
+impl<W: Wire> Track<W> {
+    /// The track of a target that was not visited: its bodies go to the address `to`, over the wire `post`.
+    pub fn new(
+        alloc: Global,
+        target: Target,
+        to: Address,
+        settings: Settings,
+        scrape: W,
+        post: W,
+    ) -> Result<Track<W>, TrackFault<W>>
+        requires ranges { AreInRange settings }
+        requires scrape { IsFresh (W.state scrape) }
+        requires post { IsFresh (W.state post) }
+        ensures made { IfOk result (λ track. IsNew target to settings (W.state scrape) (W.state post) track) }
+        ensures back { IfErr result (λ fault. fault ≡ faults.Memory scrape post) }
+    {
+        page_laws::right_pages();
+        match begin(alloc, target, settings.keep) {
+            Ok(
+                Beginning {
+                    target,
+                    state,
+                    shown,
+                },
+            ) => Ok(Track {
+                aim: Aim {
+                    target,
+                    to,
+                    settings,
+                },
+                scrape,
+                post,
+                state,
+                first: None,
+                shown,
+                second: None,
+                counts: Counts::NONE,
+                halted: false,
+            }),
+            Err(_) => Err(TrackFault::Memory(scrape, post)),
+        }
+    }
+
+    /// Visits the target: one scrape, whose event becomes a tree and its JSON text, and the posts of that. All that
+    /// takes memory comes before the posts. The first visit is due at once, and each later one `interval` behind
+    /// the one before, from the reading of the first on. `Halted` stands for want of memory, in this visit or an
+    /// earlier one: then nothing of this visit was posted, it is not counted, what is shown stays, and every later
+    /// visit does nothing.
+    pub fn visit(&mut self, alloc: Global) -> Visited
+        requires { self.old.counts.visits < most_visits }
+        ensures visit { Visits talking self.old self.new result }
+        ensures sentence { PostsWhatItsTalksTell talking self.new }
+    {
+        if self.halted {
+            return Visited::Halted;
+        }
+        let due = due_after(self.first, self.counts.visits, self.aim.settings.interval);
+        match prepare(
+            alloc,
+            &self.aim,
+            &mut self.scrape,
+            &mut self.post,
+            &mut self.state,
+            due,
+        ) {
+            Ok(made) => {
+                let posted = post(
+                    &mut self.post,
+                    made.text.as_slice(),
+                    self.aim.settings.tries,
+                );
+                self.first = Some(self.first.unwrap_or(made.reading));
+                self.counts = self.counts.with_visit(made.failed, made.points, posted);
+                self.shown = made.shown;
+                self.second = Some(made.second);
+                Visited::Done
+            }
+            Err(_) => {
+                self.halted = true;
+                Visited::Halted
+            }
+        }
+    }
+
+    /// What the target shows: the page of its last visit that was made, which is empty where that scrape failed or
+    /// where there was none.
+    pub fn shown(&self) -> &Shown
+        ensures { result.now ≡ self.now.shown }
+    {
+        &self.shown
+    }
+
+    /// What was counted over its visits.
+    pub fn counts(&self) -> &Counts
+        ensures { result.now ≡ self.now.counts }
+    {
+        &self.counts
+    }
+
+    /// Whether memory was wanted; then no further visit is made.
+    pub fn halted(&self) -> bool
+        ensures { result ≡ self.now.halted }
+    {
+        self.halted
+    }
+
+    /// For the proof of a caller: what every track keeps. It does nothing.
+    pub fn facts(&self)
+        ensures { IsTrack talking self.now }
+    {
+        let _halted = self.halted;
+    }
+
+    /// Gives the wires back, that of scrapes first. No talk is under way on either.
+    pub fn into_wires(self) -> (W, W)
+        ensures wires { (W.state result.0 ≡ self.scrape) × (W.state result.1 ≡ self.post) }
+        ensures track { IsTrack talking self }
+    {
+        let Track {
+            aim: _,
+            scrape,
+            post,
+            state: _,
+            first: _,
+            shown: _,
+            second: _,
+            counts: _,
+            halted: _,
+        } = self;
+        (scrape, post)
+    }
+}
