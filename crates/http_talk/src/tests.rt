@@ -108,12 +108,7 @@ fn heads_at_their_limits(rt: HostRuntime) -> Result<(), Fail> {
         (16_361, Err(ReplyFault::Head)),
     ];
     for (letters, expected) in by_letters {
-        let parts: [(&[u8], usize); 4] = [
-            (OK, 1),
-            (b"a: ", 1),
-            (b"v", letters),
-            (b"\r\n\r\n", 1),
-        ];
+        let parts: [(&[u8], usize); 4] = [(OK, 1), (b"a: ", 1), (b"v", letters), (b"\r\n\r\n", 1)];
         assert_eq!(rt; read(alloc, &parts)?, [expected, expected]);
     }
     Ok(())
