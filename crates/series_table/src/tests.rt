@@ -67,7 +67,12 @@ fn address(alloc: Global) -> Result<Address, Memory> {
 fn target(alloc: Global) -> Result<Target, Memory> {
     let job = Text::from_str(alloc, "j")?;
     let instance = Text::from_str(alloc, "h:1")?;
-    Ok(Target::new(job, instance, address(alloc)?, false))
+    let address = Address {
+        host: Bytes::from_slice(alloc, "h".as_bytes())?,
+        port: 1,
+        path: Bytes::from_slice(alloc, b"/p")?,
+    };
+    Ok(Target::new(job, instance, address, false))
 }
 
 /// What visits came to: what a track counted, whether it is halted, and how many talks each wire has.
