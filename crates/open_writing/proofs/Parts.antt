@@ -9,6 +9,7 @@ use Rattle.label_sets.specs.declared.label.Label.{Label}
 use Rattle.label_sets.specs.declared.label_set.LabelSet.{LabelSet}
 use Rattle.exact_decimal.specs.declared.number.Number.{Number}
 use Rattle.exact_decimal.specs.Numbers.{number_of}
+use Rattle.exact_decimal.specs.Literals.{number_text}
 use Rattle.page_model.specs.declared.item.Item.TheVariants as items
 use Rattle.page_model.specs.declared.page.Bucket.{Bucket}
 use Rattle.page_model.specs.declared.page.Quantile.{Quantile}
@@ -17,8 +18,8 @@ use Rattle.page_model.specs.declared.page.Reading.{Reading}
 use Rattle.page_model.specs.declared.page.Family.{Family}
 use Rattle.page_model.specs.declared.format.Format.TheVariants.{OpenMetrics}
 use Rattle.page_model.specs.Readings.{key_name}
-use Rattle.open_writing.specs.Pieces.{label_then_comma, comma_then_label, sample_line, samples_text, buckets_text, quantiles_text, type_text, unit_text, help_line_text, readings_text, family_text}
-use Rattle.open_writing.specs.Writing.{bare_sample, number_sample, bucket_sample, quantile_sample, total_samples, value_samples, open_label_text, more_labels_text, labels_text, sample_text, item_text, line_text, item_unless_empty, reading_samples, family_samples, family_items, page_items}
+use Rattle.open_writing.specs.Pieces.{unclosed_label, label_then_comma, next_unclosed, labels_then_space, sample_line, samples_text, buckets_text, quantiles_text, type_text, unit_text, help_line_text, readings_text, family_text}
+use Rattle.open_writing.specs.Writing.{bare_sample, number_sample, bucket_sample, quantile_sample, total_samples, value_samples, escaped, open_label_text, more_labels_text, labels_text, sample_text, item_text, line_text, item_unless_empty, reading_samples, family_samples, family_items, page_items}
 
 -- a list that has an element is that and the rest
 first_and_rest : {A : Type 0} (xs : List A) (x : A) → 1 ≤ length xs → x ≡ get_or xs 0 x → xs ≡ x ∷ take (length xs - 1) (drop 1 xs)
@@ -26,28 +27,82 @@ first_and_rest [] x some is = absurd (omega arith)
 first_and_rest (y ∷ ys) x some is = grind (arith, common_steps)
 
 -- no labels
-pub no_labels : (ls : List Label) → length ls < 1 → labels_text ls ≡ []
-unfolding labels_text
+pub no_labels : (ls : List Label) → length ls < 1 → labels_then_space ls ≡ codes " "
+unfolding labels_then_space labels_text
 no_labels [] none = refl
 no_labels (l ∷ ls) none = absurd (omega arith)
 
+-- the quote of a label moves behind those that follow
+quote_moved : (ls : List Label) → 34 ∷ more_labels_text ls ≡ flat_map next_unclosed ls ++ 34 ∷ []
+unfolding more_labels_text open_label_text next_unclosed unclosed_label
+quote_moved [] = refl
+quote_moved (l ∷ ls) =
+    let text : List ℕ = l.name ++ codes "=\"" ++ escaped l.value in
+    let more : List ℕ = flat_map next_unclosed ls in
+    ap (λ (t : List ℕ). 34 ∷ 44 ∷ t) (append_assoc text (34 ∷ []) (more_labels_text ls) ∙ ap (λ (t : List ℕ). text ++ t) (quote_moved ls) ∙ sym (append_assoc text more (34 ∷ [])))
+
+-- a quote, a brace and a space
+ends_joined : (xs : List ℕ) → xs ++ 34 ∷ [] ++ codes "}" ++ codes " " ≡ xs ++ codes "\"} "
+ends_joined [] = refl
+ends_joined (x ∷ xs) = ap (λ (t : List ℕ). x ∷ t) (ends_joined xs)
+
+-- a label and those behind it, and the end of the braces
+closed : (xs : List ℕ) (l : Label) (ls : List Label)
+    → xs ++ open_label_text l ++ more_labels_text ls ++ codes "}" ++ codes " " ≡ xs ++ unclosed_label l ++ flat_map next_unclosed ls ++ codes "\"} "
+unfolding open_label_text unclosed_label
+closed xs l ls =
+    let text : List ℕ = l.name ++ codes "=\"" ++ escaped l.value in
+    let more : List ℕ = flat_map next_unclosed ls in
+    let moved : xs ++ (text ++ 34 ∷ []) ++ more_labels_text ls ≡ xs ++ text ++ more ++ 34 ∷ [] =
+    ap (λ (t : List ℕ). t ++ more_labels_text ls) (sym (append_assoc xs text (34 ∷ []))) ∙ append_assoc (xs ++ text) (34 ∷ []) (more_labels_text ls)
+    ∙ ap (λ (t : List ℕ). xs ++ text ++ t) (quote_moved ls) ∙ sym (append_assoc (xs ++ text) more (34 ∷ []))
+    in
+    ap (λ (t : List ℕ). t ++ codes "}" ++ codes " ") moved ∙ ends_joined (xs ++ text ++ more)
+
 -- labels of which there is a first
 pub labels_written : (ls : List Label) (l : Label) → 1 ≤ length ls → l ≡ get_or ls 0 l
-    → labels_text ls ≡ codes "{" ++ open_label_text l ++ flat_map comma_then_label (take (length ls - 1) (drop 1 ls)) ++ codes "}"
-unfolding labels_text more_labels_text comma_then_label
-labels_written ls l some is = ap labels_text (first_and_rest ls l some is)
+    → labels_then_space ls ≡ codes "{" ++ unclosed_label l ++ flat_map next_unclosed (take (length ls - 1) (drop 1 ls)) ++ codes "\"} "
+unfolding labels_then_space labels_text
+labels_written ls l some is = ap labels_then_space (first_and_rest ls l some is) ∙ closed (codes "{") l (take (length ls - 1) (drop 1 ls))
+
+-- a label in front of another
+comma_joined : (l : Label) (text : List ℕ) → open_label_text l ++ 44 ∷ text ≡ label_then_comma l ++ text
+unfolding open_label_text label_then_comma unclosed_label
+comma_joined l text =
+    let front : List ℕ = l.name ++ codes "=\"" ++ escaped l.value in
+    append_assoc front (34 ∷ []) (44 ∷ text) ∙ sym (append_assoc front (codes "\",") text)
+
+-- labels in front of another, and those behind it
+fronts_joined : (m : Label) (ms : List Label) (l : Label) (back : List Label)
+    → open_label_text m ++ more_labels_text (ms ++ l ∷ back) ≡ flat_map label_then_comma (m ∷ ms) ++ open_label_text l ++ more_labels_text back
+unfolding more_labels_text
+fronts_joined m [] l back =
+    comma_joined m (open_label_text l ++ more_labels_text back) ∙ sym (append_assoc (label_then_comma m) (open_label_text l) (more_labels_text back))
+    ∙ ap (λ (t : List ℕ). t ++ open_label_text l ++ more_labels_text back) (sym (append-nil (label_then_comma m)))
+fronts_joined m (n ∷ ns) l back =
+    let front : List ℕ = flat_map label_then_comma (n ∷ ns) in
+    ap (λ (t : List ℕ). open_label_text m ++ 44 ∷ t) (fronts_joined n ns l back) ∙ comma_joined m (front ++ open_label_text l ++ more_labels_text back)
+    ∙ sym (append_assoc (label_then_comma m) (front ++ open_label_text l) (more_labels_text back))
+    ∙ ap (λ (t : List ℕ). t ++ more_labels_text back) (sym (append_assoc (label_then_comma m) front (open_label_text l)))
 
 -- labels of which one is known: those in front, it, and those behind
-pub labels_around : (front : List Label) (l : Label) (back : List Label)
-    → labels_text (front ++ l ∷ back) ≡ codes "{" ++ flat_map label_then_comma front ++ open_label_text l ++ flat_map comma_then_label back ++ codes "}"
-unfolding labels_text more_labels_text label_then_comma comma_then_label
+labels_around : (front : List Label) (l : Label) (back : List Label)
+    → labels_text (front ++ l ∷ back) ≡ codes "{" ++ flat_map label_then_comma front ++ open_label_text l ++ more_labels_text back ++ codes "}"
+unfolding labels_text
 labels_around [] l back = refl
-labels_around (m ∷ ms) l back = ap (λ (t : List ℕ). codes "{" ++ t ++ codes "}") (around m ms l back)
-  where
-    around : (m : Label) (ms : List Label) (l : Label) (back : List Label) → open_label_text m ++ flat_map (λ n. 44 ∷ open_label_text n) (ms ++ l ∷ back)
-        ≡ flat_map (λ n. open_label_text n ++ codes ",") (m ∷ ms) ++ open_label_text l ++ flat_map (λ n. codes "," ++ open_label_text n) back
-    around m [] l back = simp append_assoc
-    around m (n ∷ ns) l back = ap (λ (t : List ℕ). open_label_text m ++ 44 ∷ t) (around n ns l back) ∙ simp append_assoc
+labels_around (m ∷ ms) l back = ap (λ (t : List ℕ). codes "{" ++ t ++ codes "}") (fronts_joined m ms l back)
+
+-- the same with a space behind them
+pub spaced_around : (front : List Label) (l : Label) (back : List Label)
+    → labels_then_space (front ++ l ∷ back) ≡ codes "{" ++ flat_map label_then_comma front ++ unclosed_label l ++ flat_map next_unclosed back ++ codes "\"} "
+unfolding labels_then_space
+spaced_around front l back = ap (λ (t : List ℕ). t ++ codes " ") (labels_around front l back) ∙ closed (codes "{" ++ flat_map label_then_comma front) l back
+
+-- a sample, whose name has this suffix
+pub sample_written : (family suffix : List ℕ) (labels : LabelSet) (n : Number)
+    → sample_line (bare_sample (family ++ suffix) labels n) ≡ family ++ suffix ++ labels_then_space labels ++ number_text n ++ codes "\n"
+unfolding sample_line sample_text labels_then_space
+sample_written family suffix labels n = ap (λ (t : List ℕ). t ++ number_text n ++ codes "\n") (append_assoc (family ++ suffix) (labels_text labels) (codes " "))
 
 -- lists made of lists, made of lists
 flat_map_twice : {A B C : Type 0} (g : B → List C) (f : A → List B) (xs : List A) → flat_map g (flat_map f xs) ≡ flat_map (λ x. flat_map g (f x)) xs

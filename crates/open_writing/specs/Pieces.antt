@@ -15,7 +15,7 @@ use Rattle.page_model.specs.declared.page.Quantile.{Quantile}
 use Rattle.page_model.specs.declared.page.Reading.{Reading}
 use Rattle.page_model.specs.declared.page.Value.{Value}
 use Rattle.page_model.specs.declared.page.Value.TheVariants as values
-use Rattle.open_writing.specs.Writing.{bucket_sample, family_items, item_unless_empty, line_text, open_label_text, quantile_sample, reading_samples, sample_text, value_samples}
+use Rattle.open_writing.specs.Writing.{bucket_sample, escaped, family_items, item_unless_empty, labels_text, line_text, quantile_sample, reading_samples, sample_text, value_samples}
 
 -- a byte that stands in a quoted text by an escape
 abbrev pub is_marked : ℕ → Bool
@@ -25,13 +25,21 @@ is_marked c = c == 92 || c == 34 || c == 10
 abbrev pub label_with : List ℕ → List ℕ → Label
 label_with name value = record { name = name; value = value }
 
+-- a label without its last quote
+unfoldable pub unclosed_label : Label → List ℕ
+unclosed_label l = l.name ++ codes "=\"" ++ escaped l.value
+
 -- a label with a comma behind it, as each in front of another has it
 unfoldable pub label_then_comma : Label → List ℕ
-label_then_comma l = open_label_text l ++ codes ","
+label_then_comma l = unclosed_label l ++ codes "\","
 
--- a label with a comma in front, as each behind another has it
-unfoldable pub comma_then_label : Label → List ℕ
-comma_then_label l = codes "," ++ open_label_text l
+-- the last quote of a label, a comma, and a label without its own, as each behind another has it
+unfoldable pub next_unclosed : Label → List ℕ
+next_unclosed l = codes "\"," ++ unclosed_label l
+
+-- labels with a space behind them, as they stand in a sample
+unfoldable pub labels_then_space : List Label → List ℕ
+labels_then_space labels = labels_text labels ++ codes " "
 
 -- between these labels a label of this name has its place among all of them
 abbrev pub IsLabelPlace : List Label → List ℕ → List Label → List Label → Type 0

@@ -4,35 +4,35 @@ ghost use Rattle.std.specs.Prelude.{◌≡◌, ◌≤◌, ◌∷◌, ◌++◌, f
 ghost use Rattle.std.specs.List.{flat_map, prefix_len};
 ghost use Rattle.label_sets.specs.Labels.{name_before};
 ghost use Rattle.exact_decimal.specs.Literals.{number_text};
-ghost use Rattle.open_writing.specs.Pieces.{IsLabelPlace, comma_then_label, label_with, label_then_comma};
-ghost use Rattle.open_writing.specs.Writing.{labels_text, open_label_text};
+ghost use Rattle.open_writing.specs.Pieces.{IsLabelPlace, label_then_comma, label_with, labels_then_space, next_unclosed, unclosed_label};
 
 use crate::strings::emit_escaped;
 use exact_decimal::{Buffer, Number};
 use label_sets::Label;
 use text_emitter::Emitter;
 
-/// Emits a name and a value as a label.
-#[tactic(auto, unfolding(crate::specs::Writing::open_label_text))]
+/// Emits a name and a value as a label without its last quote.
+#[inline(always)]
+#[tactic(auto, unfolding(crate::specs::Pieces::unclosed_label))]
 fn emit_pair<E: Emitter>(out: &mut E, name: &[u8], value: &[u8])
-    ensures { out.new ≡ fold E.push out.old (open_label_text (label_with name.now value.now)) }
+    ensures { out.new ≡ fold E.push out.old (unclosed_label (label_with name.now value.now)) }
 {
     out.put(name);
     out.put(b"=\"");
     emit_escaped(out, value);
-    out.put(b"\"");
 }
 
-/// Emits a label.
+/// Emits a label without its last quote.
+#[inline(always)]
 fn emit_label<E: Emitter>(out: &mut E, label: &Label)
-    ensures { out.new ≡ fold E.push out.old (open_label_text label.now) }
+    ensures { out.new ≡ fold E.push out.old (unclosed_label label.now) }
 {
     emit_pair(out, label.name.as_bytes(), label.value.as_bytes());
 }
 
-/// Emits a label whose value is a number.
+/// Emits a label whose value is a number, without its last quote.
 fn emit_number_label<E: Emitter>(out: &mut E, name: &[u8], number: &Number)
-    ensures { out.new ≡ fold E.push out.old (open_label_text (label_with name.now (number_text number.now))) }
+    ensures { out.new ≡ fold E.push out.old (unclosed_label (label_with name.now (number_text number.now))) }
 {
     let mut literal = Buffer::new();
     exact_decimal::print_open(number, &mut literal);
@@ -46,32 +46,33 @@ fn emit_front<E: Emitter>(out: &mut E, labels: &[Label])
 {
     for label in labels {
         emit_label(out, label);
-        out.put(b",");
+        out.put(b"\",");
     }
 }
 
-/// Emits labels that stand behind another.
-#[tactic(auto, unfolding(crate::specs::Pieces::comma_then_label))]
+/// Emits labels that stand behind another, from its last quote to theirs, which is left to the caller.
+#[tactic(auto, unfolding(crate::specs::Pieces::next_unclosed))]
 fn emit_behind<E: Emitter>(out: &mut E, labels: &[Label])
-    ensures { out.new ≡ fold E.push out.old (flat_map comma_then_label labels.now) }
+    ensures { out.new ≡ fold E.push out.old (flat_map next_unclosed labels.now) }
 {
     for label in labels {
-        out.put(b",");
+        out.put(b"\",");
         emit_label(out, label);
     }
 }
 
-/// Emits labels in braces, and nothing where there are none.
+/// Emits labels in braces, unless there are none, and a space.
 pub(crate) fn emit_labels<E: Emitter>(out: &mut E, labels: &[Label])
-    ensures { out.new ≡ fold E.push out.old (labels_text labels.now) }
+    ensures { out.new ≡ fold E.push out.old (labels_then_space labels.now) }
 {
     let [first, rest @ ..] = labels else {
+        out.put(b" ");
         return;
     };
     out.put(b"{");
     emit_label(out, first);
     emit_behind(out, rest);
-    out.put(b"}");
+    out.put(b"\"} ");
 }
 
 /// The place among labels that one more has by its name.
@@ -111,15 +112,15 @@ impl<'a> Gap<'a> {
         Gap { front, name, back }
     }
 
-    /// Emits the labels in braces, with one more in its place, whose value is a number.
+    /// Emits the labels in braces, with one more in its place, whose value is a number, and a space.
     pub(crate) fn emit<E: Emitter>(&self, out: &mut E, number: &Number)
         ensures { out.new ≡ fold E.push out.old
-            (labels_text (self.now.front.now ++ label_with self.now.name.now (number_text number.now) ∷ self.now.back.now)) }
+            (labels_then_space (self.now.front.now ++ label_with self.now.name.now (number_text number.now) ∷ self.now.back.now)) }
     {
         out.put(b"{");
         emit_front(out, self.front);
         emit_number_label(out, self.name, number);
         emit_behind(out, self.back);
-        out.put(b"}");
+        out.put(b"\"} ");
     }
 }

@@ -19,8 +19,26 @@ pub(crate) struct SampleName<'a> {
     pub(crate) suffix: Suffix,
 }
 
+/// Emits a suffix.
+#[inline(always)]
+fn emit_suffix<E: Emitter>(out: &mut E, suffix: Suffix)
+    ensures { out.new ≡ fold E.push out.old (suffix_bytes suffix) }
+{
+    // Each is put by itself, so that its length is known where it is copied.
+    match suffix {
+        Suffix::Own => {}
+        Suffix::Bucket => out.put(b"_bucket"),
+        Suffix::Count => out.put(b"_count"),
+        Suffix::GaugeCount => out.put(b"_gcount"),
+        Suffix::Sum => out.put(b"_sum"),
+        Suffix::GaugeSum => out.put(b"_gsum"),
+        Suffix::Total => out.put(b"_total"),
+        Suffix::Created => out.put(b"_created"),
+        Suffix::Info => out.put(b"_info"),
+    }
+}
+
 /// Emits a sample.
-#[tactic(auto, unfolding(crate::specs::Pieces::sample_line, crate::specs::Writing::sample_text))]
 pub(crate) fn emit_sample<E: Emitter>(
     out: &mut E,
     name: &SampleName<'_>,
@@ -31,9 +49,8 @@ pub(crate) fn emit_sample<E: Emitter>(
         (sample_line (bare_sample (name.now.family.now ++ suffix_bytes name.now.suffix) labels.now number.now)) }
 {
     out.put(name.family.as_bytes());
-    out.put(name.suffix.as_str().as_bytes());
+    emit_suffix(out, name.suffix);
     emit_labels(out, labels.labels());
-    out.put(b" ");
     out.put_open_number(number);
     out.put(b"\n");
 }
@@ -55,7 +72,6 @@ pub(crate) fn emit_option<E: Emitter>(
 }
 
 /// Emits a sample that has one label more, whose value is a number.
-#[tactic(auto, unfolding(crate::specs::Pieces::sample_line, crate::specs::Writing::sample_text))]
 pub(crate) fn emit_placed<E: Emitter>(
     out: &mut E,
     name: &SampleName<'_>,
@@ -67,9 +83,8 @@ pub(crate) fn emit_placed<E: Emitter>(
         (gap.now.front.now ++ label_with gap.now.name.now (number_text place.now) ∷ gap.now.back.now) number.now)) }
 {
     out.put(name.family.as_bytes());
-    out.put(name.suffix.as_str().as_bytes());
+    emit_suffix(out, name.suffix);
     gap.emit(out, place);
-    out.put(b" ");
     out.put_open_number(number);
     out.put(b"\n");
 }

@@ -1,8 +1,9 @@
-use Rattle.open_writing.specs.Pieces.{sample_line}
-use Rattle.open_writing.specs.Writing.{sample_text}
+use Rattle.page_model.specs.SuffixNames.{suffix_bytes}
+use Rattle.open_writing.proofs.Parts.{sample_written}
 use Rattle.text_emitter.proofs.Laws.{emitted}
 use Rattle.open_writing.proofs.samples.emit_sample.Goals as goal
 
 pub returns : goal.returns
-unfolding sample_line sample_text
-returns g c = simp emitted (cc)
+returns g c =
+    let name = c.args.name.now in
+    rw (sample_written name.family.now (suffix_bytes name.suffix) c.args.labels.now c.args.number.now) (simp emitted (cc))
