@@ -31,16 +31,16 @@ use Rattle.plain_words.proofs.Laws.{in_range}
 use Rattle.bridge_cli.specs.declared.replaying.Cut.{Cut}
 use Rattle.bridge_cli.specs.declared.replaying.Cut.TheVariants as cuts
 use Rattle.bridge_cli.specs.Limits.{most_rounds}
-use Rattle.bridge_cli.specs.Replays.{tracking_of, reply_talk, IsEventOf, IsEventAt, AreEvents, body_after, bodies_of, IsTextOfSome, IsTextOf, IsTextAt, AreTexts, joined_texts, IsReplay, IsReplayOfSome}
+use Rattle.bridge_cli.specs.Replays.{script_tracking, reply_talk, IsReplyEvent, IsEventAt, AreEvents, body_after, bodies_of, IsTextOfSome, IsTextOf, IsTextAt, AreTexts, joined_texts, IsReplay, IsReplayOfSome}
 use Rattle.bridge_cli.specs.Printed.{MakesBody, PrintsNext, PrintsTarget, PrintsScript, PrintedSome, PrintedTargets}
 use Rattle.bridge_cli.specs.ProgramOutputs.{WroteFront}
 
 -- ---- one text
 
 -- a reply comes to one event
-event_once : (h : Header) (r s : MemoryReply) (e f : Event) → r ≡ s → IsEventOf h r e → IsEventOf h s f → e ≡ f
+event_once : (h : Header) (r s : MemoryReply) (e f : Event) → r ≡ s → IsReplyEvent h r e → IsReplyEvent h s f → e ≡ f
 event_once h r s e f same a b =
-    let At : MemoryReply → Type 0 = λ x. IsEventOf h x e in
+    let At : MemoryReply → Type 0 = λ x. IsReplyEvent h x e in
     let moved = subst At same a in
     let time : e.reading ≡ f.reading = moved.time ∙ sym b.time in
     let outcome : e.outcome ≡ f.outcome = outcome_once h.limit h.max_page (reply_talk s) e.outcome f.outcome moved.comes_to b.comes_to in
@@ -138,7 +138,7 @@ near_next n None few near = tt
 near_next n (Some moment) few near = omega (arith, few, near)
 
 -- behind the events of a script a further moment fits
-pub next_moment : (target : Scraped) (h : Header) (s : Following) (events : List Event) → StandsFor target (tracking_of h) s events → length events ≤ most_rounds → HasNextMoment s.moment
+pub next_moment : (target : Scraped) (h : Header) (s : Following) (events : List Event) → StandsFor target (script_tracking h) s events → length events ≤ most_rounds → HasNextMoment s.moment
 next_moment target h s events stands few = subst HasNextMoment (sym stands.moment_is) (near_next (length events) (last_moment (scrapes_of events)) few (last_near events))
 
 -- a target of a script has few scrapes
@@ -176,17 +176,17 @@ grown_none None = tt
 grown_none (Some xs) = sym (append-nil xs)
 
 -- nothing was printed of a target
-pub printed_none : (h : Header) (t : ScriptTarget) (state : Following) (held : Option (List ℕ)) → StandsFor t.target (tracking_of h) state [] → PrintedSome h t 0 state held held
+pub printed_none : (h : Header) (t : ScriptTarget) (state : Following) (held : Option (List ℕ)) → StandsFor t.target (script_tracking h) state [] → PrintedSome h t 0 state held held
 printed_none h t state held stands = record { events = []; are = tt; count = refl; stands = stands; written = grown_none held }
 
 -- the event behind those that were printed
-next_event : (h : Header) (t : ScriptTarget) (at : ℕ) (state : Following) (a b : Option (List ℕ)) (r : MemoryReply) (e : Event) → (was : PrintedSome h t at state a b) → slice_get t.scrapes at ≡ Some r → IsEventOf h r e
+next_event : (h : Header) (t : ScriptTarget) (at : ℕ) (state : Following) (a b : Option (List ℕ)) (r : MemoryReply) (e : Event) → (was : PrintedSome h t at state a b) → slice_get t.scrapes at ≡ Some r → IsReplyEvent h r e
     → IsEventAt h t.scrapes (length was.events) e
 next_event h t at state a b r e was stands is = record { reply = r; stands = ap (slice_get t.scrapes) was.count ∙ stands; is = is }
 
 -- a body more was printed
 pub printed_more : (h : Header) (t : ScriptTarget) (at : ℕ) (old new : Following) (a b c : Option (List ℕ)) (r : MemoryReply) (e : Event) → (was : PrintedSome h t at old a b) → slice_get t.scrapes at ≡ Some r
-    → IsEventOf h r e → StandsFor t.target (tracking_of h) new (e ∷ was.events) → Appends b c (body_after h t.target was.events e) → PrintedSome h t (at + 1) new a c
+    → IsReplyEvent h r e → StandsFor t.target (script_tracking h) new (e ∷ was.events) → Appends b c (body_after h t.target was.events e) → PrintedSome h t (at + 1) new a c
 printed_more h t at old new a b c r e was stands is state more = record {
   events = e ∷ was.events;
   are = (next_event h t at old a b r e was stands is, was.are);
@@ -203,7 +203,7 @@ printed_all h t at state a b was all =
 
 -- a front of the next body was written
 pub printed_front : (h : Header) (t : ScriptTarget) (at : ℕ) (state : Following) (a b c : Option (List ℕ)) (r : MemoryReply) (e : Event) → (was : PrintedSome h t at state a b) → slice_get t.scrapes at ≡ Some r
-    → IsEventOf h r e → WroteFront b c (body_after h t.target was.events e) → (text : List ℕ) × IsTextOfSome h t text × WroteFront a c text
+    → IsReplyEvent h r e → WroteFront b c (body_after h t.target was.events e) → (text : List ℕ) × IsTextOfSome h t text × WroteFront a c text
 printed_front h t at state a b c r e was stands is front = (
   bodies_of h t.target (e ∷ was.events),
   record { events = e ∷ was.events; are = (next_event h t at state a b r e was stands is, was.are); says = refl },
@@ -254,14 +254,14 @@ targets_stop s at a b c t part was stands is more =
 
 -- the event of a reply whose bytes were judged
 pub reply_event : (h : Header) (r : MemoryReply) (got : List ℕ) (o : Outcome) → got ≡ r.got → HasOutcome h.limit h.max_page (record { at = r.at; sent = []; got = got; end = r.end }) o
-    → IsEventOf h r (record { reading = r.at; outcome = o })
+    → IsReplyEvent h r (record { reading = r.at; outcome = o })
 reply_event h r got o same has =
     let At : List ℕ → Type 0 = λ bytes. HasOutcome h.limit h.max_page (record { at = r.at; sent = []; got = bytes; end = r.end }) o in
     record { time = refl; comes_to = subst At same has }
 
 -- a body that was made
-pub made_body : {E : Type 0} (h : Header) (target : Scraped) (r : MemoryReply) (earlier : List Event) (new : Following) (body before text : List ℕ) (result : Result ⊤ E) (e : Event) → IsEventOf h r e
-    → text ≡ request_text (request_after target (tracking_of h) earlier e) → StandsFor target (tracking_of h) new (e ∷ earlier) → before ≡ [] → OnOk result (body ≡ before ++ text ++ codes "\n")
+pub made_body : {E : Type 0} (h : Header) (target : Scraped) (r : MemoryReply) (earlier : List Event) (new : Following) (body before text : List ℕ) (result : Result ⊤ E) (e : Event) → IsReplyEvent h r e
+    → text ≡ request_text (request_after target (script_tracking h) earlier e) → StandsFor target (script_tracking h) new (e ∷ earlier) → before ≡ [] → OnOk result (body ≡ before ++ text ++ codes "\n")
     → MakesBody h target r earlier new body result
 unfolding body_after
 made_body h target r earlier new body before text (Ok done) e is same stands none made =

@@ -19,7 +19,7 @@ use Rattle.bridge_cli.specs.declared.replaying.Cut.TheVariants.{Write, Memory}
 use Rattle.bridge_cli.specs.declared.status.Status.{Status}
 use Rattle.bridge_cli.specs.declared.status.Status.TheVariants.{Done, WriteFailed, WantOfMemory}
 use Rattle.bridge_cli.specs.Statuses.{code_of, IsTold}
-use Rattle.bridge_cli.specs.Replays.{tracking_of, IsEventOf, AreEvents, body_after, bodies_of, IsTextOfSome, IsTextOf, AreTexts, joined_texts, IsReplay, IsReplayOfSome}
+use Rattle.bridge_cli.specs.Replays.{script_tracking, IsReplyEvent, AreEvents, body_after, bodies_of, IsTextOfSome, IsTextOf, AreTexts, joined_texts, IsReplay, IsReplayOfSome}
 use Rattle.bridge_cli.specs.declared.stop.Stop.{Stop}
 use Rattle.bridge_cli.specs.declared.words.Command.{Command}
 use Rattle.bridge_cli.specs.CommandWords.{AskForNo, prints_pieces}
@@ -67,14 +67,14 @@ CutCause before now (Err Memory) = now ≡ before
 -- what making the body of the next reply came to, behind these events
 abbrev pub MakesBody : {E : Type 0} → Header → Scraped → MemoryReply → List Event → Following → List ℕ → Result ⊤ E → Type 0
 MakesBody h target r earlier new body (Ok done) =
-    (e : Event) × IsEventOf h r e × StandsFor target (tracking_of h) new (e ∷ earlier) × (body ≡ body_after h target earlier e)
+    (e : Event) × IsReplyEvent h r e × StandsFor target (script_tracking h) new (e ∷ earlier) × (body ≡ body_after h target earlier e)
 MakesBody h target r earlier new body (Err wanting) = ⊤
 
 -- what printing the body of the next reply came to, behind these events: it is printed, or a front of it, or nothing
 abbrev pub PrintsNext : Header → Scraped → MemoryReply → List Event → Following → Option (List ℕ) → Option (List ℕ) → Result ⊤ Cut → Type 0
 PrintsNext h target r earlier new before after (Ok done) =
-    (e : Event) × IsEventOf h r e × StandsFor target (tracking_of h) new (e ∷ earlier) × Appends before after (body_after h target earlier e)
-PrintsNext h target r earlier new before after (Err Write) = (e : Event) × IsEventOf h r e × WroteFront before after (body_after h target earlier e)
+    (e : Event) × IsReplyEvent h r e × StandsFor target (script_tracking h) new (e ∷ earlier) × Appends before after (body_after h target earlier e)
+PrintsNext h target r earlier new before after (Err Write) = (e : Event) × IsReplyEvent h r e × WroteFront before after (body_after h target earlier e)
 PrintsNext h target r earlier new before after (Err Memory) = Appends before after []
 
 -- so much of the texts of a target was printed
@@ -82,7 +82,7 @@ pub record PrintedSome (h : Header) (t : ScriptTarget) (at : ℕ) (state : Follo
   pub events : List Event
   pub are : AreEvents h t.scrapes events
   pub count : length events ≡ at
-  pub stands : StandsFor t.target (tracking_of h) state events
+  pub stands : StandsFor t.target (script_tracking h) state events
   pub written : Appends before after (bodies_of h t.target events)
 
 -- what printing the bodies of a target came to: all are printed, or a front of those that were made

@@ -20,7 +20,7 @@ abbrev pub reply_talk : MemoryReply → Talk
 reply_talk reply = record { at = reply.at; sent = []; got = reply.got; end = reply.end }
 
 -- the event that a reply comes to: a scrape's, at the time of the reply
-pub record IsEventOf (h : Header) (reply : MemoryReply) (e : Event) : Type 0 where
+pub record IsReplyEvent (h : Header) (reply : MemoryReply) (e : Event) : Type 0 where
   pub time : e.reading ≡ reply.at
   pub comes_to : HasOutcome h.limit h.max_page (reply_talk reply) e.outcome
 
@@ -28,7 +28,7 @@ pub record IsEventOf (h : Header) (reply : MemoryReply) (e : Event) : Type 0 whe
 pub record IsEventAt (h : Header) (replies : List MemoryReply) (at : ℕ) (e : Event) : Type 0 where
   pub reply : MemoryReply
   pub stands : slice_get replies at ≡ Some reply
-  pub is : IsEventOf h reply e
+  pub is : IsReplyEvent h reply e
 
 -- these are the events of the first replies of a target, the last event first
 abbrev pub AreEvents : Header → List MemoryReply → List Event → Type 0
@@ -38,12 +38,12 @@ AreEvents h replies (e ∷ earlier) = IsEventAt h replies (length earlier) e × 
 -- ---- texts
 
 -- how the series of a script's targets are followed
-abbrev pub tracking_of : Header → Tracking
-tracking_of h = record { keep = h.keep }
+abbrev pub script_tracking : Header → Tracking
+script_tracking h = record { keep = h.keep }
 
 -- the text of an event behind the earlier ones, and an LF
 unfoldable pub body_after : Header → Scraped → List Event → Event → List ℕ
-body_after h target earlier e = request_text (request_after target (tracking_of h) earlier e) ++ codes "\n"
+body_after h target earlier e = request_text (request_after target (script_tracking h) earlier e) ++ codes "\n"
 
 -- the texts of these events of a target
 abbrev pub bodies_of : Header → Scraped → List Event → List ℕ

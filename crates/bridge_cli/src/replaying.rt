@@ -4,7 +4,7 @@ ghost use Rattle.bridge_ports.specs.Targets.{Scraped};
 ghost use Rattle.page_model.specs.declared.event.Event.{Event as AnyEvent};
 ghost use Rattle.target_core.specs.States.{StandsFor, HasNextMoment};
 ghost use Rattle.replay_script.specs.RightScripts.{IsOver, IsRightHeader, IsRightTarget, IsRightScript};
-ghost use Rattle.bridge_cli.specs.Replays.{tracking_of};
+ghost use Rattle.bridge_cli.specs.Replays.{script_tracking};
 ghost use Rattle.bridge_cli.specs.Printed.{cut_status, CutCause, MakesBody, PrintsNext, PrintsTarget, PrintsScript};
 
 use crate::output::write_all;
@@ -48,7 +48,7 @@ fn make_body(
     requires right { IsRightHeader header.now }
     requires ended { IsOver reply.now }
     requires next { HasNextMoment state.old.moment }
-    ensures { (target : Scraped) (earlier : Seq AnyEvent) → StandsFor target (tracking_of header.now) state.old earlier
+    ensures { (target : Scraped) (earlier : Seq AnyEvent) → StandsFor target (script_tracking header.now) state.old earlier
         → MakesBody header.now target reply.now earlier state.new body.new.items result }
 {
     let outcome = outcome(
@@ -79,7 +79,7 @@ fn print_next<O: Sink>(
     requires right { IsRightHeader header.now }
     requires ended { IsOver reply.now }
     requires next { HasNextMoment state.old.moment }
-    ensures printed { (target : Scraped) (earlier : Seq AnyEvent) → StandsFor target (tracking_of header.now) state.old earlier
+    ensures printed { (target : Scraped) (earlier : Seq AnyEvent) → StandsFor target (script_tracking header.now) state.old earlier
         → PrintsNext header.now target reply.now earlier state.new (O.held output.old) (O.held output.new) result }
     ensures cause { CutCause (O.write_faults output.old) (O.write_faults output.new) result }
 {
@@ -103,7 +103,7 @@ fn print_replies<O: Sink>(
 ) -> Result<(), Cut>
     requires right { IsRightHeader header.now }
     requires target { IsRightTarget header.now target.now }
-    requires fresh { StandsFor target.now.target (tracking_of header.now) start [] }
+    requires fresh { StandsFor target.now.target (script_tracking header.now) start [] }
     ensures printed { PrintsTarget header.now target.now (O.held output.old) (O.held output.new) result }
     ensures cause { CutCause (O.write_faults output.old) (O.write_faults output.new) result }
 {
@@ -145,7 +145,7 @@ fn new_state(
     target: &ScriptTarget,
 ) -> Result<TargetState, AllocError>
     requires { IsRightHeader header.now }
-    ensures { IfOk result (λ state. StandsFor target.now.target (tracking_of header.now) state []) }
+    ensures { IfOk result (λ state. StandsFor target.now.target (script_tracking header.now) state []) }
 {
     let copied = target.target.copy()?;
     TargetState::new(alloc, copied, header.keep)

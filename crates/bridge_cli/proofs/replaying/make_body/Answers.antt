@@ -1,7 +1,7 @@
 use Rattle.std.proofs.Common.{[], refl, ap, subst, arith}
 use Rattle.plain_words.proofs.Laws.{in_range}
 use Rattle.otlp_json.specs.Texts.{request_text}
-use Rattle.bridge_cli.specs.Replays.{tracking_of, IsEventOf}
+use Rattle.bridge_cli.specs.Replays.{script_tracking, IsReplyEvent}
 use Rattle.bridge_cli.proofs.ReplayLaws.{outcome_keys, made_body, reply_event}
 use Rattle.bridge_cli.proofs.replaying.make_body.Goals as goal
 
@@ -14,7 +14,7 @@ outcome-requires-clause-page c = in_range 1024 67108864 c.args.header.now.max_pa
 pub returns : goal.returns
 returns c = λ target earlier stands.
     let event = reply_event c.args.header.now c.args.reply.now _ c.in_ok-outcome.outcome c.as_slice.ensures (c.in_ok-outcome.ensures c.args.reply.now.at []) in
-    let steps = c.in_ok-request.ensures.ok target (tracking_of c.args.header.now) earlier stands (outcome_keys c.args.header.now c.args.reply.now c.in_ok-outcome.outcome event.comes_to) in
+    let steps = c.in_ok-request.ensures.ok target (script_tracking c.args.header.now) earlier stands (outcome_keys c.args.header.now c.args.reply.now c.in_ok-outcome.outcome event.comes_to) in
     made_body c.args.header.now target c.args.reply.now earlier c.step.new.self _ _ (request_text c.in_ok-request.request) c.write_line.result
     (record { reading = c.args.reply.now.at; outcome = c.in_ok-outcome.outcome }) event (ap request_text steps.0) steps.1 c.clear.ensures.items
     c.write_line.ensures.ok
