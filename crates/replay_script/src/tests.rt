@@ -39,7 +39,9 @@ fn raw_replies(rt: HostRuntime) {
         b"bridge-script 1\ntries 1\nrounds 1\ntarget j h:1 /m\nscrape 7 read 2\nHT\npost 8 connect 0\n\n",
     )
     .expect(&rt, "a script");
+    assert_eq!(rt; script.targets.len(), 1);
     let target = &script.targets.as_slice()[0];
+    assert_eq!(rt; target.scrapes.len(), 1);
     let scraped = &target.scrapes.as_slice()[0];
     assert_eq!(rt; scraped.at, 7);
     assert!(rt; scraped.got.as_slice() == b"HT".as_slice());
