@@ -9,11 +9,11 @@ use page_model::{Item, Rule, Sample, Treatment};
 use std::alloc::Global;
 
 fn read(alloc: Global, line: &[u8]) -> Result<LineRead, Memory> {
-    if line.len() > 65_536 {
-        return Ok(LineRead::Refused(Rule::TooLong));
-    }
     let mut labels: Vec<Label> = Vec::new(alloc);
-    OpenLines::read_line(alloc, Treatment::Scraped, line, &mut labels)
+    match std::str::from_utf8(line) {
+        Ok(_) => OpenLines::read_text(alloc, Treatment::Scraped, line, &mut labels),
+        Err(_) => Ok(LineRead::Refused(Rule::Utf8)),
+    }
 }
 
 /// The rule that refuses a line.
