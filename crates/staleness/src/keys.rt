@@ -6,7 +6,6 @@ ghost use Rattle.page_model.specs.declared.page.Reading.{Reading as OneReading};
 ghost use Rattle.page_model.specs.Presence as presence;
 
 use label_sets::{List, Memory, SeriesKey};
-use page_model::page_laws::distinct_keys;
 use page_model::{Page, Reading};
 use std::alloc::Global;
 
@@ -20,21 +19,14 @@ fn put_keys(keys: &mut Vec<SeriesKey>, readings: &[Reading]) -> Result<(), Memor
     Ok(())
 }
 
-/// The keys of a page, in page order, with one owner more.
+/// The keys of a page, in page order, with one owner more. No series has two readings in a page.
 pub(crate) fn keys_of(alloc: Global, page: &Page) -> Result<List<SeriesKey>, Memory>
-    ensures { IfOk result (λ keys. keys ≡ presence.keys_of page.now) }
+    ensures keys { IfOk result (λ keys. keys ≡ presence.keys_of page.now) }
+    ensures once { IsDistinct key_eq (presence.keys_of page.now) }
 {
     let mut keys = Vec::new(alloc);
     for family in page.families().as_slice() {
         put_keys(&mut keys, family.readings.as_slice())?;
     }
     List::from_vec(keys)
-}
-
-/// No series has two readings in a page.
-pub(crate) fn keys_are_distinct(page: &Page)
-    ensures { IsDistinct key_eq (presence.keys_of page.now) }
-{
-    let _ = page.families();
-    distinct_keys();
 }

@@ -5,7 +5,7 @@ ghost use Rattle.page_model.specs.Presence as presence;
 ghost use Rattle.staleness.specs.Vanished as spec;
 ghost use Rattle.staleness.specs.Vanished.{keys_gone, page_or_empty};
 
-use crate::keys::{keys_are_distinct, keys_of};
+use crate::keys::keys_of;
 use label_sets::{Kind, List, Memory, SeriesKey};
 use packed_keys::{SeriesPlaces, part};
 use page_model::Page;
@@ -63,7 +63,6 @@ fn lacking(
 pub fn vanished(alloc: Global, before: &Page, now: Option<&Page>) -> Result<List<SeriesKey>, Memory>
     ensures { IfOk result (λ keys. keys ≡ keys_gone before.now (page_or_empty (option_copied now.entry))) }
 {
-    keys_are_distinct(before);
     let keys = keys_of(alloc, before)?;
     let others = keys_of_some(alloc, now)?;
     let parted = part(alloc, &others, &keys)?;

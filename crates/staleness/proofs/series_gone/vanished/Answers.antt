@@ -8,5 +8,5 @@ use Rattle.staleness.proofs.series_gone.vanished.Goals as goal
 
 pub returns : goal.returns
 returns c = all_gone c.from_vec.result c.args.before.now (page_or_empty (option_copied c.args.now)) c.in_ok-gone.gone.items c.in_ok-others.others c.in_ok-keys.keys c.in_ok-parted.parted.strays c.in_ok-parted.parted.left
-    c.in_ok-others.ensures c.in_ok-keys.ensures c.keys_are_distinct.ensures c.in_ok-parted.ensures
+    c.in_ok-others.ensures c.in_ok-keys.ensures.keys c.in_ok-keys.ensures.once c.in_ok-parted.ensures
     (c.in_ok-gone.ensures ∙ (ap (λ (xs : List SeriesKey). filter (is_lacking xs) c.as_slice.result.now) c.of-left.ensures ∙ ap (filter (is_lacking c.in_ok-parted.parted.left)) c.as_slice.ensures)) c.from_vec.ensures
