@@ -8,3 +8,5 @@ mod EmptyPast
 mod Placed
 mod Rising
 mod Cases
+pub mod Cumulative
+pub mod Laws

@@ -1,12 +1,13 @@
 -- The points of the readings of one scrape.
 -- OpenTelemetry metrics data model, "Metric Points", "Histogram", "Summary"; "Prometheus and OpenMetrics Compatibility", "Prometheus Metric points to OTLP".
-use Rattle.std.specs.Prelude.{ℕ, List, map, Option, Some, None, option_map, unwrap_or}
+use Rattle.std.specs.Prelude.{◌≡◌, ⊤, true, ℕ, List, map, Option, Some, None, option_map, unwrap_or, All}
 use Rattle.std.specs.List.{zip}
 use Rattle.exact_decimal.specs.declared.number.Number.{Number}
 use Rattle.exact_decimal.specs.Numbers.{number_of}
 use Rattle.page_model.specs.declared.page.Value.{Value}
 use Rattle.page_model.specs.declared.page.Value.TheVariants as values
 use Rattle.page_model.specs.declared.page.Reading.{Reading}
+use Rattle.histogram_layout.specs.Layouts.{are_cumulative}
 use Rattle.start_times.specs.Starts.{cumulative_layout}
 use Rattle.otlp_tree.specs.declared.tree.NumberPoint.{NumberPoint}
 use Rattle.otlp_tree.specs.declared.tree.HistogramPoint.{HistogramPoint}
@@ -48,6 +49,15 @@ plain_number _ = None
 unfoldable pub histogram_in : Value → Option HistogramValue
 histogram_in (values.Buckets buckets sum) = option_map (λ layout. record { layout = layout; sum = sum }) (cumulative_layout buckets)
 histogram_in _ = None
+
+-- the buckets of a value, where it has some, are cumulative, so they have a layout
+abbrev pub MayBeLaidOut : Value → Type 0
+MayBeLaidOut (values.Buckets buckets sum) = are_cumulative buckets ≡ true
+MayBeLaidOut _ = ⊤
+
+-- the readings have values that may be laid out
+abbrev pub MayAllBeLaidOut : List Reading → Type 0
+MayAllBeLaidOut readings = All (λ (r : Reading). MayBeLaidOut r.value) readings
 
 -- the summary of a value that is one; that an absent count or sum is 0 is the bridge's own
 unfoldable pub summary_in : Value → Option SummaryValue

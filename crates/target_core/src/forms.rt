@@ -1,20 +1,20 @@
 //! The points of readings and of markers, in the forms of their kinds.
 ghost use Rattle.std.specs.Prelude.{◌≡◌, Option, IfOk};
-ghost use Rattle.start_times.specs.Starts as starts;
 ghost use Rattle.target_core.specs.Points as spec;
+ghost use Rattle.target_core.specs.Points.{MayBeLaidOut};
 ghost use Rattle.target_core.specs.Markers as markers;
 
 use crate::markers::Marker;
 use exact_decimal::Number;
-use histogram_layout::Layout;
-use label_sets::{List, Memory};
+use histogram_layout::layout;
+use label_sets::Memory;
 use otlp_tree::{HistogramPoint, HistogramValue, NumberPoint, SummaryPoint, SummaryValue};
-use page_model::{Bucket, Reading, Value};
+use page_model::{Reading, Value};
 use std::alloc::Global;
 
 /// A form of points, in which a reading has one where its value is of that kind, and each marker has one.
 pub(crate) trait PointForm: Sized {
-    ghost use Rattle.target_core.specs.Points.{Point, point_at};
+    ghost use Rattle.target_core.specs.Points.{Point, point_at, MayBeLaidOut};
     ghost use Rattle.target_core.specs.declared.markers.Marker.{Marker as Gone};
 
     ghost form_of: { Point → Option Self };
@@ -28,6 +28,7 @@ pub(crate) trait PointForm: Sized {
         moment: u64,
         reading: &Reading,
     ) -> Result<Option<Self>, Memory>
+        requires { MayBeLaidOut reading.now.value }
         ensures { IfOk result (λ form. form ≡ form_of (point_at start moment reading.now)) };
 
     /// The point of a marker in this form: it has no value. Its labels are shared.
@@ -80,30 +81,16 @@ impl PointForm for NumberPoint {
     }
 }
 
-/// The layout of buckets that are cumulative.
-#[tactic(auto, unfolding(start_times::specs::Starts::cumulative_layout))]
-fn cumulative_layout(alloc: Global, buckets: &List<Bucket>) -> Result<Option<Layout>, Memory>
-    ensures { IfOk result (λ layout. layout ≡ starts.cumulative_layout buckets.now) }
-{
-    let buckets = buckets.as_slice();
-    if !histogram_layout::is_cumulative(buckets) {
-        return Ok(None);
-    }
-    let layout = histogram_layout::layout(alloc, buckets)?;
-    Ok(Some(layout))
-}
-
-/// The histogram of a value that has cumulative buckets.
-#[tactic(auto, unfolding(crate::specs::Points::histogram_in))]
+/// The histogram of a value that has buckets.
+#[tactic(auto, unfolding(crate::specs::Points::histogram_in, start_times::specs::Starts::cumulative_layout))]
 fn histogram_in(alloc: Global, value: &Value) -> Result<Option<HistogramValue>, Memory>
+    requires { MayBeLaidOut value.now }
     ensures { IfOk result (λ histogram. histogram ≡ spec.histogram_in value.now) }
 {
     let Value::Buckets { buckets, sum } = value else {
         return Ok(None);
     };
-    let Some(layout) = cumulative_layout(alloc, buckets)? else {
-        return Ok(None);
-    };
+    let layout = layout(alloc, buckets.as_slice())?;
     Ok(Some(HistogramValue { layout, sum: *sum }))
 }
 

@@ -2,6 +2,7 @@
 ghost use Rattle.std.specs.Prelude.{◌≡◌, ◌++◌, ℕ, Option, map, filter_map, option_map, IfOk, OnOk};
 ghost use Rattle.page_model.specs.declared.page.Reading.{Reading as AnyReading};
 ghost use Rattle.target_core.specs.Points as spec;
+ghost use Rattle.target_core.specs.Points.{MayAllBeLaidOut};
 ghost use Rattle.target_core.specs.Markers as marks;
 ghost use Rattle.target_core.specs.MarkerGroups as grouped;
 ghost use Rattle.target_core.specs.Trees as trees;
@@ -20,6 +21,7 @@ fn all_points<F: PointForm + Drop>(
     readings: &[Reading],
     starts: &[Option<u64>],
 ) -> Result<Vec<F>, Memory>
+    requires { MayAllBeLaidOut readings.now }
     ensures { IfOk result (λ points. points.items ≡ filter_map F.form_of (spec.points_with moment readings.now starts.now)) }
 {
     let mut points = Vec::with_capacity(alloc, readings.len())?;
@@ -50,6 +52,7 @@ fn points<F: PointForm + Drop>(
     starts: &[Option<u64>],
     markers: &[Marker],
 ) -> Result<Option<List<F>>, Memory>
+    requires { MayAllBeLaidOut readings.now }
     ensures { IfOk result (λ points. points ≡ option_map (λ ps. ps ++ map F.marked_by markers.now)
         (trees.some_of F.form_of (spec.points_with moment readings.now starts.now))) }
 {
@@ -72,6 +75,7 @@ fn shape(
     starts: &[Option<u64>],
     markers: &[Marker],
 ) -> Result<Option<Shape>, Memory>
+    requires { MayAllBeLaidOut readings.now }
     ensures { IfOk result (λ shape. shape ≡ option_map (marks.shape_with markers.now)
         (trees.shape_of kind (spec.points_with moment readings.now starts.now))) }
 {
@@ -109,6 +113,7 @@ pub(crate) fn family_metric(
     starts: &[Option<u64>],
     markers: &[Marker],
 ) -> Result<Option<Metric>, Memory>
+    requires { MayAllBeLaidOut family.now.readings }
     ensures { (start : AnyReading → Option ℕ) → starts.now ≡ map start family.now.readings
         → IfOk result (λ metric. metric ≡ option_map (marks.metric_with markers.now) (trees.family_metric start moment family.now)) }
 {

@@ -1,5 +1,5 @@
 //! The request tree of one event.
-ghost use Rattle.std.specs.Prelude.{◌≡◌, ◌++◌, ◌∷◌, [], ℕ, List as Seq, Option, map, filter_map, option_map, take, drop, IfOk, OnOk};
+ghost use Rattle.std.specs.Prelude.{◌≡◌, ◌++◌, ◌∷◌, [], ℕ, List as Seq, Option, map, filter_map, option_map, take, drop, All, IfOk, OnOk};
 ghost use Rattle.std.specs.List.{flat_map};
 ghost use Rattle.page_model.specs.declared.page.Reading.{Reading as AnyReading};
 ghost use Rattle.page_model.specs.declared.page.Family.{Family as AnyFamily};
@@ -7,6 +7,7 @@ ghost use Rattle.page_model.specs.Presence.{all_readings};
 ghost use Rattle.label_sets.specs.declared.kind.Kind.{Kind as AnyKind};
 ghost use Rattle.otlp_tree.specs.declared.tree.Metric.{Metric as AnyMetric};
 ghost use Rattle.target_core.specs.declared.markers.Marker.{Marker as AnyMarker};
+ghost use Rattle.target_core.specs.Points.{MayAllBeLaidOut};
 ghost use Rattle.target_core.specs.Markers.{with_markers};
 ghost use Rattle.target_core.specs.MarkerGroups.{marker_groups};
 ghost use Rattle.target_core.specs.Trees as trees;
@@ -59,6 +60,7 @@ fn placed_metric(
     starts: &[Option<u64>],
     groups: &mut MarkerGroups,
 ) -> Result<Option<Metric>, Memory>
+    requires { MayAllBeLaidOut family.now.readings }
     ensures { (start : AnyReading → Option ℕ) (ms : Seq AnyMarker) (before : Seq (AnyKind × AnyMetric))
         → starts.now ≡ map start family.now.readings → groups.old ≡ marker_groups before ms
         → IfOk result (λ metric. (metric ≡ option_map (λ m. with_markers ms family.now.kind m) (trees.family_metric start moment family.now))
@@ -93,6 +95,7 @@ fn page_metrics(
     starts: &[Option<u64>],
     groups: &mut MarkerGroups,
 ) -> Result<Vec<Metric>, Memory>
+    requires { All (λ (f : AnyFamily). MayAllBeLaidOut f.readings) families.now }
     ensures { (start : AnyReading → Option ℕ) (ms : Seq AnyMarker)
         → starts.now ≡ map start (flat_map (λ (f : AnyFamily). f.readings) families.now) → groups.old ≡ marker_groups [] ms
         → IfOk result (λ metrics. (metrics.items ≡ map (λ m. with_markers ms m.0 m.1) (filter_map (trees.kind_metric start moment) families.now))

@@ -1,6 +1,10 @@
 use Rattle.std.proofs.Common.{◌∙◌, ap, sym, map}
+use Rattle.target_core.proofs.Cumulative.{page_laid_out}
 use Rattle.target_core.proofs.FamilyMetrics.{readings_in, event_metrics_are}
 use Rattle.target_core.proofs.tree.event_metrics.Goals as goal
+
+pub page_metrics-requires : goal.page_metrics-requires
+page_metrics-requires c = page_laid_out c.args.page.now c.as_slice.result.now (c.as_slice.ensures ∙ c.families.ensures.families) c.families.ensures.right
 
 pub returns : goal.returns
 returns c = λ start ms own is.
