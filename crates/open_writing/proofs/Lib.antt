@@ -1,5 +1,6 @@
 pub mod Laws
 pub mod Escapes
+pub mod Keeping
 pub mod LineCounts
 pub mod Places
 pub mod Parts

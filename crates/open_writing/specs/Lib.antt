@@ -3,3 +3,4 @@ pub mod FamilyKeys
 pub mod Forms
 pub mod OpenForms
 pub mod Pieces
+pub mod Kept

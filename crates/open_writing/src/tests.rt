@@ -173,3 +173,29 @@ fn writes_all_or_nothing(rt: HostRuntime) -> Result<(), LabelFault> {
     assert_eq!(rt; std::str::from_utf8(&out), Ok(expected));
     Ok(())
 }
+
+fn repeated(alloc: Global, len: usize) -> Result<Vec<u8>, Memory> {
+    let mut bytes = Vec::new(alloc);
+    for _ in 0..len {
+        bytes.push(b'v')?;
+    }
+    Ok(bytes)
+}
+
+// Lines of 4,095 to 4,097 bytes, of which the last is longer than what is put at once, and a far longer one.
+#[test]
+fn writes_long_lines(rt: HostRuntime) -> Result<(), LabelFault> {
+    for len in [4085, 4086, 4087, 9000] {
+        let bytes = repeated(rt.alloc(), len)?;
+        let value = std::str::from_utf8(&bytes).unwrap_or("");
+        let one = reading(rt.alloc(), &[("k", value)], Value::Plain(of(1)), None)?;
+        let families = list(rt.alloc(), [family(rt.alloc(), "x", Kind::Unknown, [one])?])?;
+        let mut expected = Vec::from_slice(rt.alloc(), b"# TYPE x unknown\nx{k=\"")?;
+        expected.extend_from_slice(&bytes)?;
+        expected.extend_from_slice(b"\"} 1\n# EOF\n")?;
+        let mut out = Vec::new(rt.alloc());
+        text_emitter::write(&FamiliesText(&families), &mut out)?;
+        assert!(rt; out == expected, "{len}");
+    }
+    Ok(())
+}

@@ -5,4 +5,4 @@ use Rattle.open_writing.specs.Writing.{reading_samples}
 use Rattle.open_writing.proofs.families.emit_readings.Given as goal
 
 abbrev pub invariant-loop-reading : goal.invariant-loop-reading
-invariant-loop-reading g l = l.out ≡ fold g.E.Emitter.push l.initial.out (flat_map (λ r. samples_text (reading_samples l.kind l.name r)) (take l.reading-index l.readings))
+invariant-loop-reading g l = l.out ≡ fold g.E.Emitter.push l.initial.out (flat_map (λ r. samples_text (reading_samples l.kind l.family r)) (take l.reading-index l.readings))
