@@ -1,0 +1,4 @@
+pub mod FileLaws
+pub mod PairLaws
+pub mod DoorLaws
+pub mod WorldLaws

@@ -1,0 +1,41 @@
+-- A world in memory: what its calls owe to the definitions of worlds.
+use Rattle.std.proofs.Common.{◌≡◌, ◌∙◌, ℕ, Bool, true, false, List, [], ◌∷◌, ◌++◌, map, reverse, Some, refl, sym, ap, subst}
+use Rattle.std.specs.Prelude.{All, ◌≢◌, ◌==◌}
+use Rattle.std.proofs.lemmas.Bool.{eqb-true, eqb-false}
+use Rattle.std.proofs.lemmas.List.{map-append, reverse-append}
+use Rattle.std.proofs.lemmas.List.Elements.{All-nil, All-cons, All-head, All-tail}
+use Rattle.bridge_ports.specs.declared.memory_world.Shelved.{Shelved}
+use Rattle.bridge_ports.specs.declared.memory_world.MemoryPair.{MemoryPair}
+use Rattle.bridge_ports.specs.declared.memory_world.MemoryListen.{MemoryListen}
+use Rattle.bridge_ports.specs.Plans.{MemoryState}
+use Rattle.bridge_ports.specs.MemoryWorlds.{PairState, given_of, given_of_found}
+use Rattle.bridge_ports.specs.WorldMaking.{IsRightPair, IsRightListen}
+use Rattle.memory_world.specs.WorldParts.{pair_seen, found_pair, fresh_pair, IsFreshRight, listen_given, IsListenRight, shelved_given}
+
+-- the addresses of each number are the same once a pair is back
+pub given_back : (old new : List PairState) (n : ℕ) (wires : MemoryState × MemoryState) → found_pair new n ≡ Some (pair_seen n (Some wires) (given_of old n))
+    → ((m : ℕ) → m ≢ n → found_pair new m ≡ found_pair old m) → (m : ℕ) → given_of new m ≡ given_of old m
+given_back old new n wires found others m = by_test (m == n) refl
+  where
+    by_test : (t : Bool) → (m == n) ≡ t → given_of new m ≡ given_of old m
+    by_test true e =
+        let here : given_of new n ≡ given_of old n = ap given_of_found found in
+        subst (λ k. given_of new k ≡ given_of old k) (sym (eqb-true m n e)) here
+    by_test false e = ap given_of_found (others m (eqb-false m n e))
+
+-- one more pair on the shelf is its first from the end
+pub shelf_more : (shelf : List Shelved) (s : Shelved) → reverse (map shelved_given (shelf ++ s ∷ [])) ≡ shelved_given s ∷ reverse (map shelved_given shelf)
+shelf_more shelf s = ap reverse (map-append shelved_given shelf (s ∷ [])) ∙ reverse-append (map shelved_given shelf) (shelved_given s ∷ [])
+
+all_unmapped : {A B : Type 0} (P : B → Type 0) (f : A → B) (xs : List A) → All P (map f xs) → All (λ x. P (f x)) xs
+all_unmapped P f [] all = All-nil (λ x. P (f x))
+all_unmapped P f (x ∷ xs) all = All-cons (λ y. P (f y)) x xs (All-head P (f x) (map f xs) all) (all_unmapped P f xs (All-tail P (f x) (map f xs) all))
+
+-- pairs that may be given have their places
+pub fresh_right : (pairs : List MemoryPair) → All IsRightPair (map fresh_pair pairs) → All IsFreshRight pairs
+fresh_right pairs all = λ k d short.
+    let p = all_unmapped IsRightPair fresh_pair pairs all k d short in
+    record { number = p.number; scrape = λ home. (p.scrape_place, p.scrape_free); post = λ home. (p.post_place, p.post_free) }
+
+pub listens_right : (doors : List MemoryListen) → All IsRightListen (map listen_given doors) → All IsListenRight doors
+listens_right doors all = all_unmapped IsRightListen listen_given doors all
