@@ -1,56 +1,25 @@
 -- Each reading of a right page becomes a point, but for those of gauge histograms.
-use Rattle.std.proofs.Common.{◌≡◌, ℕ, suc, true, false, ◌&&◌, List, [], ◌∷◌, length, map, filter_map, Option, Some, None, option_map, is_some, refl, ap, ◌∙◌}
-use Rattle.std.specs.Prelude.{nat_le}
-use Rattle.std.specs.List.{last_or, cons_option, AllByRecursion}
+use Rattle.std.proofs.Common.{◌≡◌, ℕ, suc, true, false, List, [], ◌∷◌, length, map, filter_map, Option, Some, None, option_map, is_some, refl, ap, ◌∙◌}
+use Rattle.std.specs.List.{cons_option, AllByRecursion}
 use Rattle.std.specs.Option.{option_map_or}
-use Rattle.std.proofs.lemmas.Bool.{and_parts, not-false}
 use Rattle.std.proofs.lemmas.List.Elements.{All-from_recursion}
 use Rattle.label_sets.specs.declared.kind.Kind.{Kind}
 use Rattle.label_sets.specs.declared.kind.Kind.TheVariants.{Counter, Gauge, Histogram, GaugeHistogram, StateSet, Info, Summary, Unknown}
-use Rattle.label_sets.specs.Lists.{some_passes}
-use Rattle.exact_decimal.specs.declared.number.Number.{Number}
-use Rattle.exact_decimal.specs.declared.number.Number.TheVariants.{Finite, Up, Down, NotANumber}
-use Rattle.exact_decimal.specs.Order.{less, is_finite}
-use Rattle.page_model.specs.declared.page.Bucket.{Bucket}
 use Rattle.page_model.specs.declared.page.Reading.{Reading}
 use Rattle.page_model.specs.declared.page.Family.{Family}
 use Rattle.page_model.specs.declared.page.Page.{Page}
 use Rattle.page_model.specs.declared.page.Value.{Value}
 use Rattle.page_model.specs.declared.page.Value.TheVariants as values
-use Rattle.page_model.specs.Rules.{is_bound, is_up}
 use Rattle.page_model.specs.Pages.{IsRightPage}
-use Rattle.sample_groups.proofs.Laws.{AreRising, RiseToUp}
 use Rattle.family_rules.proofs.Laws.{IsPlain, IsQuantiles, HasRisingBuckets, HaveValuesOf, HaveKindValues, right_values}
-use Rattle.histogram_layout.specs.Layouts.{may_follow, are_cumulative}
 use Rattle.otlp_tree.specs.declared.tree.Metric.{Metric}
 use Rattle.otlp_tree.specs.declared.tree.Shape.{Shape}
 use Rattle.otlp_tree.specs.declared.tree.Shape.TheVariants as shapes
 use Rattle.start_times.specs.Starts.{cumulative_layout}
+use Rattle.target_core.proofs.Laws.{rising_cumulative}
 use Rattle.target_core.specs.Points.{point_at, point_of, plain_number, histogram_in, summary_in, number_point, histogram_point, summary_point}
 use Rattle.target_core.specs.Trees.{some_of, shape_of, metric_of}
 use Rattle.point_laws.specs.PageLaws.{points_in, points_of_family, points_due, EachReadingHasAPoint}
-
--- ---- buckets that rise to `+Inf` are cumulative
-
--- a bound below another is finite
-finite_below : (a b : Number) → is_bound a ≡ true → less a b ≡ true → is_finite a ≡ true
-unfolding less
-finite_below (Finite d) b bound h = refl
-finite_below Up b bound h = absurd cc
-finite_below Down b bound h = absurd cc
-finite_below NotANumber b bound h = absurd cc
-
-cumulative_from : (bs : List Bucket) (b : Bucket) → is_bound b.le ≡ true → AreRising (Some b) bs → some_passes (λ (c : Bucket). is_up c.le) (last_or (Some b) bs) ≡ true → are_cumulative (b ∷ bs) ≡ true
-unfolding are_cumulative may_follow
-cumulative_from [] b bound rising last = last
-cumulative_from (c ∷ bs) b bound rising last =
-    let follows = and_parts (less b.le c.le) (nat_le b.count c.count) (not-false (less b.le c.le && nat_le b.count c.count) rising.1) in
-    let finite : is_finite b.le ≡ true = finite_below b.le c.le bound follows.0 in
-    rw (finite, follows.0, follows.1) (cumulative_from bs c rising.0 rising.2 last)
-
-rising_cumulative : (bs : List Bucket) → RiseToUp bs → are_cumulative bs ≡ true
-rising_cumulative [] rise = absurd (let e : false ≡ true = rise.last in cc)
-rising_cumulative (b ∷ bs) rise = cumulative_from bs b rise.rising.0 rise.rising.2 rise.last
 
 -- ---- the point of a value
 
