@@ -13,3 +13,6 @@ pub mod tree_laws;
 
 pub use bridge_ports::Target;
 pub use state::TargetState;
+
+#[cfg(test)]
+mod tests;
