@@ -6,3 +6,5 @@ pub mod Shows
 pub mod Takings
 pub mod Beginnings
 pub mod Visits
+pub mod Laws
+pub mod Moved

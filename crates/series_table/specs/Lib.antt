@@ -6,3 +6,4 @@ pub mod Counting
 pub mod Records
 pub mod Making
 pub mod Keeping
+pub mod Moving

@@ -5,6 +5,7 @@ ghost use Rattle.target_core.specs.States.{StandsFor};
 ghost use Rattle.series_table.specs.declared.track.TrackFault.TheVariants as faults;
 ghost use Rattle.series_table.specs.Talking.{AreInRange};
 ghost use Rattle.series_table.specs.HttpTalks.{talking};
+ghost use Rattle.series_table.specs.Moving.{without_second};
 ghost use Rattle.series_table.specs.Records.{IsFresh, IsNew, IsTrack, PostsWhatItsTalksTell, Visits, most_visits};
 
 use crate::aim::Aim;
@@ -17,6 +18,7 @@ use otlp_sender::post;
 use page_model::{Shown, page_laws};
 use std::alloc::Global;
 use std::marker::Model;
+use std::mem;
 use target_core::TargetState;
 
 /// A target that is visited over its two wires. What it posted is, in order, the texts of a function of its own
@@ -181,6 +183,14 @@ impl<W: Wire> Track<W> {
         ensures { result ≡ self.now.halted }
     {
         self.halted
+    }
+
+    /// Moves out the second page of the last visit, which whoever keeps tracks shows to readers while this one is out.
+    pub fn take_second(&mut self) -> Option<Shown>
+        ensures second { result ≡ self.old.second }
+        ensures after { self.new ≡ without_second self.old }
+    {
+        mem::replace(&mut self.second, None)
     }
 
     /// For the proof of a caller: what every track keeps. It does nothing.

@@ -1,0 +1,2 @@
+-- What other crates may use of this crate's proofs.
+pub use Rattle.series_table.proofs.Moved.{track-without_second}
