@@ -1,0 +1,4 @@
+mod Places
+mod Isolated
+mod Bodies
+mod Cases

@@ -1,0 +1,9 @@
+use Rattle.series_table.specs.HttpTalks.{talking}
+use Rattle.target_table.proofs.Isolated.{isolation, same_own_steps}
+use Rattle.target_table.proofs.table_laws.isolation.Goals as goal
+
+pub returns-clause-own : goal.returns-clause-own
+returns-clause-own c = isolation talking
+
+pub returns-clause-same : goal.returns-clause-same
+returns-clause-same c = same_own_steps talking

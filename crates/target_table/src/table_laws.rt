@@ -1,0 +1,15 @@
+//! Laws of the table's machine, each as the contract of a function that does nothing.
+ghost use Rattle.series_table.specs.HttpTalks.{talking};
+ghost use Rattle.target_table.specs.Laws.{Isolation, SameOwnSteps, BodiesInEveryRun};
+
+/// In every run of the table, the talks, posts, visits and shown page of each target are those of its own steps, which
+/// are a run of the table that has this target alone; so they depend on nothing else.
+pub fn isolation()
+    ensures own { Isolation talking }
+    ensures same { SameOwnSteps talking }
+{}
+
+/// In every run each target's bodies are the texts of the events that its own talks tell, one for each visit.
+pub fn bodies_in_every_run()
+    ensures { BodiesInEveryRun talking }
+{}
