@@ -33,6 +33,7 @@ pub record Fits (st : Setting) (above : List Owned) (o : Owned) : Type 0 where
   pub descriptor : is_late_descriptor above o ≡ false
   pub together : is_split above o ≡ false
   pub single : some_passes (is_duplicate st above) (sample_of_line o.item) ≡ false
+  pub grouped : IfSome (sample_of_line o.item) (λ s. is_interleaved st (kind_of above o.family) o.family (samples_of above o.family) s ≡ false)
   pub sound : IfSome (sample_of_line o.item) (IsSoundSample st (kind_of above o.family) o.family (samples_of above o.family))
   pub unit : is_bad_unit above o ≡ false
 
@@ -89,6 +90,34 @@ sound_samples st (o ∷ above) F fit = by (is_of F o) o.item refl refl (sound_sa
         let own : IfSome (sample_of_line (items.Sample s)) (IsSoundSample st (kind_of above o.family) o.family (samples_of above o.family)) =
         subst (λ i. IfSome (sample_of_line i) (IsSoundSample st (kind_of above o.family) o.family (samples_of above o.family))) same fit.0.sound in
         (subst (λ G. IsSoundSample st (kind_of above G) G (samples_of above G) s) ((bytes_decides o.family F).0 e) own, ih)
+
+-- no sample of these goes back to its group, under those above it
+abbrev pub AreTogether : Setting → Kind → List ℕ → List Sample → Type 0
+AreTogether st kind family [] = ⊤
+AreTogether st kind family (s ∷ above) = (is_interleaved st kind family above s ≡ false) × AreTogether st kind family above
+
+-- nor does one of a family, by the kind that the family has now
+pub together_samples : (st : Setting) (above : List Owned) (F : List ℕ) → AreFit st above → AreTogether st (kind_of above F) F (samples_of above F)
+unfolding kind_of samples_of
+together_samples st [] F fit = tt
+together_samples st (o ∷ above) F fit = by (is_of F o) o.item refl refl (together_samples st above F fit.1)
+  where
+    by : (b : Bool) (item : Item) → is_of F o ≡ b → o.item ≡ item → AreTogether st (kind_of above F) F (samples_of above F)
+        → AreTogether st (unwrap_or (option_or (cond b (kind_of_line item) None) (first_some (declared_kind F) above)) Unknown) F (cons_option (cond b (sample_of_line item) None) (samples_of above F))
+    by false item e same ih = ih
+    by true items.Blank e same ih = ih
+    by true items.Comment e same ih = ih
+    by true items.Eof e same ih = ih
+    by true (items.Help n t) e same ih = ih
+    by true (items.Unit n u) e same ih = ih
+    by true (items.KindOf n k) e same ih =
+        let late : is_late_descriptor above (record { family = o.family; item = items.KindOf n k }) ≡ false = ap (λ i. is_late_descriptor above (record { family = o.family; item = i })) (sym same) ∙ fit.0.descriptor in
+        let none : samples_of above F ≡ [] = ap (samples_of above) (sym ((bytes_decides o.family F).0 e)) ∙ none_above above o.family (items.KindOf n k) refl late in
+        subst (AreTogether st k F) (sym none) tt
+    by true (items.Sample s) e same ih =
+        let own : IfSome (sample_of_line (items.Sample s)) (λ s. is_interleaved st (kind_of above o.family) o.family (samples_of above o.family) s ≡ false) =
+        subst (λ i. IfSome (sample_of_line i) (λ s. is_interleaved st (kind_of above o.family) o.family (samples_of above o.family) s ≡ false)) same fit.0.grouped in
+        (subst (λ G. is_interleaved st (kind_of above G) G (samples_of above G) s ≡ false) ((bytes_decides o.family F).0 e) own, ih)
 
 -- ---- units
 
@@ -257,9 +286,9 @@ module _ (st : Setting) (earlier : List Item) (before : is_after_eof st earlier 
     where
       by : (d : Descriptor) → is_late_descriptor above (record { family = F; item = line_of F d }) ≡ false → is_split above (record { family = F; item = line_of F d }) ≡ false
           → is_bad_unit above (record { family = F; item = line_of F d }) ≡ false → Fits st above (record { family = F; item = line_of F d })
-      by (sorts.Help t) late split unit = record { descriptor = late; together = split; single = refl; sound = tt; unit = unit }
-      by (sorts.Type k) late split unit = record { descriptor = late; together = split; single = refl; sound = tt; unit = unit }
-      by (sorts.Unit u) late split unit = record { descriptor = late; together = split; single = refl; sound = tt; unit = unit }
+      by (sorts.Help t) late split unit = record { descriptor = late; together = split; single = refl; grouped = tt; sound = tt; unit = unit }
+      by (sorts.Type k) late split unit = record { descriptor = late; together = split; single = refl; grouped = tt; sound = tt; unit = unit }
+      by (sorts.Unit u) late split unit = record { descriptor = late; together = split; single = refl; grouped = tt; sound = tt; unit = unit }
 
   fit_sample : (s : Sample) (F : List ℕ) → sample_owner st.format above s.name ≡ F → item_fault st earlier (items.Sample s) ≡ None → Fits st above (record { family = F; item = items.Sample s })
   unfolding is_bad_unit
@@ -280,6 +309,7 @@ module _ (st : Setting) (earlier : List Item) (before : is_after_eof st earlier 
         descriptor = late_sample above F s;
         together = split.0;
         single = double.0;
+        grouped = back.0;
         sound = record { named = suffix.0; valued = value.0; placed = place.0; ordered = order.0 };
         unit = refl;
       }

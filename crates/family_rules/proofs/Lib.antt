@@ -5,6 +5,7 @@ pub mod Once
 pub mod Units
 pub mod Plain
 pub mod RunLaws
+pub mod GroupedBack
 pub mod Kept
 pub mod Seen
 pub mod Standing

@@ -16,7 +16,7 @@ use Rattle.page_model.specs.Written.{Setting}
 use Rattle.page_model.specs.Owners.{Owned, kind_of, samples_of}
 use Rattle.page_model.specs.Rules.{is_open_metrics, sample_group, in_one_group, is_interleaved}
 use Rattle.page_model.proofs.Laws.{label_sets_decide}
-use Rattle.family_rules.specs.GroupRuns.{Runs, no_runs, is_alone, has_runs, group_key, runs_from, runs_of, goes_back, with_group}
+use Rattle.family_rules.specs.GroupRuns.{Runs, no_runs, has_own_runs, has_runs, group_key, runs_from, runs_of, goes_back, with_group}
 use Rattle.family_rules.proofs.Lists.{bytes_same, bytes_swap, label_sets_swap, any_firsts, reverse-cons, first_of_each-snoc, list_any-map, list_any-reverse}
 
 -- ---- keys
@@ -129,12 +129,12 @@ kept_or_none : (b : Bool) (r : Runs) (own : SampleKey) → (b && goes_back (cond
 kept_or_none true r own = refl
 kept_or_none false r own = refl
 
--- Interleaved, by the groups of the family, where samples share groups
+-- Interleaved, by the groups of the family, where they are kept
 pub interleaved_kept : (st : Setting) (above : List Owned) (F : List ℕ) (s : Sample)
     → (has_runs st.format (kind_of above F) && goes_back (runs_of st above F) (group_key F (sample_group st (kind_of above F) F s)))
-    ≡ (not (is_alone (kind_of above F)) && is_interleaved st (kind_of above F) F (samples_of above F) s)
+    ≡ (has_own_runs (kind_of above F) && is_interleaved st (kind_of above F) F (samples_of above F) s)
 unfolding runs_of
-interleaved_kept st above F s = by (is_alone (kind_of above F))
+interleaved_kept st above F s = by (has_own_runs (kind_of above F))
   where
     r : Runs
     r = runs_from st (kind_of above F) F (samples_of above F)
@@ -142,6 +142,6 @@ interleaved_kept st above F s = by (is_alone (kind_of above F))
     own : SampleKey
     own = group_key F (sample_group st (kind_of above F) F s)
 
-    by : (a : Bool) → (cond a false (is_open_metrics st.format) && goes_back (cond (cond a false (is_open_metrics st.format)) r no_runs) own) ≡ (not a && is_interleaved st (kind_of above F) F (samples_of above F) s)
-    by true = refl
-    by false = kept_or_none (is_open_metrics st.format) r own ∙ interleaved_runs st (kind_of above F) F (samples_of above F) s
+    by : (a : Bool) → (cond a (is_open_metrics st.format) false && goes_back (cond (cond a (is_open_metrics st.format) false) r no_runs) own) ≡ (a && is_interleaved st (kind_of above F) F (samples_of above F) s)
+    by false = refl
+    by true = kept_or_none (is_open_metrics st.format) r own ∙ interleaved_runs st (kind_of above F) F (samples_of above F) s

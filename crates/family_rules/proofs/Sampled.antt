@@ -23,19 +23,20 @@ use Rattle.page_model.specs.Owners.{Owned, kind_of, sample_owner, owned_lines, s
 use Rattle.page_model.specs.Rules.{is_open_metrics, is_after_eof, is_split, is_interleaved, has_suffix, may_have_exemplar, exemplar_characters, is_bad_exemplar, has_wrong_suffix, has_bad_value, has_bad_threshold, is_out_of_order, is_duplicate, is_past_limit, sample_group}
 use Rattle.page_model.specs.Faults.{item_fault}
 use Rattle.sample_groups.specs.declared.part.Part.{Part}
-use Rattle.sample_groups.specs.Groups.{groups_from, known_group, or_empty, breaks_order, shared_labels}
+use Rattle.sample_groups.specs.Groups.{groups_from, known_group, or_empty, breaks_order, is_overtaken, shared_labels}
 use Rattle.sample_groups.specs.Parts.{is_grouped, entry_of, part_of}
 use Rattle.sample_groups.proofs.Laws.{shared_group, order_kept}
 use Rattle.family_rules.specs.KeyedValues.{is_key_of, samples_at_end, is_passed}
 use Rattle.packed_keys.specs.declared.sample_key.SampleKey.{SampleKey}
-use Rattle.family_rules.specs.GroupRuns.{is_alone, has_runs, goes_back}
+use Rattle.family_rules.specs.GroupRuns.{is_alone, has_own_runs, has_runs, goes_back}
 use Rattle.family_rules.specs.Checking.{Checking, groups_so_far, so_far, key_of, Stands}
 use Rattle.family_rules.specs.Steps.{is_current_family, current_kind, with_current, begun, left_stop, Takes, IsReady}
-use Rattle.family_rules.specs.Samples.{is_current_sample, TellsPart, told_part, told_left, has_bad_exemplar, is_bad_plain_value, current_samples, own_samples, seen_rule, key_in, is_back, entered_by, part_stop, order_stop, with_told, with_sample, with_added, sample_stop, add_stop, name_stop}
+use Rattle.family_rules.specs.Samples.{is_current_sample, TellsPart, told_part, told_left, has_bad_exemplar, is_bad_plain_value, current_samples, own_samples, seen_rule, key_in, is_overtaken_in, is_back_in_groups, is_told_back, is_back, entered_by, part_stop, order_stop, with_told, with_sample, with_added, sample_stop, add_stop, name_stop}
 use Rattle.family_rules.proofs.Lists.{bytes_same}
-use Rattle.family_rules.proofs.Faults.{fit_lines, sound_samples, left_fault, measure_fault, rest_fault, sample_fault}
+use Rattle.family_rules.proofs.Faults.{fit_lines, together_samples, sound_samples, left_fault, measure_fault, rest_fault, sample_fault}
 use Rattle.family_rules.proofs.Plain.{suffix_is, plain_value, plain_threshold, plain_order}
 use Rattle.family_rules.proofs.RunLaws.{interleaved_kept}
+use Rattle.family_rules.proofs.GroupedBack.{overtaken_kept, never_back, back_by_kind}
 use Rattle.family_rules.proofs.Passed.{last_none, back_seen, interleaved_passed}
 use Rattle.family_rules.proofs.Seen.{duplicate_seen}
 use Rattle.family_rules.proofs.Kept.{reversed_samples}
@@ -96,6 +97,11 @@ back_or_suffix true false = refl
 back_or_suffix false true = refl
 back_or_suffix false false = refl
 
+-- either of two tests refuses
+either_refuses : {A : Type 0} (a b : Bool) (x r : A) → cond a x (cond b x r) ≡ cond (a || b) x r
+either_refuses true b x r = refl
+either_refuses false b x r = refl
+
 -- no samples are asked
 no_own : (b : Bool) → ◌≡◌ {A = ℕ} (cond b 0 0) 0
 no_own true = refl
@@ -109,12 +115,24 @@ not_wrong st k F s h = ap not h
 
 module _ (c mid after : Checking) (k : Kind) (labels : LabelSet) (told : Result (Option Part) Rule) (own : ℕ) (key : SampleKey) (broken : Option Rule) (entered : mid ≡ entered_by c k labels) where
   pub added_stop : after ≡ with_current mid after.current → broken ≡ part_stop k labels told mid.current → (answer : Option Rule) → answer ≡ sample_stop after own key broken → is_back c k labels ≡ false
-      → answer ≡ cond (is_back c k labels) (Some rules.Interleaved) (sample_stop c own key (part_stop k labels told c.current))
+      → is_told_back mid.setting.format k labels told mid.current ≡ false
+      → answer ≡ cond (is_back c k labels) (Some rules.Interleaved) (cond (is_told_back c.setting.format k labels told c.current) (Some rules.Interleaved) (sample_stop c own key (part_stop k labels told c.current)))
   unfolding sample_stop
-  added_stop rest told_is answer stop free =
+  added_stop rest told_is answer stop free told_free =
       stop ∙ ap (λ x. sample_stop x own key broken) (rest ∙ ap (λ m. with_current m after.current) entered)
       ∙ ap (sample_stop c own key) (told_is ∙ ap (λ (m : Checking). part_stop k labels told m.current) entered)
-      ∙ sym (ap (λ b. cond b (Some rules.Interleaved) (sample_stop c own key (part_stop k labels told c.current))) free)
+      ∙ sym (λ i. cond (free i) (Some rules.Interleaved) (cond (here i) (Some rules.Interleaved) (sample_stop c own key (part_stop k labels told c.current))))
+    where
+      here : is_told_back c.setting.format k labels told c.current ≡ false
+      here = sym (ap (λ (m : Checking). is_told_back m.setting.format k labels told m.current) entered) ∙ told_free
+
+  -- it goes back by what was told
+  pub told_back_stop : is_told_back mid.setting.format k labels told mid.current ≡ true → is_back c k labels ≡ false
+      → Some rules.Interleaved ≡ cond (is_back c k labels) (Some rules.Interleaved) (cond (is_told_back c.setting.format k labels told c.current) (Some rules.Interleaved) (sample_stop c own key (part_stop k labels told c.current)))
+  told_back_stop back free = sym (λ i. cond (free i) (Some rules.Interleaved) (cond (here i) (Some rules.Interleaved) (sample_stop c own key (part_stop k labels told c.current))))
+    where
+      here : is_told_back c.setting.format k labels told c.current ≡ true
+      here = sym (ap (λ (m : Checking). is_told_back m.setting.format k labels told m.current) entered) ∙ back
 
   pub added_more : (broken ≡ None → after ≡ with_told mid k labels told) → (d : Checking) (value : Number) (answer : Option Rule) → answer ≡ sample_stop after own key broken
       → (answer ≡ None → d ≡ with_sample after key value) → answer ≡ None → d ≡ with_sample (with_told (entered_by c k labels) k labels told) key value
@@ -142,8 +160,57 @@ module _ (st : Setting) (c : Checking) (earlier : List Item) (F : List ℕ) (r :
       ∙ interleaved_passed st above F s (fit_lines st earlier r.faultless) free
 
   -- Interleaved, by the groups that have begun
-  back_here : is_back c k labels ≡ (not (is_alone (kind_of above F)) && is_interleaved st (kind_of above F) F (samples_of above F) s)
+  back_here : is_back c k labels ≡ (has_own_runs (kind_of above F) && is_interleaved st (kind_of above F) F (samples_of above F) s)
   back_here = (λ i. has_runs (r.setting i).format (kind i) && some_passes (λ x. goes_back (r.runs i) (key_in x (kind i) (kept_labels (r.setting i).treatment s.labels))) (r.current i)) ∙ interleaved_kept st above F s
+
+  -- Interleaved, by the groups of the family, where its kind has some
+  grouped_here : is_back_in_groups c.setting.format k labels c.current ≡ (is_grouped st.format (kind_of above F) && is_interleaved st (kind_of above F) F (samples_of above F) s)
+  unfolding so_far groups_so_far
+  grouped_here =
+      (λ i. is_back_in_groups (r.setting i).format (kind i) (kept_labels (r.setting i).treatment s.labels) (r.current i))
+      ∙ by (is_grouped st.format (kind_of above F)) (is_open_metrics st.format) refl refl
+    where
+      K : Kind
+      K = kind_of above F
+
+      by : (g o : Bool) → is_grouped st.format K ≡ g → is_open_metrics st.format ≡ o
+          → (g && o && is_overtaken (cond g (groups_from (map (entry_of st K F) (samples_of (reverse above) F))) []) (shared_labels K (kept_labels st.treatment s.labels))) ≡ (g && is_interleaved st K F (samples_of above F) s)
+      by false o here format_is = refl
+      by true false here format_is = sym (never_back st K F (samples_of above F) s format_is)
+      by true true here format_is =
+          (λ i. is_overtaken (groups_from (map (entry_of st K F) (reversed_samples above F i))) (sym (shared_group st K F s here) i))
+          ∙ overtaken_kept st K F format_is (samples_of above F) (together_samples st above F (fit_lines st earlier r.faultless)) s
+
+  -- the same, where something is told of the sample
+  told_back_here : is_told_back c.setting.format k labels (told_part st (kind_of above F) F s) c.current ≡ (is_grouped st.format (kind_of above F) && is_interleaved st (kind_of above F) F (samples_of above F) s)
+  told_back_here = by (has_bad_value st.format (kind_of above F) F s) (has_bad_threshold (kind_of above F) F s) (is_grouped st.format (kind_of above F)) refl
+    where
+      I : Bool
+      I = is_interleaved st (kind_of above F) F (samples_of above F) s
+
+      grouped_told : is_grouped st.format (kind_of above F) ≡ true → (is_overtaken_in k labels c.current && is_open_metrics c.setting.format) ≡ I
+      grouped_told here =
+          swapped (is_overtaken_in k labels c.current) (is_open_metrics c.setting.format)
+          ∙ ap (λ b. b && is_open_metrics c.setting.format && is_overtaken_in k labels c.current) (sym ((λ i. is_grouped (r.setting i).format (kind i)) ∙ here))
+          ∙ grouped_here ∙ ap (λ b. b && I) here
+        where
+          swapped : (a b : Bool) → (a && b) ≡ (true && b && a)
+          swapped true true = refl
+          swapped true false = refl
+          swapped false true = refl
+          swapped false false = refl
+
+      by : (v t g : Bool) → is_grouped st.format (kind_of above F) ≡ g
+          → is_told_back c.setting.format k labels (cond v (Err rules.Value) (cond t (Err rules.Threshold) (Ok (cond g (Some (part_of F s)) None)))) c.current ≡ (g && I)
+      by true t g here = grouped_here ∙ ap (λ b. b && I) here
+      by false true g here = grouped_here ∙ ap (λ b. b && I) here
+      by false false true here = grouped_told here
+      by false false false here = refl
+
+  -- both together
+  either_here : (has_own_runs (kind_of above F) && is_interleaved st (kind_of above F) F (samples_of above F) s || (is_grouped st.format (kind_of above F) && is_interleaved st (kind_of above F) F (samples_of above F) s))
+      ≡ (not (is_alone (kind_of above F)) && is_interleaved st (kind_of above F) F (samples_of above F) s)
+  either_here = back_by_kind st.format (kind_of above F) (is_interleaved st (kind_of above F) F (samples_of above F) s) (never_back st (kind_of above F) F (samples_of above F) s)
 
   -- Order, by the groups that are kept
   order_here : is_grouped st.format k ≡ true → has_wrong_suffix st (kind_of above F) F s ≡ false → has_bad_value st.format (kind_of above F) F s ≡ false → has_bad_threshold (kind_of above F) F s ≡ false
@@ -241,7 +308,12 @@ module _ (s : Sample) (c : Checking) (d : Checking) (own : is_current_sample c.s
         ≡ cond (is_duplicate st above s) (Some (cond (is_alone K && back) rules.Interleaved rules.Duplicate)) (last_fault st earlier F s) =
         ap (sample_stop c (own_samples c k) (key_of c.setting s)) (measure ∙ sym (or_none (measure_fault st K F (samples_of above F) s)))
         ∙ rest_kept st c earlier s F (own_samples c k) (is_alone K && back) (measure_fault st K F (samples_of above F) s) None stands passed refl left in
-        (λ i. cond (back_here st c earlier F ready s k kind i) (Some rules.Interleaved) (rest i))
+        let told_back : is_told_back c.setting.format k (kept_labels c.setting.treatment s.labels) told c.current ≡ (is_grouped st.format K && back) =
+        ap (λ t. is_told_back c.setting.format k (kept_labels c.setting.treatment s.labels) t c.current) (told_here st earlier stands) ∙ told_back_here st c earlier F ready s k kind in
+        let last : Option Rule = cond (is_duplicate st above s) (Some (cond (is_alone K && back) rules.Interleaved rules.Duplicate)) (last_fault st earlier F s) in
+        (λ i. cond (back_here st c earlier F ready s k kind i) (Some rules.Interleaved) (cond (told_back i) (Some rules.Interleaved) (rest i)))
+        ∙ either_refuses (has_own_runs K && back) (is_grouped st.format K && back) (Some rules.Interleaved) last
+        ∙ ap (λ b. cond b (Some rules.Interleaved) last) (either_here st c earlier F ready s k kind)
         ∙ back_first (is_alone K) back (is_duplicate st above s) (last_fault st earlier F s) (back_seen st above F s (fit_lines st earlier stands.faultless) (own_named st earlier stands))
         ∙ sym (own_fault st earlier stands before ∙ ap (λ b. cond b (Some rules.Exemplar) (cond (is_interleaved st K F (samples_of above F) s) (Some rules.Interleaved) (rest_fault st earlier F s))) good)
 
@@ -315,7 +387,13 @@ module _ (s : Sample) (c : Checking) (d : Checking) (other : is_current_sample c
         let here : IsReady st c earlier s.name = ready st earlier stands in
         let kind = ready_kind st c earlier s.name here in
         let passed = passed_here st c earlier s.name here s (current_kind c.current) kind (split_own st c earlier stands s.name (items.Sample s) h) in
-        ap Some (told ∙ (λ i. cond (back_here st c earlier s.name here s (current_kind c.current) kind i) rules.Interleaved (cond (passed i) rules.Interleaved rules.Suffix))
+        let K : Kind = kind_of above s.name in
+        let last : Rule = cond (is_alone K && back) rules.Interleaved rules.Suffix in
+        ap Some (told
+        ∙ (λ i. cond (back_here st c earlier s.name here s (current_kind c.current) kind i) rules.Interleaved
+        (cond (grouped_here st c earlier s.name here s (current_kind c.current) kind i) rules.Interleaved (cond (passed i) rules.Interleaved rules.Suffix)))
+        ∙ either_refuses (has_own_runs K && back) (is_grouped st.format K && back) rules.Interleaved last
+        ∙ ap (λ b. cond b rules.Interleaved last) (either_here st c earlier s.name here s (current_kind c.current) kind)
         ∙ back_or_suffix (is_alone (kind_of above s.name)) back)
         ∙ either back
         ∙ sym (other_fault st earlier stands before false false back true x (split_own st c earlier stands s.name (items.Sample s) h) refl (ap not (name_here st earlier stands))))
@@ -375,9 +453,17 @@ module _ (s : Sample) (c : Checking) (d : Checking) (other : is_current_sample c
       told_back None labels = refl
       told_back (Some rule) labels = refl
 
+      -- nor does it go back
+      unmet : (o : Option Rule) (labels : LabelSet) → is_told_back c.setting.format Unknown labels (told_left o) (begun c s.name).current ≡ false
+      unmet None labels = refl
+      unmet (Some rule) labels = refl
+
       begin_stop : add_stop (begun c s.name) Unknown s (told_left (left_stop c.current)) ≡ sample_stop c 0 (key_of c.setting s) (left_stop c.current)
       unfolding sample_stop
-      begin_stop = λ i. sample_stop c (no_own (is_open_metrics c.setting.format && true) i) (key_of c.setting s) (told_back (left_stop c.current) (kept_labels c.setting.treatment s.labels) i)
+      begin_stop =
+          ap (λ b. cond b (Some rules.Interleaved) (sample_stop (begun c s.name) (own_samples (begun c s.name) Unknown) (key_of c.setting s) (part_stop Unknown (kept_labels c.setting.treatment s.labels) (told_left (left_stop c.current)) (begun c s.name).current)))
+          (unmet (left_stop c.current) (kept_labels c.setting.treatment s.labels))
+          ∙ (λ i. sample_stop c (no_own (is_open_metrics c.setting.format && true) i) (key_of c.setting s) (told_back (left_stop c.current) (kept_labels c.setting.treatment s.labels) i))
 
       pub other_begins : (answer : Option Rule) → answer ≡ add_stop (begun c s.name) Unknown s (told_left (left_stop c.current))
           → (answer ≡ None → d ≡ with_added (begun c s.name) Unknown s (told_left (left_stop c.current))) → Takes (items.Sample s) c d answer

@@ -3,7 +3,7 @@
 use Rattle.std.specs.Prelude.{◌≡◌, ⊤, ℕ, Bool, true, false, not, ◌&&◌, List, [], ◌∷◌, ◌++◌, map, reverse, Option, None, Some, if◌then◌else◌}
 use Rattle.std.specs.List.{list_any}
 use Rattle.label_sets.specs.declared.kind.Kind.{Kind}
-use Rattle.label_sets.specs.declared.kind.Kind.TheVariants.{Gauge, Unknown, Info}
+use Rattle.label_sets.specs.declared.kind.Kind.TheVariants.{Gauge, Unknown, Info, StateSet}
 use Rattle.label_sets.specs.declared.label_set.LabelSet.{LabelSet}
 use Rattle.label_sets.specs.Labels.{label_sets_eq}
 use Rattle.label_sets.specs.Lists.{first_of_each, some_passes}
@@ -36,9 +36,14 @@ is_alone Unknown = true
 is_alone Info = true
 is_alone _ = false
 
--- the groups of this kind that have begun are kept: the format has the rule, and samples share groups
+-- samples of this kind share groups that make no readings, so that nothing else tells which have begun
+abbrev pub has_own_runs : Kind → Bool
+has_own_runs StateSet = true
+has_own_runs _ = false
+
+-- the groups of this kind that have begun are kept: the format has the rule, and nothing else tells them
 abbrev pub has_runs : Format → Kind → Bool
-has_runs f kind = if is_alone kind then false else is_open_metrics f
+has_runs f kind = if has_own_runs kind then is_open_metrics f else false
 
 -- what tells a group from the others: its family and the labels that its samples share
 abbrev pub group_key : List ℕ → LabelSet → SampleKey

@@ -19,9 +19,10 @@ use Rattle.page_model.specs.Suffixes.{is_sample_name}
 use Rattle.page_model.specs.Owners.{kept_labels, group_of}
 use Rattle.page_model.specs.Rules.{characters, is_open_metrics, is_bad_exemplar, has_wrong_suffix, has_bad_value, has_bad_threshold}
 use Rattle.sample_groups.specs.declared.part.Part.{Part}
-use Rattle.sample_groups.specs.Groups.{shared_labels, known_group, or_empty, with_part, breaks_order}
+use Rattle.sample_groups.specs.Groups.{shared_labels, known_group, or_empty, with_part, breaks_order, is_overtaken}
 use Rattle.sample_groups.specs.Parts.{is_grouped, part_of}
 use Rattle.packed_keys.specs.declared.sample_key.SampleKey.{SampleKey}
+use Rattle.family_rules.specs.declared.checker.samples.Told.{Told}
 use Rattle.family_rules.specs.declared.family.Current.{Current}
 use Rattle.family_rules.specs.declared.family.FamilySoFar.{FamilySoFar}
 use Rattle.family_rules.specs.KeyedValues.{is_key_of, samples_at_end, is_passed}
@@ -144,6 +145,26 @@ has_bad_exemplar (Some k) s = is_bad_exemplar (kind_in k.family) k.name s
 abbrev pub key_in : Current → Kind → LabelSet → SampleKey
 key_in k kind labels = group_key k.name (group_of kind k.name labels)
 
+-- the sample's group in the current family has begun, and another one after it
+abbrev pub is_overtaken_in : Kind → LabelSet → Option Current → Bool
+is_overtaken_in kind labels None = false
+is_overtaken_in kind labels (Some k) = is_overtaken k.family.groups (shared_labels kind labels)
+
+-- Interleaved: a sample of a kind with groups goes back to its group in the current family
+abbrev pub is_back_in_groups : Format → Kind → LabelSet → Option Current → Bool
+is_back_in_groups f kind labels current = is_grouped f kind && is_open_metrics f && is_overtaken_in kind labels current
+
+-- Interleaved, where something is told of a sample by the groups
+abbrev pub is_told_back : Format → Kind → LabelSet → Result (Option Part) Rule → Option Current → Bool
+is_told_back f kind labels (Ok None) current = false
+is_told_back f kind labels (Ok (Some part)) current = is_overtaken_in kind labels current && is_open_metrics f
+is_told_back f kind labels (Err rule) current = is_back_in_groups f kind labels current
+
+-- the answer to what was told of a sample
+pub record Tells (c : Checking) (kind : Kind) (labels : LabelSet) (told : Result (Option Part) Rule) (answer : Told) : Type 0 where
+  pub back : answer.back ≡ is_told_back c.setting.format kind labels told c.current
+  pub broken : answer.broken ≡ part_stop kind labels told c.current
+
 -- Interleaved: a sample of the current family goes back to its group, by the groups that have begun
 abbrev pub is_back : Checking → Kind → LabelSet → Bool
 is_back c kind labels = has_runs c.setting.format kind && some_passes (λ k. goes_back c.runs (key_in k kind labels)) c.current
@@ -163,6 +184,7 @@ entered_by c kind labels = record c { runs = runs_with c.setting.format c.curren
 abbrev pub add_stop : Checking → Kind → Sample → Result (Option Part) Rule → Option Rule
 add_stop c kind s told = let labels = kept_labels c.setting.treatment s.labels in
     if is_back c kind labels then Some rules.Interleaved
+    else if is_told_back c.setting.format kind labels told c.current then Some rules.Interleaved
     else sample_stop c (own_samples c kind) (key_of c.setting s) (part_stop kind labels told c.current)
 
 -- the current family has the sample
@@ -174,4 +196,5 @@ with_added c kind s told = let labels = kept_labels c.setting.treatment s.labels
 abbrev pub name_stop : Checking → Sample → Rule
 name_stop c s = let kind = current_kind c.current in let labels = kept_labels c.setting.treatment s.labels in
     if is_back c kind labels then rules.Interleaved
+    else if is_back_in_groups c.setting.format kind labels c.current then rules.Interleaved
     else if is_passed labels (samples_at_end (own_samples c kind) c.seen) then rules.Interleaved else rules.Suffix

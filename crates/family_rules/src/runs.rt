@@ -2,7 +2,7 @@
 ghost use Rattle.std.specs.Prelude.{◌≡◌, false, IfOk};
 ghost use Rattle.std.specs.Str.{bytes_eq};
 ghost use Rattle.page_model.specs.Owners.{group_of};
-ghost use Rattle.family_rules.specs.GroupRuns.{no_runs, is_alone, group_key, is_of_nearest, goes_back, with_group};
+ghost use Rattle.family_rules.specs.GroupRuns.{no_runs, is_alone, has_own_runs, group_key, is_of_nearest, goes_back, with_group};
 
 use label_sets::{Kind, LabelSet, Memory, Name};
 use packed_keys::{SampleKey, SeenKeys};
@@ -34,6 +34,13 @@ pub fn is_alone(kind: Kind) -> bool
     ensures { result ≡ is_alone kind }
 {
     matches!(kind, Kind::Gauge | Kind::Unknown | Kind::Info)
+}
+
+/// Whether samples of this kind share groups that make no readings, so that nothing else tells which have begun.
+pub fn has_own_runs(kind: Kind) -> bool
+    ensures { result ≡ has_own_runs kind }
+{
+    matches!(kind, Kind::StateSet)
 }
 
 /// The labels that a sample of this kind of family shares with those of its group.

@@ -1,14 +1,17 @@
 -- The place of a group among the groups, and the group with one part more.
 use Rattle.std.proofs.Common.{◌≡◌, ℕ, zero, suc, ◌+◌, ◌<◌, Bool, true, false, cond, not, ◌&&◌, ◌||◌, ◌==◌, List, [], ◌∷◌, ◌++◌, map, filter_map, length, drop, append_assoc, slice_get, slice_set, get_or, Option, Some, None, refl, sym, ap, subst, ◌∙◌, arith}
 use Rattle.std.specs.List.{list_any, list_all, zip, cons_option}
+use Rattle.std.specs.Prelude.{nat_lt}
 use Rattle.std.proofs.lemmas.Bool.{eqb-true, eqb-false}
+use Rattle.std.proofs.lemmas.Bool.Decides.{nat_tests}
 use Rattle.label_sets.specs.declared.label_set.LabelSet.{LabelSet}
 use Rattle.label_sets.specs.declared.kind.Kind.{Kind}
 use Rattle.label_sets.proofs.Laws.{sets_decide}
 use Rattle.label_sets.specs.Labels.{label_sets_eq}
 use Rattle.page_model.specs.declared.page.Reading.{Reading}
+use Rattle.sample_groups.specs.declared.added.Added.{Added}
 use Rattle.sample_groups.specs.declared.part.Part.{Part}
-use Rattle.sample_groups.specs.Groups.{Gathered, empty_group, known_group, or_empty, with_one, put_group, with_part, breaks_order, shared_labels, AddsPart, is_whole_group, reading_named}
+use Rattle.sample_groups.specs.Groups.{Gathered, empty_group, known_group, or_empty, with_one, put_group, with_part, breaks_order, is_overtaken, shared_labels, AddsPart, is_whole_group, reading_named}
 use Rattle.sample_groups.specs.Beside.{AreBeside}
 use Rattle.packed_keys.specs.Packing.{with_set}
 use Rattle.sample_groups.specs.Placing.{HasPlace, with_group_at}
@@ -58,6 +61,36 @@ put_missing (s ∷ ss) (k ∷ gs) labels e new h g = by (label_sets_eq labels s)
     by true n more = absurd (let no : true ≡ false = n in cc)
     by false n more = ap (λ es. (s, k) ∷ es) (more n)
 
+-- ---- a group with others behind it
+
+one_below : (a b : ℕ) → nat_lt (suc (suc a)) (suc b) ≡ nat_lt (suc a) b
+one_below a b = grind (arith, nat_tests)
+
+first_below : (b : ℕ) → nat_lt 1 (suc b) ≡ nat_lt 0 b
+first_below b = grind (arith, nat_tests)
+
+last_below : (a : ℕ) → nat_lt (suc a) (suc a) ≡ false
+last_below a = grind (arith, nat_tests)
+
+overtaken_found : (ss : List LabelSet) (gs : List Gathered) (i : ℕ) (labels : LabelSet) → AreBeside label_sets_eq ss gs → slice_get ss i ≡ Some labels → nat_lt (suc i) (length (zip ss gs)) ≡ is_overtaken (zip ss gs) labels
+overtaken_found [] gs i labels b e = absurd (let no : None ≡ Some labels = e in cc)
+overtaken_found (s ∷ ss) [] i labels b e = absurd (let no : suc (length ss) ≡ 0 = b.many in omega arith)
+overtaken_found (s ∷ ss) (h ∷ gs) zero labels b e =
+    let one : s ≡ labels = cc in first_below (length (zip ss gs)) ∙ ap (λ c. cond c (nat_lt 0 (length (zip ss gs))) (is_overtaken (zip ss gs) labels)) (sym ((sets_decide labels s).1 (sym one)))
+overtaken_found (s ∷ ss) (h ∷ gs) (suc i) labels b e =
+    one_below i (length (zip ss gs))
+    ∙ overtaken_found ss gs i labels (record { many = suc_same (length ss) (length gs) b.many; distinct = distinct_rest label_sets_eq sets_decide s ss b.distinct }) e
+    ∙ ap (λ c. cond c (nat_lt 0 (length (zip ss gs))) (is_overtaken (zip ss gs) labels)) (sym (first_apart_from label_sets_eq sets_decide ss i s labels b.distinct e))
+
+overtaken_missing : (ss : List LabelSet) (gs : List Gathered) (labels : LabelSet) → list_any (label_sets_eq labels) ss ≡ false → is_overtaken (zip ss gs) labels ≡ false
+overtaken_missing [] gs labels new = refl
+overtaken_missing (s ∷ ss) [] labels new = refl
+overtaken_missing (s ∷ ss) (k ∷ gs) labels new = by (label_sets_eq labels s) new (overtaken_missing ss gs labels)
+  where
+    by : (b : Bool) → (b || list_any (label_sets_eq labels) ss) ≡ false → (list_any (label_sets_eq labels) ss ≡ false → is_overtaken (zip ss gs) labels ≡ false) → cond b (nat_lt 0 (length (zip ss gs))) (is_overtaken (zip ss gs) labels) ≡ false
+    by true n more = absurd (let no : true ≡ false = n in cc)
+    by false n more = more n
+
 -- ---- the place of a group
 
 pub at_found : (ss : List LabelSet) (gs : List Gathered) (i : ℕ) (labels : LabelSet) → AreBeside label_sets_eq ss gs → slice_get ss i ≡ Some labels → HasPlace (zip ss gs) (zip ss gs) labels i
@@ -66,6 +99,7 @@ at_found ss gs i labels b at =
     let within : i < length gs = subst (λ n. i < n) b.many (place_within ss i labels at) in record {
       within = subst (λ n. i < n) (sym (many_pairs ss gs b.many)) within;
       group = ap (λ l. slice_get l i) (values_of ss gs b.many) ∙ some_at gs i within ∙ ap (λ o. Some (or_empty o)) (sym value);
+      overtaken = overtaken_found ss gs i labels b at;
       put = put_found ss gs i labels b at;
     }
   where
@@ -87,6 +121,8 @@ at_end ss gs labels many new =
       within = subst (λ l. length gs < length l) (sym pairs) (let one : length (zip ss gs ++ (labels, empty_group) ∷ []) ≡ suc (length (zip ss gs)) = one_more (zip ss gs) (labels, empty_group) in omega arith);
       group = ap (λ l. slice_get (map (λ (e : LabelSet × Gathered). e.1) l) (length gs)) pairs ∙ ap (slice_get (map (λ (e : LabelSet × Gathered). e.1) (zip ss gs ++ (labels, empty_group) ∷ []))) (sym size)
           ∙ last_value (zip ss gs) (labels, empty_group) ∙ ap (λ o. Some (or_empty o)) (sym (missing_beside label_sets_eq sets_decide ss gs labels new));
+      overtaken = ap (λ l. nat_lt (suc (length gs)) (length l)) pairs ∙ ap (nat_lt (suc (length gs))) (one_more (zip ss gs) (labels, empty_group) ∙ ap suc size) ∙ last_below (length gs)
+          ∙ sym (overtaken_missing ss gs labels new);
       put = λ g. ap (λ l. with_group_at l (length gs) g) pairs ∙ put_missing ss gs labels many new empty_group g;
     }
   where
@@ -189,18 +225,26 @@ with_other labels first g es part other =
     ∙ ap (λ b. cond b ((first, with_one (or_empty (known_group ((first, g) ∷ es) labels)) part) ∷ es) ((first, g) ∷ put_group es labels (with_one (or_empty (known_group ((first, g) ∷ es) labels)) part))) (sym other)
 
 -- a part added to the first group, or to one of the others
-module _ (kind : Kind) (labels : LabelSet) (part : Part) (first : LabelSet) (g : Gathered) (es : List (LabelSet × Gathered)) (is_added : Bool) where
-  pub adds_first : (grown : Gathered) → label_sets_eq (shared_labels kind labels) first ≡ true → is_added ≡ not (breaks_order g part) → (is_added ≡ true → grown ≡ with_one g part)
-      → AddsPart kind labels part ((first, g) ∷ es) ((first, grown) ∷ es) is_added
-  adds_first grown own answer added = record {
+pub overtaken_first : (labels first : LabelSet) (g : Gathered) (es : List (LabelSet × Gathered)) → label_sets_eq labels first ≡ true → nat_lt 0 (length es) ≡ is_overtaken ((first, g) ∷ es) labels
+overtaken_first labels first g es own = ap (λ b. cond b (nat_lt 0 (length es)) (is_overtaken es labels)) (sym own)
+
+pub overtaken_other : (labels first : LabelSet) (g : Gathered) (es : List (LabelSet × Gathered)) → label_sets_eq labels first ≡ false → is_overtaken es labels ≡ is_overtaken ((first, g) ∷ es) labels
+overtaken_other labels first g es other = ap (λ b. cond b (nat_lt 0 (length es)) (is_overtaken es labels)) (sym other)
+
+module _ (kind : Kind) (labels : LabelSet) (part : Part) (first : LabelSet) (g : Gathered) (es : List (LabelSet × Gathered)) (added : Added) where
+  pub adds_first : (grown : Gathered) → label_sets_eq (shared_labels kind labels) first ≡ true → added.fits ≡ not (breaks_order g part) → added.overtaken ≡ nat_lt 0 (length es) → (added.fits ≡ true → grown ≡ with_one g part)
+      → AddsPart kind labels part ((first, g) ∷ es) ((first, grown) ∷ es) added
+  adds_first grown own answer back more = record {
     answer = answer ∙ ap (λ h. not (breaks_order h part)) (known_first (shared_labels kind labels) first g es own);
-    added = λ e. ap (λ h. (first, h) ∷ es) (added e) ∙ with_first (shared_labels kind labels) first g es part own;
+    overtaken = back ∙ overtaken_first (shared_labels kind labels) first g es own;
+    grown = λ e. ap (λ h. (first, h) ∷ es) (more e) ∙ with_first (shared_labels kind labels) first g es part own;
   }
 
-  pub adds_other : (new : List (LabelSet × Gathered)) → label_sets_eq (shared_labels kind labels) first ≡ false → AddsPart kind labels part es new is_added → AddsPart kind labels part ((first, g) ∷ es) ((first, g) ∷ new) is_added
+  pub adds_other : (new : List (LabelSet × Gathered)) → label_sets_eq (shared_labels kind labels) first ≡ false → AddsPart kind labels part es new added → AddsPart kind labels part ((first, g) ∷ es) ((first, g) ∷ new) added
   adds_other new other adds = record {
     answer = adds.answer ∙ ap (λ k. not (breaks_order (or_empty k) part)) (known_other (shared_labels kind labels) first g es other);
-    added = λ e. ap (λ l. (first, g) ∷ l) (adds.added e) ∙ with_other (shared_labels kind labels) first g es part other;
+    overtaken = adds.overtaken ∙ overtaken_other (shared_labels kind labels) first g es other;
+    grown = λ e. ap (λ l. (first, g) ∷ l) (adds.grown e) ∙ with_other (shared_labels kind labels) first g es part other;
   }
 
 -- the first part of a family
@@ -255,3 +299,10 @@ pub grown_here : (old new : List (LabelSet × Gathered)) (ss : List LabelSet) (g
 grown_here old new ss gs labels place before after part has is many at more =
     set_beside ss gs place after ∙ ap (λ l. with_group_at l place after) is
     ∙ added_at old new labels place before after part has (ap (λ l. slice_get (map (λ (e : LabelSet × Gathered). e.1) l) place) (sym is) ∙ ap (λ l. slice_get l place) (values_of ss gs many) ∙ read_at gs place before (within_groups old new ss gs labels place has is many) at) more
+
+-- the groups behind its place tell whether it goes back
+pub overtaken_here : (old new : List (LabelSet × Gathered)) (ss : List LabelSet) (gs : List Gathered) (labels : LabelSet) (place : ℕ) → HasPlace old new labels place → zip ss gs ≡ new → length ss ≡ length gs
+    → nat_lt (place + 1) (length gs) ≡ is_overtaken old labels
+overtaken_here old new ss gs labels place has is many =
+    let next : place + 1 ≡ suc place = omega arith in
+    (λ i. nat_lt (next i) ((sym (many_pairs ss gs many) ∙ ap length is) i)) ∙ has.overtaken

@@ -1,6 +1,6 @@
 -- The groups of a family whose readings have several samples: the samples that share their labels, but for those that tell buckets and quantiles apart.
 -- OpenMetrics 1.0, "Metric" and "MetricPoint" of "Counter", "Histogram", "GaugeHistogram" and "Summary".
-use Rattle.std.specs.Prelude.{◌≡◌, ℕ, Bool, true, false, not, ◌&&◌, ◌||◌, ◌==◌, List, [], ◌∷◌, ◌++◌, map, filter, filter_map, length, codes, Option, Some, None, option_map, is_some, nat_le, if◌then◌else◌}
+use Rattle.std.specs.Prelude.{◌≡◌, ℕ, Bool, true, false, not, ◌&&◌, ◌||◌, ◌==◌, List, [], ◌∷◌, ◌++◌, map, filter, filter_map, length, codes, Option, Some, None, option_map, is_some, nat_le, nat_lt, if◌then◌else◌}
 use Rattle.std.specs.List.{list_all, last_or, cons_option}
 use Rattle.std.specs.Map.{lookup}
 use Rattle.std.specs.Option.{option_or}
@@ -20,6 +20,7 @@ use Rattle.page_model.specs.Rules.{is_up}
 use Rattle.page_model.specs.Readings.{key_name}
 use Rattle.page_model.specs.declared.format.Format.{Format}
 use Rattle.sample_groups.specs.Places.{has_place}
+use Rattle.sample_groups.specs.declared.added.Added.{Added}
 use Rattle.sample_groups.specs.declared.part.Part.{Part}
 use Rattle.sample_groups.specs.declared.part.Part.TheVariants as parts
 
@@ -144,6 +145,11 @@ abbrev pub or_empty : Option Gathered → Gathered
 or_empty None = empty_group
 or_empty (Some g) = g
 
+-- the group has begun, and another one after it
+abbrev pub is_overtaken : List (LabelSet × Gathered) → LabelSet → Bool
+is_overtaken [] labels = false
+is_overtaken (e ∷ es) labels = if label_sets_eq labels e.0 then nat_lt 0 (length es) else is_overtaken es labels
+
 -- the groups with this one in place of the one with its labels, or behind the others
 abbrev pub put_group : List (LabelSet × Gathered) → LabelSet → Gathered → List (LabelSet × Gathered)
 put_group [] labels g = (labels, g) ∷ []
@@ -176,9 +182,10 @@ abbrev pub is_whole_group : Gathered → Bool
 is_whole_group g = ends_with (last_or None g.buckets) g
 
 -- the answer to a part of a sample with these labels: it is added to its group, unless it breaks the order there
-pub record AddsPart (kind : Kind) (labels : LabelSet) (part : Part) (old new : List (LabelSet × Gathered)) (is_added : Bool) : Type 0 where
-  pub answer : is_added ≡ not (breaks_order (or_empty (known_group old (shared_labels kind labels))) part)
-  pub added : is_added ≡ true → new ≡ with_part old (shared_labels kind labels) part
+pub record AddsPart (kind : Kind) (labels : LabelSet) (part : Part) (old new : List (LabelSet × Gathered)) (added : Added) : Type 0 where
+  pub answer : added.fits ≡ not (breaks_order (or_empty (known_group old (shared_labels kind labels))) part)
+  pub overtaken : added.overtaken ≡ is_overtaken old (shared_labels kind labels)
+  pub grown : added.fits ≡ true → new ≡ with_part old (shared_labels kind labels) part
 
 -- ---- readings
 

@@ -2,8 +2,9 @@
 ghost use Rattle.std.specs.Prelude.{◌≡◌, [], true, not, filter_map, IfOk};
 ghost use Rattle.std.specs.List.{list_all};
 ghost use Rattle.label_sets.specs.declared.label_set.LabelSet.{LabelSet as Labels};
-ghost use Rattle.sample_groups.specs.Groups.{Gathered, with_part, known_group, or_empty, breaks_order, is_whole_group, reading_from, shared_labels};
+ghost use Rattle.sample_groups.specs.Groups.{Gathered, with_part, known_group, or_empty, breaks_order, is_overtaken, is_whole_group, reading_from, shared_labels};
 
+use crate::added::Added;
 use crate::part::Part;
 use crate::reading::key_name;
 use crate::shared::shared_labels;
@@ -46,16 +47,18 @@ impl Groups {
 
     /// Adds a part of a sample with these labels to its group, unless it breaks the order of the group: a
     /// bucket that isn't above the last one, or has fewer observations, or a quantile that the group has
-    /// already. Where it was not added, nothing is said of the groups any more.
+    /// already. Where it was not added, nothing is said of the groups any more. Also answers whether the
+    /// group is overtaken.
     pub fn add(
         &mut self,
         alloc: Global,
         kind: Kind,
         labels: &LabelSet,
         part: Part,
-    ) -> Result<bool, Memory>
-        ensures answer { IfOk result (λ added. added ≡ not (breaks_order (or_empty (known_group self.old (shared_labels kind labels.now))) part)) }
-        ensures added { IfOk result (λ added. added ≡ true → self.new ≡ with_part self.old (shared_labels kind labels.now) part) }
+    ) -> Result<Added, Memory>
+        ensures answer { IfOk result (λ added. added.fits ≡ not (breaks_order (or_empty (known_group self.old (shared_labels kind labels.now))) part)) }
+        ensures overtaken { IfOk result (λ added. added.overtaken ≡ is_overtaken self.old (shared_labels kind labels.now)) }
+        ensures added { IfOk result (λ added. added.fits ≡ true → self.new ≡ with_part self.old (shared_labels kind labels.now) part) }
     {
         match &mut self.table {
             Some(table) => {
@@ -69,6 +72,22 @@ impl Groups {
                 self.table = Some(Box::new(alloc, table)?);
                 Ok(added)
             }
+        }
+    }
+
+    /// Whether the group of a sample with these labels is overtaken: it has begun, and another one after it.
+    /// Nothing is said of the groups any more.
+    pub fn is_overtaken(
+        &mut self,
+        alloc: Global,
+        kind: Kind,
+        labels: &LabelSet,
+    ) -> Result<bool, Memory>
+        ensures { IfOk result (λ overtaken. overtaken ≡ is_overtaken self.old (shared_labels kind labels.now)) }
+    {
+        match &mut self.table {
+            Some(table) => table.is_overtaken(alloc, kind, labels),
+            None => Ok(false),
         }
     }
 

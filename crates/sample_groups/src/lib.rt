@@ -2,6 +2,7 @@
 //! histograms and summaries, and of OpenMetrics' counters.
 #![tactic(auto)]
 
+mod added;
 mod group;
 mod groups;
 mod others;
@@ -14,5 +15,6 @@ mod table;
 #[cfg(test)]
 mod tests;
 
+pub use added::Added;
 pub use groups::Groups;
 pub use part::{Part, is_grouped, part_of};

@@ -5,9 +5,10 @@ ghost use Rattle.std.specs.Vec.{vec_capacity};
 ghost use Rattle.label_sets.specs.declared.label_set.LabelSet.{LabelSet as Labels};
 ghost use Rattle.label_sets.specs.Labels.{label_sets_eq};
 ghost use Rattle.sample_groups.specs.Beside.{AreBeside};
-ghost use Rattle.sample_groups.specs.Groups.{Gathered, empty_group, AddsPart, is_whole_group, reading_named, shared_labels};
+ghost use Rattle.sample_groups.specs.Groups.{Gathered, empty_group, AddsPart, is_overtaken, is_whole_group, reading_named, shared_labels};
 ghost use Rattle.sample_groups.specs.Placing.{HasPlace};
 
+use crate::added::Added;
 use crate::group::Group;
 use crate::part::Part;
 use crate::reading::put_reading;
@@ -176,12 +177,29 @@ impl Others {
         kind: Kind,
         labels: &LabelSet,
         part: Part,
-    ) -> Result<bool, Memory>
+    ) -> Result<Added, Memory>
         ensures { IfOk result (AddsPart kind labels.now part self.old self.new) }
     {
         let place = self.place_from(alloc, kind, labels)?;
-        let added = self.groups[place].add(alloc, part)?;
-        Ok(added)
+        let count = self.groups.len();
+        let overtaken = place + 1 < count;
+        let fits = self.groups[place].add(alloc, part)?;
+        Ok(Added { fits, overtaken })
+    }
+
+    /// Whether the group of a sample of this kind with these labels is overtaken. Nothing is said of the groups
+    /// any more.
+    pub(crate) fn is_overtaken(
+        &mut self,
+        alloc: Global,
+        kind: Kind,
+        labels: &LabelSet,
+    ) -> Result<bool, Memory>
+        ensures { IfOk result (λ overtaken. overtaken ≡ is_overtaken self.old (shared_labels kind labels.now)) }
+    {
+        let place = self.place_from(alloc, kind, labels)?;
+        let count = self.groups.len();
+        Ok(place + 1 < count)
     }
 
     /// Whether each group of a histogram is whole.

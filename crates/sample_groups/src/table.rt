@@ -1,10 +1,11 @@
 //! The groups of a family that has some, in the order of their first lines.
-ghost use Rattle.std.specs.Prelude.{◌≡◌, [], ◌∷◌, filter_map, IfOk};
+ghost use Rattle.std.specs.Prelude.{◌≡◌, [], ◌∷◌, filter_map, length, nat_lt, IfOk};
 ghost use Rattle.std.specs.List.{list_all};
 ghost use Rattle.label_sets.specs.declared.label_set.LabelSet.{LabelSet as Labels};
-ghost use Rattle.sample_groups.specs.Groups.{Gathered, empty_group, AddsPart, is_whole_group, reading_named};
+ghost use Rattle.sample_groups.specs.Groups.{Gathered, empty_group, AddsPart, is_overtaken, is_whole_group, reading_named, shared_labels};
 ghost use Rattle.sample_groups.specs.Tables.{others_in};
 
+use crate::added::Added;
 use crate::group::Group;
 use crate::others::Others;
 use crate::part::Part;
@@ -44,7 +45,7 @@ fn add_other(
     kind: Kind,
     labels: &LabelSet,
     part: Part,
-) -> Result<bool, Memory>
+) -> Result<Added, Memory>
     ensures { IfOk result (AddsPart kind labels.now part (others_in others.old) (others_in others.new)) }
 {
     match others {
@@ -58,6 +59,31 @@ fn add_other(
             *others = Some(Box::new(alloc, first)?);
             Ok(added)
         }
+    }
+}
+
+/// Whether there are other groups.
+fn has_others(others: &Option<Box<Others>>) -> bool
+    ensures { result ≡ nat_lt 0 (length (others_in others.now)) }
+{
+    match others {
+        Some(others) => others.len() > 0,
+        None => false,
+    }
+}
+
+/// Whether the group of a sample is one of the others and overtaken. Nothing is said of them any more.
+fn is_other_overtaken(
+    alloc: Global,
+    others: &mut Option<Box<Others>>,
+    kind: Kind,
+    labels: &LabelSet,
+) -> Result<bool, Memory>
+    ensures { IfOk result (λ overtaken. overtaken ≡ is_overtaken (others_in others.old) (shared_labels kind labels.now)) }
+{
+    match others {
+        Some(others) => others.is_overtaken(alloc, kind, labels),
+        None => Ok(false),
     }
 }
 
@@ -81,15 +107,32 @@ impl Table {
         kind: Kind,
         labels: &LabelSet,
         part: Part,
-    ) -> Result<bool, Memory>
+    ) -> Result<Added, Memory>
         ensures { IfOk result (AddsPart kind labels.now part self.old self.new) }
     {
         if are_shared(kind, labels, &self.first_labels) {
-            let added = self.first.add(alloc, part)?;
-            return Ok(added);
+            let overtaken = has_others(&self.others);
+            let fits = self.first.add(alloc, part)?;
+            return Ok(Added { fits, overtaken });
         }
         let added = add_other(alloc, &mut self.others, kind, labels, part)?;
         Ok(added)
+    }
+
+    /// Whether the group of a sample of this kind with these labels is overtaken. Nothing is said of the groups
+    /// any more.
+    pub(crate) fn is_overtaken(
+        &mut self,
+        alloc: Global,
+        kind: Kind,
+        labels: &LabelSet,
+    ) -> Result<bool, Memory>
+        ensures { IfOk result (λ overtaken. overtaken ≡ is_overtaken self.old (shared_labels kind labels.now)) }
+    {
+        if are_shared(kind, labels, &self.first_labels) {
+            return Ok(has_others(&self.others));
+        }
+        is_other_overtaken(alloc, &mut self.others, kind, labels)
     }
 
     /// Whether each group of a histogram is whole.

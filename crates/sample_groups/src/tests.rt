@@ -56,7 +56,8 @@ fn gather(
         let sample = sample(alloc, kind, *row)?;
         match part_of(kind, &family, &sample) {
             Ok(part) => {
-                if !groups.add(alloc, kind, &sample.labels, part)? {
+                let added = groups.add(alloc, kind, &sample.labels, part)?;
+                if !added.fits {
                     return Ok(Some(Rule::Order));
                 }
             }

@@ -1,20 +1,30 @@
 //! Samples of the family that goes on, and of one that they begin.
 ghost use Rattle.std.specs.Prelude.{◌≡◌, None, true, false, IfOk, OnOk};
 ghost use Rattle.page_model.specs.Owners.{kept_labels};
+ghost use Rattle.page_model.specs.Rules.{is_open_metrics};
 ghost use Rattle.page_model.specs.declared.item.Item.TheVariants as items;
 ghost use Rattle.family_rules.specs.GroupRuns.{has_runs};
 ghost use Rattle.family_rules.specs.Steps.{Takes, with_current, left_stop};
-ghost use Rattle.family_rules.specs.Samples.{TellsPart, is_current_sample, current_samples, own_samples, has_bad_exemplar, with_counted, with_part_at, with_told, told_left, fits_order, part_stop, is_back, entered_by, with_sample, with_added, seen_rule, sample_stop, add_stop, name_stop};
+ghost use Rattle.family_rules.specs.Samples.{TellsPart, is_current_sample, current_samples, own_samples, has_bad_exemplar, is_overtaken_in, is_back_in_groups, Tells, with_counted, with_part_at, with_told, told_left, fits_order, is_back, entered_by, with_sample, with_added, seen_rule, sample_stop, add_stop, name_stop};
 
 use super::ItemChecker;
 use crate::exemplars::is_bad_exemplar;
-use crate::runs::{group_labels, is_alone};
+use crate::runs::{group_labels, has_own_runs, is_alone};
 use crate::sample_values::part_or_rule;
 use exact_decimal::Number;
 use label_sets::{Kind, LabelSet, Memory, Name};
 use packed_keys::SampleKey;
 use page_model::{Format, Rule, Sample, Treatment, is_sample_name};
-use sample_groups::Part;
+use sample_groups::{Added, Part, is_grouped};
+
+/// What is told of a sample by the groups of the current family.
+#[derive(Drop)]
+pub(crate) struct Told {
+    /// It goes back to its group.
+    pub back: bool,
+    /// The rule that it breaks otherwise.
+    pub broken: Option<Rule>,
+}
 
 impl ItemChecker {
     /// Whether the family of the nearest line owns a sample of this name.
@@ -141,7 +151,8 @@ impl ItemChecker {
         }
     }
 
-    /// Adds a sample of the current family to its group, and answers whether it goes back to it: rule 12.
+    /// Adds a sample of the current family to its group, where that has no parts, and answers whether it goes back
+    /// to it: rule 12.
     #[inline(always)]
     fn enter(&mut self, kind: Kind, labels: &LabelSet) -> Result<bool, Memory>
         ensures back { IfOk result (λ back. back ≡ is_back self.old kind labels.now) }
@@ -163,7 +174,7 @@ impl ItemChecker {
     fn has_runs(&self, kind: Kind) -> bool
         ensures { result ≡ has_runs self.now.setting.format kind }
     {
-        if is_alone(kind) {
+        if !has_own_runs(kind) {
             return false;
         }
         match self.format {
@@ -172,36 +183,81 @@ impl ItemChecker {
         }
     }
 
-    /// Adds a part to its group in the current family, unless it breaks rule 17.
-    fn add_part(&mut self, kind: Kind, labels: &LabelSet, part: Part) -> Result<bool, Memory>
-        ensures answer { IfOk result (λ added. added ≡ fits_order kind labels.now part self.old.current) }
-        ensures added { IfOk result (λ added. added ≡ true → self.new ≡ with_part_at self.old kind labels.now part) }
+    /// Whether the format has rule 12.
+    fn has_order(&self) -> bool
+        ensures { result ≡ is_open_metrics self.now.setting.format }
+    {
+        match self.format {
+            Format::Text => false,
+            Format::OpenMetrics => true,
+        }
+    }
+
+    /// Adds a part to its group in the current family, unless it breaks rule 17, and answers whether it goes back
+    /// to it.
+    fn add_part(&mut self, kind: Kind, labels: &LabelSet, part: Part) -> Result<Added, Memory>
+        ensures answer { IfOk result (λ added. added.fits ≡ fits_order kind labels.now part self.old.current) }
+        ensures overtaken { IfOk result (λ added. added.overtaken ≡ is_overtaken_in kind labels.now self.old.current) }
+        ensures added { IfOk result (λ added. added.fits ≡ true → self.new ≡ with_part_at self.old kind labels.now part) }
         ensures rest { OnOk result (self.new ≡ with_current self.old self.new.current) }
     {
         match &mut self.current {
             Some(current) => current.family.groups.add(self.alloc, kind, labels, part),
-            None => Ok(true),
+            None => Ok(Added {
+                fits: true,
+                overtaken: false,
+            }),
         }
     }
 
-    /// Adds what was told of a sample to the current family, or answers the rule that it breaks: 15 to 18.
+    /// Rule 12: a sample of a kind with groups goes back to its group in the current family. Nothing is said of the
+    /// groups any more.
+    fn goes_back(&mut self, kind: Kind, labels: &LabelSet) -> Result<bool, Memory>
+        ensures back { IfOk result (λ back. back ≡ is_back_in_groups self.old.setting.format kind labels.now self.old.current) }
+        ensures rest { OnOk result (self.new ≡ with_current self.old self.new.current) }
+    {
+        if !is_grouped(self.format, kind) {
+            return Ok(false);
+        }
+        if !self.has_order() {
+            return Ok(false);
+        }
+        match &mut self.current {
+            Some(current) => current.family.groups.is_overtaken(self.alloc, kind, labels),
+            None => Ok(false),
+        }
+    }
+
+    /// Adds what was told of a sample to the current family, or answers the rule that it breaks: 12, 15 to 18.
     fn add_told(
         &mut self,
         kind: Kind,
         labels: &LabelSet,
         told: Result<Option<Part>, Rule>,
-    ) -> Result<Option<Rule>, Memory>
-        ensures broken { IfOk result (λ broken. broken ≡ part_stop kind labels.now told self.old.current) }
-        ensures added { IfOk result (λ broken. broken ≡ None → self.new ≡ with_told self.old kind labels.now told) }
+    ) -> Result<Told, Memory>
+        ensures told { IfOk result (λ answer. Tells self.old kind labels.now told answer) }
+        ensures added { IfOk result (λ answer. answer.broken ≡ None → self.new ≡ with_told self.old kind labels.now told) }
         ensures rest { OnOk result (self.new ≡ with_current self.old self.new.current) }
     {
         match told {
             Ok(Some(part)) => {
                 let added = self.add_part(kind, labels, part)?;
-                Ok((!added).then_some(Rule::Order))
+                Ok(Told {
+                    back: added.overtaken && self.has_order(),
+                    broken: (!added.fits).then_some(Rule::Order),
+                })
             }
-            Ok(None) => Ok(None),
-            Err(rule) => Ok(Some(rule)),
+            Ok(None) => Ok(Told {
+                back: false,
+                broken: None,
+            }),
+            Err(rule) => {
+                let back = self.goes_back(kind, labels)?;
+                Ok(Told {
+                    back,
+                    broken: Some(rule),
+                })
+            }
         }
     }
 
@@ -229,8 +285,11 @@ impl ItemChecker {
         if back {
             return Ok(Some(Rule::Interleaved));
         }
-        let broken = self.add_told(kind, &labels, told)?;
-        self.add_key(own, SampleKey { name, labels }, value, broken)
+        let met = self.add_told(kind, &labels, told)?;
+        if met.back {
+            return Ok(Some(Rule::Interleaved));
+        }
+        self.add_key(own, SampleKey { name, labels }, value, met.broken)
     }
 
     /// Takes a sample of the current family, and answers the rule that it breaks: 10, 12, 14 to 17 or 20.
@@ -254,6 +313,10 @@ impl ItemChecker {
         let labels = self.kept_labels(sample.labels)?;
         let own = self.own_samples(kind);
         let back = self.enter(kind, &labels)?;
+        if back {
+            return Ok(Rule::Interleaved);
+        }
+        let back = self.goes_back(kind, &labels)?;
         if back {
             return Ok(Rule::Interleaved);
         }
