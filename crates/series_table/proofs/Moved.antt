@@ -1,5 +1,5 @@
 -- A track whose second page is moved out keeps what a track keeps.
-use Rattle.std.proofs.Common.{◌≡◌, refl}
+use Rattle.std.proofs.Common.{refl}
 use Rattle.series_table.specs.Talking.{Talking}
 use Rattle.series_table.specs.Records.{Kept, HasRecord, IsTrack}
 use Rattle.series_table.specs.Moving.{without_second}

@@ -8,4 +8,4 @@ use Rattle.series_table.proofs.track.Track.take_second.Goals as goal
 pub invariant_of-self : goal.invariant_of-self
 invariant_of-self g c =
     subst (λ second. IsTrack talking (kept_by c.self.inside.aim (g.W.Wire.state c.self.inside.scrape) (g.W.Wire.state c.self.inside.post) c.self.inside.state c.self.inside.shown second c.self.inside.counts c.self.inside.halted))
-        (sym c.replace.ensures.after) (track-without_second talking _ c.self.invariant)
+    (sym c.replace.ensures.after) (track-without_second talking _ c.self.invariant)
