@@ -1,4 +1,13 @@
 mod Places
 mod Isolated
 mod Bodies
+mod Tabled
+mod Mirrored
+mod VisitSteps
+mod Taking
+mod Turning
+mod Countings
+mod Beginning
+mod Ending
 mod Cases
+mod OneOutcome
