@@ -161,7 +161,7 @@ is_told_back f kind labels (Ok (Some part)) current = is_overtaken_in kind label
 is_told_back f kind labels (Err rule) current = is_back_in_groups f kind labels current
 
 -- the answer to what was told of a sample
-pub record Tells (c : Checking) (kind : Kind) (labels : LabelSet) (told : Result (Option Part) Rule) (answer : Told) : Type 0 where
+pub record AnswersTold (c : Checking) (kind : Kind) (labels : LabelSet) (told : Result (Option Part) Rule) (answer : Told) : Type 0 where
   pub back : answer.back ≡ is_told_back c.setting.format kind labels told c.current
   pub broken : answer.broken ≡ part_stop kind labels told c.current
 

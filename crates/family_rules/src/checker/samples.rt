@@ -5,7 +5,7 @@ ghost use Rattle.page_model.specs.Rules.{is_open_metrics};
 ghost use Rattle.page_model.specs.declared.item.Item.TheVariants as items;
 ghost use Rattle.family_rules.specs.GroupRuns.{has_runs};
 ghost use Rattle.family_rules.specs.Steps.{Takes, with_current, left_stop};
-ghost use Rattle.family_rules.specs.Samples.{TellsPart, is_current_sample, current_samples, own_samples, has_bad_exemplar, is_overtaken_in, is_back_in_groups, Tells, with_counted, with_part_at, with_told, told_left, fits_order, is_back, entered_by, with_sample, with_added, seen_rule, sample_stop, add_stop, name_stop};
+ghost use Rattle.family_rules.specs.Samples.{TellsPart, is_current_sample, current_samples, own_samples, has_bad_exemplar, is_overtaken_in, is_back_in_groups, AnswersTold, with_counted, with_part_at, with_told, told_left, fits_order, is_back, entered_by, with_sample, with_added, seen_rule, sample_stop, add_stop, name_stop};
 
 use super::ItemChecker;
 use crate::exemplars::is_bad_exemplar;
@@ -235,7 +235,7 @@ impl ItemChecker {
         labels: &LabelSet,
         told: Result<Option<Part>, Rule>,
     ) -> Result<Told, Memory>
-        ensures told { IfOk result (λ answer. Tells self.old kind labels.now told answer) }
+        ensures told { IfOk result (λ answer. AnswersTold self.old kind labels.now told answer) }
         ensures added { IfOk result (λ answer. answer.broken ≡ None → self.new ≡ with_told self.old kind labels.now told) }
         ensures rest { OnOk result (self.new ≡ with_current self.old self.new.current) }
     {
