@@ -5,6 +5,7 @@ mod PageLaws
 mod PageAnswerLaws
 mod ScriptAnswerLaws
 mod ReplayLaws
+mod VisitLaws
 mod ScriptLaws
 mod CommandLaws
 mod AnswerLaws

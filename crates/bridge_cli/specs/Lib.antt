@@ -9,6 +9,7 @@ pub mod PageInputs
 pub mod CheckTexts
 pub mod ConvertTexts
 pub mod Replays
+pub mod Rounds
 pub mod Answers
 pub mod ProgramOutputs
 pub mod StopAnswers

@@ -12,6 +12,7 @@ mod replaying;
 mod scripts;
 mod status;
 mod stop;
+mod visiting;
 mod words;
 
 pub use commands::{HELP, VERSION};

@@ -1,14 +1,16 @@
 //! The bodies of a script's events, which are printed one after the other as they are made.
-ghost use Rattle.std.specs.Prelude.{◌≡◌, [], List as Seq, IfOk};
+ghost use Rattle.std.specs.Prelude.{◌≡◌, ◌≤◌, [], List as Seq, IfOk, OnOk, length};
 ghost use Rattle.bridge_ports.specs.Targets.{Scraped};
 ghost use Rattle.page_model.specs.declared.event.Event.{Event as AnyEvent};
 ghost use Rattle.target_core.specs.States.{StandsFor, HasNextMoment};
 ghost use Rattle.replay_script.specs.RightScripts.{IsOver, IsRightHeader, IsRightTarget, IsRightScript};
 ghost use Rattle.bridge_cli.specs.Replays.{script_tracking};
+ghost use Rattle.bridge_cli.specs.Rounds.{HasVisits};
 ghost use Rattle.bridge_cli.specs.Printed.{cut_status, CutCause, MakesBody, PrintsNext, PrintsTarget, PrintsScript};
 
 use crate::output::write_all;
 use crate::status::Status;
+use crate::visiting::visits_made;
 use bridge_ports::{Failed, MemoryReply, Sink};
 use page_model::Event;
 use replay_script::{Header, Script, ScriptTarget};
@@ -93,11 +95,13 @@ fn print_next<O: Sink>(
     }
 }
 
-/// Prints the bodies of a target, over a state that stands for no event.
+/// Prints the bodies of the visits of a target that were counted, over a state that stands for no event. Where
+/// fewer than all were, memory was wanted.
 fn print_replies<O: Sink>(
     alloc: Global,
     header: &Header,
     target: &ScriptTarget,
+    visits: u64,
     start: TargetState,
     output: &mut O,
 ) -> Result<(), Cut>
@@ -106,12 +110,16 @@ fn print_replies<O: Sink>(
     requires fresh { StandsFor target.now.target (script_tracking header.now) start [] }
     ensures printed { PrintsTarget header.now target.now (O.held output.old) (O.held output.new) result }
     ensures cause { CutCause (O.write_faults output.old) (O.write_faults output.new) result }
+    ensures visited { OnOk result (length target.now.scrapes ≤ visits) }
 {
     let mut state = start;
     let mut body = Vec::new(alloc);
     let replies = target.scrapes.as_slice();
     let mut at = 0usize;
     while at < replies.len() {
+        if at as u64 >= visits {
+            return Err(Cut::Memory);
+        }
         match print_next(alloc, header, &replies[at], &mut state, &mut body, output) {
             Ok(()) => at += 1,
             Err(cut) => return Err(cut),
@@ -120,7 +128,8 @@ fn print_replies<O: Sink>(
     Ok(())
 }
 
-/// Prints the bodies of a target.
+/// Visits a target, and prints the bodies of its visits.
+#[tactic(auto, using(crate::proofs::VisitLaws::all_visited))]
 fn print_target<O: Sink>(
     alloc: Global,
     header: &Header,
@@ -131,11 +140,27 @@ fn print_target<O: Sink>(
     requires target { IsRightTarget header.now target.now }
     ensures printed { PrintsTarget header.now target.now (O.held output.old) (O.held output.new) result }
     ensures cause { CutCause (O.write_faults output.old) (O.write_faults output.new) result }
+    ensures visited { OnOk result (HasVisits header.now target.now header.now.rounds) }
 {
-    match new_state(alloc, header, target) {
-        Ok(state) => print_replies(alloc, header, target, state, output),
+    match visited(alloc, header, target) {
+        Ok((visits, state)) => print_replies(alloc, header, target, visits, state, output),
         Err(AllocError) => Err(Cut::Memory),
     }
+}
+
+/// How many visits of a target were counted, and its state from which their bodies are printed.
+fn visited(
+    alloc: Global,
+    header: &Header,
+    target: &ScriptTarget,
+) -> Result<(u64, TargetState), AllocError>
+    requires { IsRightHeader header.now }
+    ensures visits { IfOk result (λ start. HasVisits header.now target.now start.0) }
+    ensures state { IfOk result (λ start. StandsFor target.now.target (script_tracking header.now) start.1 []) }
+{
+    let visits = visits_made(alloc, header, target)?;
+    let state = new_state(alloc, header, target)?;
+    Ok((visits, state))
 }
 
 /// The state of a target that was not scraped.

@@ -137,3 +137,27 @@ fn replayed_chunks(rt: HostRuntime) {
         assert!(rt; text.contains(*point), "{point}");
     }
 }
+
+// What a collector answers: nothing that a script says; later, no connection, and then that it took the body; no
+// write and no read; that it takes none of it; and three times later, which uses up the tries.
+const ANSWERED_POSTS: [&str; 5] = [
+    "",
+    "post 1 ended 22\nHTTP/1.1 503 Later\r\n\r\n\npost 2 connect 0\n\npost 3 ended 19\nHTTP/1.1 200 OK\r\n\r\n\n",
+    "post 1 write 0\n\npost 2 read 3\nHTT\n",
+    "post 1 ended 19\nHTTP/1.1 400 No\r\n\r\n\n",
+    "post 1 ended 22\nHTTP/1.1 503 Later\r\n\r\n\npost 2 ended 22\nHTTP/1.1 503 Later\r\n\r\n\npost 3 ended 22\nHTTP/1.1 503 Later\r\n\r\n\n",
+];
+
+// Whatever becomes of the posts, the bodies are those of the scrapes.
+#[test]
+fn replayed_posts(rt: HostRuntime) {
+    let alloc = rt.alloc();
+    let plain = joined(alloc, &["bridge-script 1\n", CREATED]).expect(&rt, "memory");
+    let bodies = run(alloc, &["replay"], plain.as_bytes(), None, ROOM).expect(&rt, "memory");
+    for posts in &ANSWERED_POSTS {
+        let script = joined(alloc, &["bridge-script 1\n", CREATED, *posts]).expect(&rt, "memory");
+        let ended = run(alloc, &["replay"], script.as_bytes(), None, ROOM).expect(&rt, "memory");
+        assert_eq!(rt; ended.status, 0);
+        assert!(rt; ended.output.held() == bodies.output.held(), "{posts}");
+    }
+}

@@ -23,6 +23,7 @@ loop-at-preserved g c =
       c.loop-at.invariant.1,
       printed_more c.args.header.now c.args.target.now c.loop-at.at _ _ _ _ _ c.index-replies-at.result next.0 was stands next.1 next.2 next.3,
       c.in-Ok.ensures.cause ∙ c.loop-at.invariant.3,
+      omega (arith, c.if-at-visits.false),
     )
 
 pub returns-in-Err-clause-printed : goal.returns-in-Err-clause-printed
