@@ -1,3 +1,4 @@
 mod NameCases
+mod GatherCases
 pub mod Founders
 pub mod FewGathered
