@@ -97,6 +97,30 @@ fn converted(alloc: Global, bytes: &[u8]) -> Result<usize, PageFault> {
     Ok(text.len())
 }
 
+fn timed(
+    rt: &HostRuntime,
+    track: &mut Track<MemoryWire>,
+    bytes: &[u8],
+    count: u32,
+    lost: bool,
+) -> io::Result<()> {
+    for _ in 0..count {
+        let start = Instant::now(rt)?;
+        if !lost {
+            let _length = converted(rt.alloc(), bytes).unwrap_or(0);
+        }
+        let converting = start.elapsed(rt)?.as_nanos();
+        let start = Instant::now(rt)?;
+        if track.counts().visits < 1_000_000 {
+            let _visited = track.visit(rt.alloc());
+        }
+        let visiting = start.elapsed(rt)?.as_nanos();
+        let taken = track.counts().accepted;
+        println!(rt; "{converting} {visiting} {taken}")?;
+    }
+    Ok(())
+}
+
 fn visits(rt: &HostRuntime, bytes: &[u8], count: u32, lost: bool) -> io::Result<()> {
     let alloc = rt.alloc();
     let mut reply = Vec::from_slice(alloc, b"HTTP/1.1 200 OK\r\n\r\n")?;
@@ -110,22 +134,9 @@ fn visits(rt: &HostRuntime, bytes: &[u8], count: u32, lost: bool) -> io::Result<
             return Err(io::Error::from(io::ErrorKind::OutOfMemory));
         }
     };
-    for _ in 0..count {
-        let start = Instant::now(rt)?;
-        if !lost {
-            let _length = converted(alloc, bytes).unwrap_or(0);
-        }
-        let converting = start.elapsed(rt)?.as_nanos();
-        let start = Instant::now(rt)?;
-        if track.counts().visits < 1_000_000 {
-            let _visited = track.visit(alloc);
-        }
-        let visiting = start.elapsed(rt)?.as_nanos();
-        let taken = track.counts().accepted;
-        println!(rt; "{converting} {visiting} {taken}")?;
-    }
+    let ended = timed(rt, &mut track, bytes, count, lost);
     let (_scrape, _post) = track.into_wires();
-    Ok(())
+    ended
 }
 
 fn main(rt: HostRuntime) -> io::Result<()> {
