@@ -98,8 +98,8 @@ case_12 : script_read (codes "bridge-script 1\nkeep 4\ntries 1\nlimit 1\nmaxpage
 unfolding digits number_in place_in words_at header_row part_words header_of page_message may_stand_behind may_end body_at header_line_in ending_in format_in header_in target_in record_in record_at target_or_record part_with front_part next_part parts_from
 case_12 = refl
 
--- a second target is refused at its line
-case_13 : script_read (codes "bridge-script 1\nrounds 1\ntarget j h:1 /m\npage 10 text 4\nx 1\n\ntarget j h:2 /m\npage 10 text 4\nx 1\n\n") ≡ Err 7
+-- two targets in order
+case_13 : script_read (codes "bridge-script 1\nrounds 1\ntarget j h:1 /m\npage 10 text 4\nx 1\n\ntarget j h:2 /m\npage 20 text 4\nx 1\n\n") ≡ Ok (a_script 2 3 20000 16777216 4096 1 (one_target (codes "j") (codes "h:1") (codes "h") 1 (codes "/m") (reply 10 (codes "HTTP/1.1 200 OK\r\nContent-Type: text/plain; version=0.0.4\r\nContent-Length: 4\r\n\r\nx 1\n") Ended ∷ []) ([]) ∷ one_target (codes "j") (codes "h:2") (codes "h") 2 (codes "/m") (reply 20 (codes "HTTP/1.1 200 OK\r\nContent-Type: text/plain; version=0.0.4\r\nContent-Length: 4\r\n\r\nx 1\n") Ended ∷ []) ([]) ∷ []))
 unfolding digits number_in place_in words_at header_row part_words header_of page_message may_stand_behind may_end body_at header_line_in ending_in format_in header_in target_in record_in record_at target_or_record part_with front_part next_part parts_from
 case_13 = refl
 
@@ -432,3 +432,43 @@ case_78 = refl
 case_79 : script_read (codes "bridge-script 1\nrounds 1\ntarget j h:1 /m\nkeep 1\npage 10 text 4\nx 1\n\n") ≡ Err 4
 unfolding digits number_in place_in words_at header_row part_words header_of page_message may_stand_behind may_end body_at header_line_in ending_in format_in header_in target_in record_in record_at target_or_record part_with front_part next_part parts_from
 case_79 = refl
+
+-- a second target with the same job and instance
+case_80 : script_read (codes "bridge-script 1\nrounds 1\ntarget j h:1 /m\npage 10 text 4\nx 1\n\ntarget j h:1 /m\npage 20 text 4\nx 1\n\n") ≡ Err 7
+unfolding digits number_in place_in words_at header_row part_words header_of page_message may_stand_behind may_end body_at header_line_in ending_in format_in header_in target_in record_in record_at target_or_record part_with front_part next_part parts_from
+case_80 = refl
+
+-- the names of the first of three targets again
+case_81 : script_read (codes "bridge-script 1\nrounds 1\ntarget j h:1 /m\npage 10 text 4\nx 1\n\ntarget j h:2 /m\npage 20 text 4\nx 1\n\ntarget j h:1 /m\npage 30 text 4\nx 1\n\n") ≡ Err 11
+unfolding digits number_in place_in words_at header_row part_words header_of page_message may_stand_behind may_end body_at header_line_in ending_in format_in header_in target_in record_in record_at target_or_record part_with front_part next_part parts_from
+case_81 = refl
+
+-- two targets of two jobs with one instance
+case_82 : script_read (codes "bridge-script 1\nrounds 1\ntarget j h:1 /m\npage 10 text 4\nx 1\n\ntarget k h:1 /m\npage 20 text 4\nx 1\n\n") ≡ Ok (a_script 2 3 20000 16777216 4096 1 (one_target (codes "j") (codes "h:1") (codes "h") 1 (codes "/m") (reply 10 (codes "HTTP/1.1 200 OK\r\nContent-Type: text/plain; version=0.0.4\r\nContent-Length: 4\r\n\r\nx 1\n") Ended ∷ []) ([]) ∷ one_target (codes "k") (codes "h:1") (codes "h") 1 (codes "/m") (reply 20 (codes "HTTP/1.1 200 OK\r\nContent-Type: text/plain; version=0.0.4\r\nContent-Length: 4\r\n\r\nx 1\n") Ended ∷ []) ([]) ∷ []))
+unfolding digits number_in place_in words_at header_row part_words header_of page_message may_stand_behind may_end body_at header_line_in ending_in format_in header_in target_in record_in record_at target_or_record part_with front_part next_part parts_from
+case_82 = refl
+
+-- too many scrapes, seen at the next target
+case_83 : script_read (codes "bridge-script 1\nrounds 1\ntarget j h:1 /m\npage 10 text 4\nx 1\n\npage 11 text 4\nx 1\n\ntarget j h:2 /m\npage 20 text 4\nx 1\n\n") ≡ Err 10
+unfolding digits number_in place_in words_at header_row part_words header_of page_message may_stand_behind may_end body_at header_line_in ending_in format_in header_in target_in record_in record_at target_or_record part_with front_part next_part parts_from
+case_83 = refl
+
+-- the last of two targets without its scrapes
+case_84 : script_read (codes "bridge-script 1\nrounds 1\ntarget j h:1 /m\npage 10 text 4\nx 1\n\ntarget j h:2 /m\n") ≡ Err 8
+unfolding digits number_in place_in words_at header_row part_words header_of page_message may_stand_behind may_end body_at header_line_in ending_in format_in header_in target_in record_in record_at target_or_record part_with front_part next_part parts_from
+case_84 = refl
+
+-- each record belongs to the target above it
+case_85 : script_read (codes "bridge-script 1\nrounds 1\ntarget j h:1 /m\npost 1 connect 0\n\nscrape 2 connect 0\n\ntarget j h:2 /m\nscrape 3 write 0\n\npost 4 write 0\n\n") ≡ Ok (a_script 2 3 20000 16777216 4096 1 (one_target (codes "j") (codes "h:1") (codes "h") 1 (codes "/m") (reply 2 [] ConnectFailed ∷ []) (reply 1 [] ConnectFailed ∷ []) ∷ one_target (codes "j") (codes "h:2") (codes "h") 2 (codes "/m") (reply 3 [] WriteFailed ∷ []) (reply 4 [] WriteFailed ∷ []) ∷ []))
+unfolding digits number_in place_in words_at header_row part_words header_of page_message may_stand_behind may_end body_at header_line_in ending_in format_in header_in target_in record_in record_at target_or_record part_with front_part next_part parts_from
+case_85 = refl
+
+-- the posts of each target count by themselves
+case_86 : script_read (codes "bridge-script 1\ntries 1\nrounds 1\ntarget j h:1 /m\npost 1 connect 0\n\nscrape 2 connect 0\n\ntarget j h:2 /m\npost 3 connect 0\n\npost 4 connect 0\n\n") ≡ Err 12
+unfolding digits number_in place_in words_at header_row part_words header_of page_message may_stand_behind may_end body_at header_line_in ending_in format_in header_in target_in record_in record_at target_or_record part_with front_part next_part parts_from
+case_86 = refl
+
+-- a header line among the targets
+case_87 : script_read (codes "bridge-script 1\nrounds 1\ntarget j h:1 /m\npage 10 text 4\nx 1\n\nkeep 1\n") ≡ Err 7
+unfolding digits number_in place_in words_at header_row part_words header_of page_message may_stand_behind may_end body_at header_line_in ending_in format_in header_in target_in record_in record_at target_or_record part_with front_part next_part parts_from
+case_87 = refl

@@ -1,7 +1,9 @@
 -- What is kept of the parts answers for the opening line, header lines and target lines: which may follow, and what they say.
-use Rattle.std.proofs.Common.{◌≡◌, ◌≢◌, ℕ, ◌-◌, ◌^◌, ◌<◌, ◌≤◌, Bool, true, false, ◌&&◌, ◌==◌, List, [], ◌∷◌, ◌++◌, length, Option, Some, None, is_some, unwrap_or, reverse, refl, sym, ap, ◌∙◌, arith, nat_lt, nat_eq}
+use Rattle.std.proofs.Common.{◌≡◌, ◌≢◌, ℕ, ◌^◌, ◌<◌, ◌≤◌, Bool, true, false, not, ◌&&◌, List, [], ◌∷◌, ◌++◌, length, Option, Some, None, is_some, unwrap_or, reverse, refl, sym, ap, ◌∙◌, arith, nat_lt, nat_eq}
 use Rattle.std.proofs.lemmas.Bool.{and_from, eq-eqb, ne_eqb, lt-ltb, le-ltb, true≢false}
-use Rattle.page_model.specs.declared.format.Format.{Format}
+use Rattle.std.proofs.lemmas.List.{length-reverse}
+use Rattle.std.proofs.lemmas.List.Sorted.{IsPermutation-reverse, list_any-IsPermutation}
+use Rattle.std.proofs.lemmas.Option.{none-some}
 use Rattle.plain_words.proofs.Laws.{and_false, in_range}
 use Rattle.bridge_ports.specs.Targets.{Scraped}
 use Rattle.replay_script.specs.declared.header.Header.{Header}
@@ -9,13 +11,12 @@ use Rattle.replay_script.specs.declared.header.HeaderLine.{HeaderLine}
 use Rattle.replay_script.specs.declared.header.HeaderLine.TheVariants.{Keep, Tries, Limit, MaxPage, Cut, Rounds}
 use Rattle.bridge_ports.specs.declared.talk.MemoryReply.{MemoryReply}
 use Rattle.replay_script.specs.declared.script.ScriptTarget.{ScriptTarget}
-use Rattle.replay_script.specs.declared.script.Script.{Script}
 use Rattle.replay_script.specs.declared.progress.Progress.{Progress}
 use Rattle.replay_script.specs.HeaderLines.{header_row, place_of, is_in_row}
 use Rattle.replay_script.specs.ScriptParts.{TargetLine, Part, opening, header, target, page, scrape, post}
 use Rattle.replay_script.specs.ScriptContents.{header_of, header_number, written_number, target_of, new_target, targets_of}
-use Rattle.replay_script.specs.ScriptRules.{may_stand_behind, is_next_line, has_rounds, is_target_line, most_targets, AreInOrder}
-use Rattle.replay_script.specs.Progresses.{place_behind, with_header_number, target_read, Knows, TakesPart}
+use Rattle.replay_script.specs.ScriptRules.{may_stand_behind, is_next_line, has_rounds, is_last_whole, is_target_line, same_names, is_named_in, is_named_before, most_targets, AreInOrder}
+use Rattle.replay_script.specs.Progresses.{place_behind, with_header_number, target_read, targets_read, has_whole_target, Knows, IsClosed, TakesPart}
 use Rattle.replay_script.proofs.RightLaws.{in_row}
 
 -- ---- the opening line
@@ -44,25 +45,27 @@ pub opening_refused : (old new : Progress) → old.place ≢ 7 → TakesPart ope
 opening_refused old new other = refused opening old new (λ earlier o k. opens earlier ∙ ne_eqb (place_behind earlier) 7 (λ e. other (k.place ∙ e)))
 
 -- what is kept of targets stays
-same_read : (old new : Progress) → new.target ≡ old.target → new.scrapes.items ≡ old.scrapes.items → new.posts.items ≡ old.posts.items
-    → target_read old.target old.scrapes.items old.posts.items ≡ target_read new.target new.scrapes.items new.posts.items
-same_read old new same_target same_scrapes same_posts =
-    sym (ap (λ t. target_read t new.scrapes.items new.posts.items) same_target ∙ ap (λ rs. target_read old.target rs new.posts.items) same_scrapes ∙ ap (target_read old.target old.scrapes.items) same_posts)
+same_read : (old new : Progress) → new.target ≡ old.target → new.scrapes.items ≡ old.scrapes.items → new.posts.items ≡ old.posts.items → new.finished.items ≡ old.finished.items
+    → targets_read old ≡ targets_read new
+same_read old new same_target same_scrapes same_posts same_finished =
+    sym (ap (λ t. target_read t new.scrapes.items new.posts.items ++ reverse new.finished.items) same_target
+    ∙ ap (λ rs. target_read old.target rs new.posts.items ++ reverse new.finished.items) same_scrapes
+    ∙ ap (λ rs. target_read old.target old.scrapes.items rs ++ reverse new.finished.items) same_posts
+    ∙ ap (λ ts. target_read old.target old.scrapes.items old.posts.items ++ reverse ts) same_finished)
 
 -- the opening line has no number
 header_opened : (earlier : List Part) → header_of earlier ≡ header_of (opening ∷ earlier)
 unfolding header_of
 header_opened earlier = refl
 
-pub opening_taken : (old new : Progress) → old.place ≡ 7 → new.place ≡ 0 → new.header ≡ old.header → new.target ≡ old.target → new.scrapes.items ≡ old.scrapes.items → new.posts.items ≡ old.posts.items → TakesPart opening old new true
-opening_taken old new is place same_header same_target same_scrapes same_posts earlier o k = (
+pub opening_taken : (old new : Progress) → old.place ≡ 7 → new.place ≡ 0 → new.header ≡ old.header → new.target ≡ old.target → new.scrapes.items ≡ old.scrapes.items → new.posts.items ≡ old.posts.items → new.finished.items ≡ old.finished.items → TakesPart opening old new true
+opening_taken old new is place same_header same_target same_scrapes same_posts same_finished earlier o k = (
   sym (opens earlier ∙ eq-eqb (place_behind earlier) 7 (sym k.place ∙ is)),
   λ _. record {
     place = place;
     header = same_header ∙ k.header ∙ header_opened earlier;
-    targets = k.targets ∙ same_read old new same_target same_scrapes same_posts;
-    no_scrapes = λ none. same_scrapes ∙ k.no_scrapes (sym same_target ∙ none);
-    no_posts = λ none. same_posts ∙ k.no_posts (sym same_target ∙ none);
+    targets = k.targets ∙ same_read old new same_target same_scrapes same_posts same_finished;
+    none_finished = λ none. same_finished ∙ k.none_finished (sym same_target ∙ none);
   },
 )
 
@@ -122,16 +125,15 @@ header_more Cut n earlier = refl
 header_more Rounds n earlier = refl
 
 pub header_taken : (line : HeaderLine) (n : ℕ) (old new : Progress) → old.place < place_of line → is_in_row (header_row line) n ≡ true → new.place ≡ place_of line → new.header ≡ with_header_number line n old.header
-    → new.target ≡ old.target → new.scrapes.items ≡ old.scrapes.items → new.posts.items ≡ old.posts.items → TakesPart (header line n) old new true
+    → new.target ≡ old.target → new.scrapes.items ≡ old.scrapes.items → new.posts.items ≡ old.posts.items → new.finished.items ≡ old.finished.items → TakesPart (header line n) old new true
 unfolding may_stand_behind
-header_taken line n old new less in_its_row place numbered same_target same_scrapes same_posts earlier o k = (
+header_taken line n old new less in_its_row place numbered same_target same_scrapes same_posts same_finished earlier o k = (
   sym (and_from (is_next_line line earlier) (is_in_row (header_row line) n) (next_is line earlier ∙ ap (λ p. nat_lt p (place_of line)) (sym k.place) ∙ lt-ltb old.place (place_of line) less) in_its_row),
   λ _. record {
     place = place;
     header = numbered ∙ ap (with_header_number line n) k.header ∙ header_more line n earlier;
-    targets = k.targets ∙ same_read old new same_target same_scrapes same_posts;
-    no_scrapes = λ none. same_scrapes ∙ k.no_scrapes (sym same_target ∙ none);
-    no_posts = λ none. same_posts ∙ k.no_posts (sym same_target ∙ none);
+    targets = k.targets ∙ same_read old new same_target same_scrapes same_posts same_finished;
+    none_finished = λ none. same_finished ∙ k.none_finished (sym same_target ∙ none);
   },
 )
 
@@ -173,63 +175,94 @@ some_rounds earlier some = go (written_number earlier Rounds) refl
 false_and : (a b c d e : Bool) → a ≡ false → (a && b && c && d && e) ≡ false
 false_and a b c d e fails = ap (λ x. x && b && c && d && e) fails
 
+second_false : (a b c d e : Bool) → b ≡ false → (a && b && c && d && e) ≡ false
+second_false a b c d e fails = ap (λ x. a && x && c && d && e) fails ∙ ap (λ x. x && c && d && e) (and_false a)
+
 third_false : (a b c d e : Bool) → c ≡ false → (a && b && c && d && e) ≡ false
 third_false a b c d e fails = ap (λ x. a && b && x && d && e) fails ∙ ap (λ x. x && d && e) (and_false (a && b))
 
 fourth_false : (a b c d e : Bool) → d ≡ false → (a && b && c && d && e) ≡ false
 fourth_false a b c d e fails = ap (λ x. a && b && c && x && e) fails ∙ ap (λ x. x && e) (and_false (a && b && c))
 
+fifth_false : (a b c d e : Bool) → e ≡ false → (a && b && c && d && e) ≡ false
+fifth_false a b c d e fails = ap (λ x. a && b && c && d && x) fails ∙ and_false (a && b && c && d)
+
+all_five : (a b c d e : Bool) → a ≡ true → b ≡ true → c ≡ true → d ≡ true → e ≡ true → (a && b && c && d && e) ≡ true
+all_five a b c d e v w x y z = and_from (a && b && c && d) e (and_from (a && b && c) d (and_from (a && b) c (and_from a b v w) x) y) z
+
 pub no_rounds_yet : (t : TargetLine) (old new : Progress) → old.header.rounds ≡ 0 → TakesPart (target t) old new false
 unfolding may_stand_behind
 no_rounds_yet t old new none = refused (target t) old new (λ earlier o k.
     false_and (has_rounds earlier) _ _ _ _ (no_rounds earlier o (sym (ap (λ (h : Header). h.rounds) k.header) ∙ none)))
 
--- a target that was read
-is_read : (o : Option Scraped) (scrapes posts : List MemoryReply) → is_some o ≡ true → nat_lt (length (target_read o scrapes posts)) most_targets ≡ false
-is_read None scrapes posts e = absurd (true≢false (sym e))
-is_read (Some t) scrapes posts e = refl
+-- the rounds of the header
+pub header_rounds : (parts : List Part) → (header_of parts).rounds ≡ header_number parts Rounds
+unfolding header_of
+header_rounds parts = refl
 
-pub second_target : (t : TargetLine) (old new : Progress) → is_some old.target ≡ true → TakesPart (target t) old new false
+-- the last target is the one that records belong to
+last_read : (rounds : ℕ) (o : Option Scraped) (scrapes posts : List MemoryReply) (ts : List ScriptTarget) → (o ≡ None → ts ≡ [])
+    → is_last_whole rounds (target_read o scrapes posts ++ reverse ts) ≡ is_last_whole rounds (target_read o scrapes posts)
+last_read rounds None scrapes posts ts none = ap (λ us. is_last_whole rounds (reverse us)) (none refl)
+last_read rounds (Some t) scrapes posts ts none = refl
+
+pub last_known : (earlier : List Part) (p : Progress) → Knows earlier p → is_last_whole (header_number earlier Rounds) (targets_of earlier) ≡ has_whole_target p
+last_known earlier p k =
+    ap (λ n. is_last_whole n (targets_of earlier)) (sym (ap (λ (h : Header). h.rounds) k.header ∙ header_rounds earlier)) ∙ ap (is_last_whole p.header.rounds) k.targets
+    ∙ last_read p.header.rounds p.target p.scrapes.items p.posts.items p.finished.items k.none_finished
+
+pub scrapes_missing : (t : TargetLine) (old new : Progress) → has_whole_target old ≡ false → TakesPart (target t) old new false
 unfolding may_stand_behind
-second_target t old new some = refused (target t) old new (λ earlier o k.
-    third_false (has_rounds earlier) _ _ _ _ (ap (λ ts. nat_lt (length ts) most_targets) k.targets ∙ is_read old.target old.scrapes.items old.posts.items some))
+scrapes_missing t old new fails = refused (target t) old new (λ earlier o k. second_false (has_rounds earlier) _ _ _ _ (last_known earlier old k ∙ fails))
+
+-- the targets above are those that are finished, once the last is closed
+above_known : (earlier : List Part) (old closed : Progress) → Knows earlier old → IsClosed old closed → targets_of earlier ≡ reverse closed.finished.items
+above_known earlier old closed k is = k.targets ∙ sym is.targets
+
+pub too_many_targets : (t : TargetLine) (old closed : Progress) → IsClosed old closed → most_targets ≤ length closed.finished.items → TakesPart (target t) old closed false
+unfolding may_stand_behind
+too_many_targets t old closed is many = refused (target t) old closed (λ earlier o k.
+    let count : length (targets_of earlier) ≡ length closed.finished.items = ap length (above_known earlier old closed k is) ∙ length-reverse closed.finished.items in
+    third_false (has_rounds earlier) _ _ _ _ (ap (λ n. nat_lt n most_targets) count ∙ le-ltb (length closed.finished.items) most_targets many))
+
+-- the names of the targets above
+named_known : (t : TargetLine) (earlier : List Part) (old closed : Progress) (named : Bool) → Knows earlier old → IsClosed old closed → is_named_in closed.finished.items (target_of t) ≡ named
+    → is_named_before t (targets_of earlier) ≡ named
+named_known t earlier old closed named k is found =
+    ap (is_named_before t) (above_known earlier old closed k is)
+    ∙ sym (list_any-IsPermutation (λ (other : ScriptTarget). same_names (target_of t) other.target) closed.finished.items (reverse closed.finished.items) (IsPermutation-reverse closed.finished.items)) ∙ found
+
+pub named_before : (t : TargetLine) (old closed : Progress) → IsClosed old closed → is_named_in closed.finished.items (target_of t) ≡ true → TakesPart (target t) old closed false
+unfolding may_stand_behind
+named_before t old closed is found = refused (target t) old closed (λ earlier o k. fifth_false (has_rounds earlier) _ _ _ _ (ap not (named_known t earlier old closed true k is found)))
 
 pub no_target_line : (t : TargetLine) (old new : Progress) → is_target_line t ≡ false → TakesPart (target t) old new false
 unfolding may_stand_behind
 no_target_line t old new fails = refused (target t) old new (λ earlier o k. fourth_false (has_rounds earlier) _ _ _ _ fails)
 
--- no target was read
-none_read : (o : Option Scraped) (scrapes posts : List MemoryReply) → is_some o ≡ false → target_read o scrapes posts ≡ []
-none_read None scrapes posts e = refl
-none_read (Some t) scrapes posts e = absurd (true≢false e)
-
-is_none_of : (o : Option Scraped) → is_some o ≡ false → o ≡ None
-is_none_of None e = refl
-is_none_of (Some t) e = absurd (true≢false e)
-
--- the first target may follow
-first_target : (earlier : List Part) (t : TargetLine) → targets_of earlier ≡ [] → has_rounds earlier ≡ true → is_target_line t ≡ true → may_stand_behind earlier (target t) ≡ true
-unfolding may_stand_behind
-first_target earlier t none rounds line = rw (none, rounds, line) refl
-
 target_header : (t : TargetLine) (earlier : List Part) → header_of earlier ≡ header_of (target t ∷ earlier)
 unfolding header_of
 target_header t earlier = refl
 
-pub target_taken : (t : TargetLine) (old new : Progress) → old.header.rounds ≢ 0 → is_some old.target ≡ false → is_target_line t ≡ true → new.place ≡ 6 → new.header ≡ old.header
-    → new.target ≡ Some (target_of t) → new.scrapes.items ≡ old.scrapes.items → new.posts.items ≡ old.posts.items → TakesPart (target t) old new true
-target_taken t old new some none line place same_header made same_scrapes same_posts earlier o k =
-    let no_targets : targets_of earlier ≡ [] = k.targets ∙ none_read old.target old.scrapes.items old.posts.items none in
-    let scrapes : new.scrapes.items ≡ [] = same_scrapes ∙ k.no_scrapes (is_none_of old.target none) in
-    let posts : new.posts.items ≡ [] = same_posts ∙ k.no_posts (is_none_of old.target none) in
-    let read : target_read new.target new.scrapes.items new.posts.items ≡ new_target t ∷ [] =
-    ap (λ u. target_read u new.scrapes.items new.posts.items) made ∙ ap (λ rs. target_read (Some (target_of t)) rs new.posts.items) scrapes ∙ ap (target_read (Some (target_of t)) []) posts in (
-      sym (first_target earlier t no_targets (some_rounds earlier (λ e. some (ap (λ (h : Header). h.rounds) k.header ∙ e))) line),
+pub target_taken : (t : TargetLine) (old closed new : Progress) → old.header.rounds ≢ 0 → has_whole_target old ≡ true → is_target_line t ≡ true → IsClosed old closed
+    → length closed.finished.items < most_targets → is_named_in closed.finished.items (target_of t) ≡ false → new.place ≡ 6 → new.header ≡ closed.header → new.target ≡ Some (target_of t)
+    → new.scrapes.items ≡ closed.scrapes.items → new.posts.items ≡ closed.posts.items → new.finished.items ≡ closed.finished.items → TakesPart (target t) old new true
+unfolding may_stand_behind
+target_taken t old closed new some whole line is few other place same_header made same_scrapes same_posts same_finished earlier o k =
+    let above = above_known earlier old closed k is in
+    let count : length (targets_of earlier) ≡ length closed.finished.items = ap length above ∙ length-reverse closed.finished.items in
+    let read : targets_read new ≡ new_target t ∷ reverse closed.finished.items =
+    ap (λ u. target_read u new.scrapes.items new.posts.items ++ reverse new.finished.items) made
+    ∙ ap (λ rs. target_read (Some (target_of t)) rs new.posts.items ++ reverse new.finished.items) (same_scrapes ∙ is.no_scrapes)
+    ∙ ap (λ rs. target_read (Some (target_of t)) [] rs ++ reverse new.finished.items) (same_posts ∙ is.no_posts)
+    ∙ ap (λ ts. new_target t ∷ reverse ts) same_finished in (
+      sym (all_five (has_rounds earlier) (is_last_whole (header_number earlier Rounds) (targets_of earlier)) (nat_lt (length (targets_of earlier)) most_targets) (is_target_line t) (not (is_named_before t (targets_of earlier)))
+          (some_rounds earlier (λ e. some (ap (λ (h : Header). h.rounds) k.header ∙ e))) (last_known earlier old k ∙ whole)
+          (ap (λ n. nat_lt n most_targets) count ∙ lt-ltb (length closed.finished.items) most_targets few) line (ap not (named_known t earlier old closed false k is other))),
       λ _. record {
         place = place;
-        header = same_header ∙ k.header ∙ target_header t earlier;
-        targets = ap (λ ts. new_target t ∷ ts) no_targets ∙ sym read;
-        no_scrapes = λ _. scrapes;
-        no_posts = λ _. posts;
+        header = same_header ∙ is.header ∙ k.header ∙ target_header t earlier;
+        targets = ap (λ ts. new_target t ∷ ts) above ∙ sym read;
+        none_finished = λ none. absurd (none-some (target_of t) (sym none ∙ made));
       },
     )

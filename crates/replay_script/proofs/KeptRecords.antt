@@ -1,6 +1,7 @@
 -- What is kept of the parts answers for records, and for the end: which may follow, and what they say.
-use Rattle.std.proofs.Common.{◌≡◌, ◌≢◌, ℕ, ◌-◌, ◌*◌, ◌^◌, ◌<◌, Bool, true, false, ◌&&◌, ◌==◌, List, [], ◌∷◌, ◌++◌, length, Option, Some, None, is_some, reverse, refl, sym, ap, ◌∙◌, arith, nat_lt}
-use Rattle.std.proofs.lemmas.Bool.{and_from, eq-eqb, ne_eqb, lt-ltb, le-ltb, true≢false}
+use Rattle.std.proofs.Common.{◌≡◌, ◌≢◌, ℕ, ◌-◌, ◌*◌, ◌^◌, ◌<◌, Bool, true, false, ◌&&◌, List, [], ◌∷◌, ◌++◌, length, Option, Some, None, is_some, reverse, refl, sym, ap, ◌∙◌, arith, nat_lt}
+use Rattle.std.proofs.lemmas.Bool.{and_from, lt-ltb, le-ltb, true≢false}
+use Rattle.std.proofs.lemmas.List.{reverse-reverse}
 use Rattle.page_model.specs.declared.format.Format.{Format}
 use Rattle.plain_words.proofs.Laws.{and_false}
 use Rattle.bridge_ports.specs.Targets.{Scraped}
@@ -12,10 +13,10 @@ use Rattle.replay_script.specs.declared.script.ScriptTarget.{ScriptTarget}
 use Rattle.replay_script.specs.declared.script.Script.{Script}
 use Rattle.replay_script.specs.declared.progress.Progress.{Progress}
 use Rattle.replay_script.specs.ScriptParts.{Part, page, scrape, post}
-use Rattle.replay_script.specs.ScriptContents.{header_of, header_number, page_reply, raw_reply, with_scrape, with_post, targets_of, script_of}
-use Rattle.replay_script.specs.ScriptRules.{may_stand_behind, may_end, is_record, fits_ending, has_target, has_room_for_post, AreInOrder}
-use Rattle.replay_script.specs.Progresses.{place_behind, target_read, Knows, TakesPart, Ends}
-use Rattle.replay_script.proofs.Kept.{refused}
+use Rattle.replay_script.specs.ScriptContents.{header_of, header_number, page_reply, raw_reply, with_scrape, with_post, targets_of}
+use Rattle.replay_script.specs.ScriptRules.{may_stand_behind, may_end, is_last_whole, is_record, fits_ending, has_target, has_room_for_post}
+use Rattle.replay_script.specs.Progresses.{place_behind, target_read, targets_read, has_whole_target, Knows, IsClosed, TakesPart, Ends}
+use Rattle.replay_script.proofs.Kept.{refused, header_rounds, last_known}
 
 -- ---- tests in a row
 
@@ -33,13 +34,13 @@ all_pass a b c x y z = and_from (a && b) c (and_from a b x y) z
 
 -- ---- what the tests are
 
-read_has : (o : Option Scraped) (scrapes posts : List MemoryReply) → has_target (target_read o scrapes posts) ≡ is_some o
-read_has None scrapes posts = refl
-read_has (Some t) scrapes posts = refl
+read_has : (o : Option Scraped) (scrapes posts : List MemoryReply) (ts : List ScriptTarget) → (o ≡ None → ts ≡ []) → has_target (target_read o scrapes posts ++ reverse ts) ≡ is_some o
+read_has None scrapes posts ts none = ap (λ us. has_target (reverse us)) (none refl)
+read_has (Some t) scrapes posts ts none = refl
 
 -- a target stands above where one was read
 has_read : (earlier : List Part) (p : Progress) → Knows earlier p → has_target (targets_of earlier) ≡ is_some p.target
-has_read earlier p k = ap has_target k.targets ∙ read_has p.target p.scrapes.items p.posts.items
+has_read earlier p k = ap has_target k.targets ∙ read_has p.target p.scrapes.items p.posts.items p.finished.items k.none_finished
 
 long_bytes : (at : ℕ) (bytes : List ℕ) → 2 ^ 32 - 1 < length bytes → is_record at bytes ≡ false
 long_bytes at bytes long = ap (λ b. nat_lt at (2 ^ 64) && b) (le-ltb (length bytes) (2 ^ 32) (omega arith)) ∙ and_false (nat_lt at (2 ^ 64))
@@ -47,15 +48,12 @@ long_bytes at bytes long = ap (λ b. nat_lt at (2 ^ 64) && b) (le-ltb (length by
 short_bytes : (at : ℕ) (bytes : List ℕ) → at < 2 ^ 64 → length bytes < 2 ^ 32 → is_record at bytes ≡ true
 short_bytes at bytes early short = and_from (nat_lt at (2 ^ 64)) (nat_lt (length bytes) (2 ^ 32)) (lt-ltb at (2 ^ 64) early) (lt-ltb (length bytes) (2 ^ 32) short)
 
-read_room : (most : ℕ) (o : Option Scraped) (scrapes posts : List MemoryReply) → has_room_for_post most (target_read o scrapes posts) ≡ (is_some o && nat_lt (length posts) most)
-read_room most None scrapes posts = refl
-read_room most (Some t) scrapes posts = refl
+read_room : (most : ℕ) (o : Option Scraped) (scrapes posts : List MemoryReply) (ts : List ScriptTarget) → (o ≡ None → ts ≡ [])
+    → has_room_for_post most (target_read o scrapes posts ++ reverse ts) ≡ (is_some o && nat_lt (length posts) most)
+read_room most None scrapes posts ts none = ap (λ us. has_room_for_post most (reverse us)) (none refl)
+read_room most (Some t) scrapes posts ts none = refl
 
--- the numbers of the header
-header_rounds : (parts : List Part) → (header_of parts).rounds ≡ header_number parts Rounds
-unfolding header_of
-header_rounds parts = refl
-
+-- the tries of the header
 header_tries : (parts : List Part) → (header_of parts).tries ≡ header_number parts Tries
 unfolding header_of
 header_tries parts = refl
@@ -67,7 +65,7 @@ has_room earlier p k =
     let rounds : header_number earlier Rounds ≡ p.header.rounds = sym (ap (λ (h : Header). h.rounds) k.header ∙ header_rounds earlier) in
     let tries : header_number earlier Tries ≡ p.header.tries = sym (ap (λ (h : Header). h.tries) k.header ∙ header_tries earlier) in
     ap (has_room_for_post (header_number earlier Rounds * header_number earlier Tries)) k.targets
-    ∙ read_room (header_number earlier Rounds * header_number earlier Tries) p.target p.scrapes.items p.posts.items
+    ∙ read_room (header_number earlier Rounds * header_number earlier Tries) p.target p.scrapes.items p.posts.items p.finished.items k.none_finished
     ∙ ap (λ n. is_some p.target && nat_lt (length p.posts.items) (n * header_number earlier Tries)) rounds ∙ ap (λ n. is_some p.target && nat_lt (length p.posts.items) (p.header.rounds * n)) tries
 
 -- the target that was read
@@ -80,41 +78,43 @@ the_target (Some t) e = (t, refl)
 -- what is kept with a scrape more
 scrape_known : (p : Part) (r : MemoryReply) (old new : Progress) (earlier : List Part) → Knows earlier old → is_some old.target ≡ true
     → place_behind (p ∷ earlier) ≡ 6 → header_of (p ∷ earlier) ≡ header_of earlier → targets_of (p ∷ earlier) ≡ with_scrape r (targets_of earlier)
-    → new.place ≡ 6 → new.header ≡ old.header → new.target ≡ old.target → new.scrapes.items ≡ old.scrapes.items ++ r ∷ [] → new.posts.items ≡ old.posts.items → Knows (p ∷ earlier) new
-scrape_known p r old new earlier k some at_place its_header its_targets place same_header same_target more same_posts =
+    → new.place ≡ 6 → new.header ≡ old.header → new.target ≡ old.target → new.scrapes.items ≡ old.scrapes.items ++ r ∷ [] → new.posts.items ≡ old.posts.items
+    → new.finished.items ≡ old.finished.items → Knows (p ∷ earlier) new
+scrape_known p r old new earlier k some at_place its_header its_targets place same_header same_target more same_posts same_finished =
     let last = the_target old.target some in
-    let before : targets_of earlier ≡ target_read (Some last.0) old.scrapes.items old.posts.items = k.targets ∙ ap (λ u. target_read u old.scrapes.items old.posts.items) last.1 in
-    let kept : targets_of (p ∷ earlier) ≡ target_read (Some last.0) (old.scrapes.items ++ r ∷ []) old.posts.items = its_targets ∙ ap (with_scrape r) before in
-    let read : target_read new.target new.scrapes.items new.posts.items ≡ target_read (Some last.0) (old.scrapes.items ++ r ∷ []) old.posts.items =
-    ap (λ u. target_read u new.scrapes.items new.posts.items) (same_target ∙ last.1) ∙ ap (λ rs. target_read (Some last.0) rs new.posts.items) more
-    ∙ ap (target_read (Some last.0) (old.scrapes.items ++ r ∷ [])) same_posts in
+    let TargetsWith : Option Scraped → List MemoryReply → List MemoryReply → List ScriptTarget → List ScriptTarget = λ u xs ys ts. target_read u xs ys ++ reverse ts in
+    let before : targets_of earlier ≡ TargetsWith (Some last.0) old.scrapes.items old.posts.items old.finished.items = k.targets ∙ ap (λ u. TargetsWith u old.scrapes.items old.posts.items old.finished.items) last.1 in
+    let kept : targets_of (p ∷ earlier) ≡ TargetsWith (Some last.0) (old.scrapes.items ++ r ∷ []) old.posts.items old.finished.items = its_targets ∙ ap (with_scrape r) before in
+    let read : targets_read new ≡ TargetsWith (Some last.0) (old.scrapes.items ++ r ∷ []) old.posts.items old.finished.items =
+    ap (λ u. TargetsWith u new.scrapes.items new.posts.items new.finished.items) (same_target ∙ last.1) ∙ ap (λ rs. TargetsWith (Some last.0) rs new.posts.items new.finished.items) more
+    ∙ ap (λ rs. TargetsWith (Some last.0) (old.scrapes.items ++ r ∷ []) rs new.finished.items) same_posts ∙ ap (TargetsWith (Some last.0) (old.scrapes.items ++ r ∷ []) old.posts.items) same_finished in
     let is_there : new.target ≢ None = λ none. true≢false (sym some ∙ ap is_some (sym same_target ∙ none)) in
     record {
       place = place ∙ sym at_place;
       header = same_header ∙ k.header ∙ sym its_header;
       targets = kept ∙ sym read;
-      no_scrapes = λ none. absurd (is_there none);
-      no_posts = λ none. absurd (is_there none);
+      none_finished = λ none. absurd (is_there none);
     }
 
 -- what is kept with a post more
 post_known : (p : Part) (r : MemoryReply) (old new : Progress) (earlier : List Part) → Knows earlier old → is_some old.target ≡ true
     → place_behind (p ∷ earlier) ≡ 6 → header_of (p ∷ earlier) ≡ header_of earlier → targets_of (p ∷ earlier) ≡ with_post r (targets_of earlier)
-    → new.place ≡ 6 → new.header ≡ old.header → new.target ≡ old.target → new.scrapes.items ≡ old.scrapes.items → new.posts.items ≡ old.posts.items ++ r ∷ [] → Knows (p ∷ earlier) new
-post_known p r old new earlier k some at_place its_header its_targets place same_header same_target same_scrapes more =
+    → new.place ≡ 6 → new.header ≡ old.header → new.target ≡ old.target → new.scrapes.items ≡ old.scrapes.items → new.posts.items ≡ old.posts.items ++ r ∷ []
+    → new.finished.items ≡ old.finished.items → Knows (p ∷ earlier) new
+post_known p r old new earlier k some at_place its_header its_targets place same_header same_target same_scrapes more same_finished =
     let last = the_target old.target some in
-    let before : targets_of earlier ≡ target_read (Some last.0) old.scrapes.items old.posts.items = k.targets ∙ ap (λ u. target_read u old.scrapes.items old.posts.items) last.1 in
-    let kept : targets_of (p ∷ earlier) ≡ target_read (Some last.0) old.scrapes.items (old.posts.items ++ r ∷ []) = its_targets ∙ ap (with_post r) before in
-    let read : target_read new.target new.scrapes.items new.posts.items ≡ target_read (Some last.0) old.scrapes.items (old.posts.items ++ r ∷ []) =
-    ap (λ u. target_read u new.scrapes.items new.posts.items) (same_target ∙ last.1) ∙ ap (λ rs. target_read (Some last.0) rs new.posts.items) same_scrapes
-    ∙ ap (target_read (Some last.0) old.scrapes.items) more in
+    let TargetsWith : Option Scraped → List MemoryReply → List MemoryReply → List ScriptTarget → List ScriptTarget = λ u xs ys ts. target_read u xs ys ++ reverse ts in
+    let before : targets_of earlier ≡ TargetsWith (Some last.0) old.scrapes.items old.posts.items old.finished.items = k.targets ∙ ap (λ u. TargetsWith u old.scrapes.items old.posts.items old.finished.items) last.1 in
+    let kept : targets_of (p ∷ earlier) ≡ TargetsWith (Some last.0) old.scrapes.items (old.posts.items ++ r ∷ []) old.finished.items = its_targets ∙ ap (with_post r) before in
+    let read : targets_read new ≡ TargetsWith (Some last.0) old.scrapes.items (old.posts.items ++ r ∷ []) old.finished.items =
+    ap (λ u. TargetsWith u new.scrapes.items new.posts.items new.finished.items) (same_target ∙ last.1) ∙ ap (λ rs. TargetsWith (Some last.0) rs new.posts.items new.finished.items) same_scrapes
+    ∙ ap (λ rs. TargetsWith (Some last.0) old.scrapes.items rs new.finished.items) more ∙ ap (TargetsWith (Some last.0) old.scrapes.items (old.posts.items ++ r ∷ [])) same_finished in
     let is_there : new.target ≢ None = λ none. true≢false (sym some ∙ ap is_some (sym same_target ∙ none)) in
     record {
       place = place ∙ sym at_place;
       header = same_header ∙ k.header ∙ sym its_header;
       targets = kept ∙ sym read;
-      no_scrapes = λ none. absurd (is_there none);
-      no_posts = λ none. absurd (is_there none);
+      none_finished = λ none. absurd (is_there none);
     }
 
 -- ---- pages
@@ -133,11 +133,11 @@ unfolding header_of
 page_header at format body earlier = refl
 
 pub page_taken : (at : ℕ) (format : Format) (body : List ℕ) (old new : Progress) → is_some old.target ≡ true → at < 2 ^ 64 → length body < 2 ^ 32 → new.place ≡ 6 → new.header ≡ old.header → new.target ≡ old.target
-    → new.scrapes.items ≡ old.scrapes.items ++ page_reply at format body ∷ [] → new.posts.items ≡ old.posts.items → TakesPart (page at format body) old new true
+    → new.scrapes.items ≡ old.scrapes.items ++ page_reply at format body ∷ [] → new.posts.items ≡ old.posts.items → new.finished.items ≡ old.finished.items → TakesPart (page at format body) old new true
 unfolding may_stand_behind
-page_taken at format body old new some early short place same_header same_target more same_posts earlier o k = (
+page_taken at format body old new some early short place same_header same_target more same_posts same_finished earlier o k = (
   sym (and_from (has_target (targets_of earlier)) (is_record at body) (has_read earlier old k ∙ some) (short_bytes at body early short)),
-  λ _. scrape_known (page at format body) (page_reply at format body) old new earlier k some refl (page_header at format body earlier) refl place same_header same_target more same_posts,
+  λ _. scrape_known (page at format body) (page_reply at format body) old new earlier k some refl (page_header at format body earlier) refl place same_header same_target more same_posts same_finished,
 )
 
 -- ---- scrapes
@@ -163,11 +163,11 @@ scrape_header at ending bytes earlier = refl
 
 pub scrape_taken : (at : ℕ) (ending : Ending) (bytes : List ℕ) (old new : Progress) → is_some old.target ≡ true → at < 2 ^ 64 → length bytes < 2 ^ 32 → fits_ending ending bytes ≡ true
     → new.place ≡ 6 → new.header ≡ old.header → new.target ≡ old.target
-    → new.scrapes.items ≡ old.scrapes.items ++ raw_reply at ending bytes ∷ [] → new.posts.items ≡ old.posts.items → TakesPart (scrape at ending bytes) old new true
+    → new.scrapes.items ≡ old.scrapes.items ++ raw_reply at ending bytes ∷ [] → new.posts.items ≡ old.posts.items → new.finished.items ≡ old.finished.items → TakesPart (scrape at ending bytes) old new true
 unfolding may_stand_behind
-scrape_taken at ending bytes old new some early short fits place same_header same_target more same_posts earlier o k = (
+scrape_taken at ending bytes old new some early short fits place same_header same_target more same_posts same_finished earlier o k = (
   sym (all_pass (has_target (targets_of earlier)) (is_record at bytes) (fits_ending ending bytes) (has_read earlier old k ∙ some) (short_bytes at bytes early short) fits),
-  λ _. scrape_known (scrape at ending bytes) (raw_reply at ending bytes) old new earlier k some refl (scrape_header at ending bytes earlier) refl place same_header same_target more same_posts,
+  λ _. scrape_known (scrape at ending bytes) (raw_reply at ending bytes) old new earlier k some refl (scrape_header at ending bytes earlier) refl place same_header same_target more same_posts same_finished,
 )
 
 -- ---- posts
@@ -201,43 +201,31 @@ post_header at ending bytes earlier = refl
 
 pub post_taken : (at : ℕ) (ending : Ending) (bytes : List ℕ) (old new : Progress) → is_some old.target ≡ true → nat_lt (length old.posts.items) (old.header.rounds * old.header.tries) ≡ true → at < 2 ^ 64
     → length bytes < 2 ^ 32 → fits_ending ending bytes ≡ true → new.place ≡ 6 → new.header ≡ old.header → new.target ≡ old.target
-    → new.scrapes.items ≡ old.scrapes.items → new.posts.items ≡ old.posts.items ++ raw_reply at ending bytes ∷ [] → TakesPart (post at ending bytes) old new true
+    → new.scrapes.items ≡ old.scrapes.items → new.posts.items ≡ old.posts.items ++ raw_reply at ending bytes ∷ [] → new.finished.items ≡ old.finished.items → TakesPart (post at ending bytes) old new true
 unfolding may_stand_behind
-post_taken at ending bytes old new some few early short fits place same_header same_target same_scrapes more earlier o k = (
+post_taken at ending bytes old new some few early short fits place same_header same_target same_scrapes more same_finished earlier o k = (
   sym (all_pass _ (is_record at bytes) (fits_ending ending bytes) (room_known earlier old true true k some few) (short_bytes at bytes early short) fits),
-  λ _. post_known (post at ending bytes) (raw_reply at ending bytes) old new earlier k some refl (post_header at ending bytes earlier) refl place same_header same_target same_scrapes more,
+  λ _. post_known (post at ending bytes) (raw_reply at ending bytes) old new earlier k some refl (post_header at ending bytes earlier) refl place same_header same_target same_scrapes more same_finished,
 )
 
 -- ---- the end
 
-pub no_target_read : (parts : List Part) (p : Progress) → Knows parts p → p.target ≡ None → may_end parts ≡ false
+pub no_target_read : (parts : List Part) (p : Progress) → Knows parts p → is_some p.target ≡ false → may_end parts ≡ false
 unfolding may_end
-no_target_read parts p k none = rw (k.targets ∙ ap (λ t. target_read t p.scrapes.items p.posts.items) none) refl
+no_target_read parts p k none = ap (λ b. b && is_last_whole (header_number parts Rounds) (targets_of parts)) (has_read parts p k ∙ none)
 
-ends_with : (parts : List Part) (p : Progress) (t : Scraped) → Knows parts p → p.target ≡ Some t → may_end parts ≡ (length p.scrapes.items == p.header.rounds)
+pub scrapes_left : (parts : List Part) (p : Progress) → Knows parts p → has_whole_target p ≡ false → may_end parts ≡ false
 unfolding may_end
-ends_with parts p t k some =
-    let rounds : header_number parts Rounds ≡ p.header.rounds = sym (header_rounds parts) ∙ sym (ap (λ (h : Header). h.rounds) k.header) in
-    rw (k.targets ∙ ap (λ u. target_read u p.scrapes.items p.posts.items) some, rounds) refl
+scrapes_left parts p k fails = ap (λ b. has_target (targets_of parts) && b) (last_known parts p k ∙ fails) ∙ and_false (has_target (targets_of parts))
 
-pub scrapes_missing : (parts : List Part) (p : Progress) (t : Scraped) → Knows parts p → p.target ≡ Some t → length p.scrapes.items ≢ p.header.rounds → may_end parts ≡ false
-scrapes_missing parts p t k some other = ends_with parts p t k some ∙ ne_eqb (length p.scrapes.items) p.header.rounds other
+-- a script ends where the last target is whole
+ends_whole : (parts : List Part) (p : Progress) → Knows parts p → is_some p.target ≡ true → has_whole_target p ≡ true → may_end parts ≡ true
+unfolding may_end
+ends_whole parts p k some whole = and_from (has_target (targets_of parts)) (is_last_whole (header_number parts Rounds) (targets_of parts)) (has_read parts p k ∙ some) (last_known parts p k ∙ whole)
 
-pub script_ends : (parts : List Part) (p : Progress) (t : Scraped) → Knows parts p → p.target ≡ Some t → length p.scrapes.items ≡ p.header.rounds
-    → Ends parts (Some (record { header = p.header; targets = record { target = t; scrapes = p.scrapes.items; posts = p.posts.items } ∷ [] }))
-script_ends parts p t k some all =
-    let last : List ScriptTarget = record { target = t; scrapes = p.scrapes.items; posts = p.posts.items } ∷ [] in
-    let targets : targets_of parts ≡ last = k.targets ∙ ap (λ u. target_read u p.scrapes.items p.posts.items) some in
-    let ScriptWith : Header → List ScriptTarget → Script = λ h ts. record { header = h; targets = ts } in (
-      ends_with parts p t k some ∙ eq-eqb (length p.scrapes.items) p.header.rounds all,
-      ap (λ h. ScriptWith h last) k.header ∙ ap (λ ts. ScriptWith (header_of parts) (reverse ts)) (sym targets),
-    )
-
-pub script_ended : (parts : List Part) (p : Progress) (t : Scraped) (h : Header) (scrapes posts : List MemoryReply) (ts : List ScriptTarget) → Knows parts p → p.target ≡ Some t → length p.scrapes.items ≡ p.header.rounds
-    → h ≡ p.header → scrapes ≡ p.scrapes.items → posts ≡ p.posts.items → ts ≡ record { target = t; scrapes = scrapes; posts = posts } ∷ [] → Ends parts (Some (record { header = h; targets = ts }))
-script_ended parts p t h scrapes posts ts k some all same_header same_scrapes same_posts made =
-    let ScriptWith : Header → List ScriptTarget → Script = λ h ts. record { header = h; targets = ts } in
-    let TargetWith : List MemoryReply → List MemoryReply → List ScriptTarget = λ xs ys. record { target = t; scrapes = xs; posts = ys } ∷ [] in
-    let whole : ts ≡ TargetWith p.scrapes.items p.posts.items = made ∙ ap (λ xs. TargetWith xs posts) same_scrapes ∙ ap (TargetWith p.scrapes.items) same_posts in
-    let ends = script_ends parts p t k some all in
-    (ends.0, ap (λ x. ScriptWith x ts) same_header ∙ ap (ScriptWith p.header) whole ∙ ends.1)
+pub script_ended : (parts : List Part) (p closed : Progress) (h : Header) (ts : List ScriptTarget) → Knows parts p → is_some p.target ≡ true → has_whole_target p ≡ true → IsClosed p closed
+    → h ≡ closed.header → ts ≡ closed.finished.items → Ends parts (Some (record { header = h; targets = ts }))
+script_ended parts p closed h ts k some whole is same_header same_targets =
+    let ScriptWith : Header → List ScriptTarget → Script = λ g us. record { header = g; targets = us } in
+    let all : ts ≡ reverse (targets_of parts) = same_targets ∙ sym (reverse-reverse closed.finished.items) ∙ ap reverse (is.targets ∙ sym k.targets) in
+    (ends_whole parts p k some whole, ap (λ g. ScriptWith g ts) (same_header ∙ is.header ∙ k.header) ∙ ap (ScriptWith (header_of parts)) all)

@@ -1,5 +1,5 @@
 -- The words of a script's target are texts of their lengths, as the type of a target keeps.
-use Rattle.std.proofs.Common.{◌≡◌, ℕ, zero, suc, ◌+◌, ◌≤◌, ◌&&◌, true, List, [], ◌∷◌, ◌++◌, length, codes, sym, ap, ◌∙◌, subst, arith, nat_le, length-append}
+use Rattle.std.proofs.Common.{◌≡◌, zero, suc, ◌+◌, ◌≤◌, true, ◌++◌, length, codes, sym, ap, ◌∙◌, subst, arith, nat_le, length-append}
 use Rattle.std.specs.Prelude.{IsUtf8}
 use Rattle.std.specs.Str.{IsAscii}
 use Rattle.std.specs.Fmt.{decimal}

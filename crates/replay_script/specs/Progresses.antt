@@ -1,6 +1,6 @@
 -- What is kept of the parts that were read.
 -- The bridge's own.
-use Rattle.std.specs.Prelude.{◌≡◌, ℕ, Bool, true, false, List, [], ◌∷◌, ◌++◌, Option, Some, None, ⊤}
+use Rattle.std.specs.Prelude.{◌≡◌, ℕ, Bool, true, false, List, [], ◌∷◌, ◌++◌, reverse, Option, Some, None, ⊤}
 use Rattle.replay_script.specs.declared.header.Header.{Header}
 use Rattle.replay_script.specs.declared.header.HeaderLine.{HeaderLine}
 use Rattle.replay_script.specs.declared.header.HeaderLine.TheVariants.{Keep, Tries, Limit, MaxPage, Cut, Rounds}
@@ -18,7 +18,7 @@ use Rattle.replay_script.specs.declared.progress.Progress.{Progress}
 use Rattle.replay_script.specs.HeaderLines.{place_of}
 use Rattle.replay_script.specs.ScriptParts.{TargetLine, Part, opening, header, target, page, scrape, post, parts_text}
 use Rattle.replay_script.specs.ScriptContents.{header_of, targets_of, script_of}
-use Rattle.replay_script.specs.ScriptRules.{may_stand_behind, may_end, AreInOrder}
+use Rattle.replay_script.specs.ScriptRules.{is_last_whole, may_stand_behind, may_end, AreInOrder}
 use Rattle.replay_script.specs.Scripts.{HasScriptFault}
 
 -- the words of a target line that were found
@@ -54,18 +54,32 @@ with_header_number MaxPage n h = record { keep = h.keep; tries = h.tries; limit 
 with_header_number Cut n h = record { keep = h.keep; tries = h.tries; limit = h.limit; max_page = h.max_page; cut = n; rounds = h.rounds }
 with_header_number Rounds n h = record { keep = h.keep; tries = h.tries; limit = h.limit; max_page = h.max_page; cut = h.cut; rounds = n }
 
--- the target that was read, with the replies to its scrapes and posts
+-- the target that records belong to, with the replies to its scrapes and posts that were read
 abbrev pub target_read : Option Scraped → List MemoryReply → List MemoryReply → List ScriptTarget
 target_read None scrapes posts = []
 target_read (Some t) scrapes posts = record { target = t; scrapes = scrapes; posts = posts } ∷ []
+
+-- the targets that were read, of which the last comes first
+abbrev pub targets_read : Progress → List ScriptTarget
+targets_read p = target_read p.target p.scrapes.items p.posts.items ++ reverse p.finished.items
+
+-- the target that records belong to, where there is one, has all its scrapes
+abbrev pub has_whole_target : Progress → Bool
+has_whole_target p = is_last_whole p.header.rounds (target_read p.target p.scrapes.items p.posts.items)
 
 -- this is kept of these parts, of which the last comes first
 pub record Knows (parts : List Part) (p : Progress) : Type 0 where
   pub place : p.place ≡ place_behind parts
   pub header : p.header ≡ header_of parts
-  pub targets : targets_of parts ≡ target_read p.target p.scrapes.items p.posts.items
-  pub no_scrapes : p.target ≡ None → p.scrapes.items ≡ []
-  pub no_posts : p.target ≡ None → p.posts.items ≡ []
+  pub targets : targets_of parts ≡ targets_read p
+  pub none_finished : p.target ≡ None → p.finished.items ≡ []
+
+-- the target that records belong to was put behind those that are finished
+pub record IsClosed (old new : Progress) : Type 0 where
+  pub header : new.header ≡ old.header
+  pub targets : reverse new.finished.items ≡ targets_read old
+  pub no_scrapes : new.scrapes.items ≡ []
+  pub no_posts : new.posts.items ≡ []
 
 -- the answer to a part: whether it may follow, and where it may, what is kept of it too
 abbrev pub TakesPart : Part → Progress → Progress → Bool → Type 0

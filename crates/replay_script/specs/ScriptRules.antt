@@ -45,9 +45,13 @@ is_target_line t = is_visible_word 256 t.job && is_visible_word 256 t.host && is
 abbrev pub same_names : Scraped → Scraped → Bool
 same_names a b = bytes_eq a.job b.job && bytes_eq a.instance b.instance
 
+-- some target has the job and the instance of this one
+abbrev pub is_named_in : List ScriptTarget → Scraped → Bool
+is_named_in targets t = list_any (λ (other : ScriptTarget). same_names t other.target) targets
+
 -- some target has this job and this instance
 abbrev pub is_named_before : TargetLine → List ScriptTarget → Bool
-is_named_before t targets = list_any (λ (other : ScriptTarget). same_names (target_of t) other.target) targets
+is_named_before t targets = is_named_in targets (target_of t)
 
 -- a record's time and length are in their ranges
 abbrev pub is_record : ℕ → List ℕ → Bool
@@ -67,7 +71,7 @@ has_target (last ∷ others) = true
 
 -- the most targets of a script
 abbrev pub most_targets : ℕ
-most_targets = 1
+most_targets = 256
 
 -- the part may stand behind the earlier ones, of which the last comes first
 unfoldable pub may_stand_behind : List Part → Part → Bool

@@ -28,7 +28,7 @@ pub struct Header {
     pub max_page: u32,
     /// The most bytes that one read hands out, from 1 to 65,536.
     pub cut: u32,
-    /// How many scrapes the target has, from 1 to 1,000,000.
+    /// How many scrapes each target has, from 1 to 1,000,000.
     pub rounds: u32,
 }
 

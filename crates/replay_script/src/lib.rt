@@ -2,7 +2,7 @@
 //! of its first fault.
 //!
 //! A script is a list of parts, each with one text: the opening line, header lines, target lines and
-//! records. It has one target.
+//! records. It has 1 to 256 targets, and a record belongs to the target line above it.
 #![tactic(auto)]
 
 mod counting;

@@ -1,22 +1,26 @@
 //! What is kept of the parts that were read.
 ghost use Rattle.std.specs.Prelude.{◌≡◌, ◌*◌, List as Seq, [], length, nat_lt, IfOk};
 ghost use Rattle.replay_script.specs.ScriptParts as spec;
-ghost use Rattle.replay_script.specs.Progresses.{part_found_as, words_found_as, Knows, TakesPart, Ends};
+ghost use Rattle.replay_script.specs.Progresses.{part_found_as, words_found_as, has_whole_target, Knows, IsClosed, TakesPart, Ends};
 
 use crate::header::{Header, HeaderLine};
 use crate::parts::{FoundPart, PageWords, ReplyWords, TargetWords};
 use crate::replies::{page_reply, raw_reply};
 use crate::script::{Script, ScriptTarget};
-use crate::targets::{is_target_line, target};
+use crate::targets::{is_named_in, is_target_line, target};
 use bridge_ports::{MemoryReply, Target};
 use label_sets::List;
 use std::alloc::{AllocError, Global};
+use std::mem;
 
 /// The place before the opening line.
 const BEFORE_ALL: u32 = 7;
 
 /// The place behind the header.
 const BEHIND_HEADER: u32 = 6;
+
+/// The most targets of a script.
+const MOST_TARGETS: usize = 256;
 
 /// The most bytes of a record.
 const MOST_BODY_BYTES: usize = 0xFFFF_FFFF;
@@ -27,6 +31,9 @@ pub(crate) struct Progress {
     /// Where the parts are in the order of the header.
     place: u32,
     header: Header,
+    /// The targets above the one that records belong to, each with all its scrapes.
+    finished: Vec<ScriptTarget>,
+    /// The target that records belong to, and what they say of it.
     target: Option<Target>,
     scrapes: Vec<MemoryReply>,
     posts: Vec<MemoryReply>,
@@ -40,6 +47,7 @@ impl Progress {
         Progress {
             place: BEFORE_ALL,
             header: Header::new(),
+            finished: Vec::new(alloc),
             target: None,
             scrapes: Vec::new(alloc),
             posts: Vec::new(alloc),
@@ -72,6 +80,36 @@ impl Progress {
         true
     }
 
+    /// Whether the target that records belong to, where there is one, has all its scrapes.
+    fn has_whole_target(&self) -> bool
+        ensures { result ≡ has_whole_target self.now }
+    {
+        match &self.target {
+            None => true,
+            Some(_) => self.scrapes.len() == self.header.rounds as usize,
+        }
+    }
+
+    /// Puts the target that records belong to, where there is one, behind those that are finished.
+    fn close_target(&mut self, alloc: Global) -> Result<(), AllocError>
+        ensures { IfOk result (λ _. IsClosed self.old self.new) }
+    {
+        let scrapes = mem::replace(&mut self.scrapes, Vec::new(alloc));
+        let posts = mem::replace(&mut self.posts, Vec::new(alloc));
+        let target = match self.target.take() {
+            Some(target) => target,
+            None => return Ok(()),
+        };
+        let scrapes = List::from_vec(scrapes)?;
+        let posts = List::from_vec(posts)?;
+        self.finished.push(ScriptTarget {
+            target,
+            scrapes,
+            posts,
+        })?;
+        Ok(())
+    }
+
     /// Takes a target line, where it may follow.
     fn target_line(&mut self, alloc: Global, words: &TargetWords<'_>) -> Result<bool, AllocError>
         ensures { IfOk result (TakesPart (spec.target (words_found_as words.now)) self.old self.new) }
@@ -79,13 +117,20 @@ impl Progress {
         if self.header.rounds == 0 {
             return Ok(false);
         }
-        if self.target.is_some() {
+        if !self.has_whole_target() {
             return Ok(false);
         }
         if !is_target_line(words) {
             return Ok(false);
         }
         let target = target(alloc, words)?;
+        self.close_target(alloc)?;
+        if self.finished.len() >= MOST_TARGETS {
+            return Ok(false);
+        }
+        if is_named_in(self.finished.as_slice(), &target) {
+            return Ok(false);
+        }
         self.target = Some(target);
         self.place = BEHIND_HEADER;
         Ok(true)
@@ -171,32 +216,22 @@ impl Progress {
     }
 
     /// What the parts say, where a script may end behind them.
-    pub(crate) fn finish(self, alloc: Global) -> Result<Option<Script>, AllocError>
+    pub(crate) fn finish(mut self, alloc: Global) -> Result<Option<Script>, AllocError>
         ensures { (parts : Seq spec.Part) → Knows parts self → IfOk result (Ends parts) }
     {
-        let Progress {
-            header,
-            target,
-            scrapes,
-            posts,
-            ..
-        } = self;
-        let target = match target {
-            Some(target) => target,
-            None => return Ok(None),
-        };
-        if scrapes.len() != header.rounds as usize {
+        if self.target.is_none() {
             return Ok(None);
         }
-        let scrapes = List::from_vec(scrapes)?;
-        let posts = List::from_vec(posts)?;
-        let mut targets = Vec::new(alloc);
-        targets.push(ScriptTarget {
-            target,
-            scrapes,
-            posts,
-        })?;
-        let targets = List::from_vec(targets)?;
+        if !self.has_whole_target() {
+            return Ok(None);
+        }
+        self.close_target(alloc)?;
+        let Progress {
+            header,
+            finished,
+            ..
+        } = self;
+        let targets = List::from_vec(finished)?;
         Ok(Some(Script { header, targets }))
     }
 }

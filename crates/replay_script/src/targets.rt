@@ -6,6 +6,7 @@ ghost use Rattle.replay_script.specs.ScriptContents.{target_of};
 ghost use Rattle.replay_script.specs.Progresses.{words_found_as};
 
 use crate::parts::TargetWords;
+use crate::script::ScriptTarget;
 use bridge_ports::{Address, Target};
 use label_sets::{Bytes, Text};
 use plain_words::is_visible_word;
@@ -23,6 +24,25 @@ pub(crate) fn is_target_line(words: &TargetWords<'_>) -> bool
         && words.port >= 1
         && is_visible_word(MOST_WORD_BYTES, words.path)
         && words.path.starts_with(b"/")
+}
+
+/// Whether two targets have one job and one instance.
+fn same_names(a: &Target, b: &Target) -> bool
+    ensures { result ≡ rules.same_names a.now b.now }
+{
+    a.job().as_bytes() == b.job().as_bytes() && a.instance().as_bytes() == b.instance().as_bytes()
+}
+
+/// Whether one of these targets has the job and the instance of this one.
+pub(crate) fn is_named_in(targets: &[ScriptTarget], target: &Target) -> bool
+    ensures { result ≡ rules.is_named_in targets.now target.now }
+{
+    for other in targets {
+        if same_names(target, &other.target) {
+            return true;
+        }
+    }
+    false
 }
 
 /// Host, colon and port.

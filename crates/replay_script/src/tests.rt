@@ -95,6 +95,64 @@ fn refused_lines(rt: HostRuntime) {
             alloc,
             b"bridge-script 1\nrounds 1\ntarget j h:1 /m\npage 1 text 1\n\n\ntarget k h:2 /m\n"
         ),
+        Some(8)
+    );
+    assert_eq!(rt;
+        line(
+            alloc,
+            b"bridge-script 1\nrounds 2\ntarget j h:1 /m\npage 1 text 1\n\n\ntarget k h:2 /m\n"
+        ),
         Some(7)
     );
+    assert_eq!(rt;
+        line(
+            alloc,
+            b"bridge-script 1\nrounds 1\ntarget j h:1 /m\npage 1 text 1\n\n\ntarget j h:1 /x\n"
+        ),
+        Some(7)
+    );
+}
+
+#[test]
+fn three_targets(rt: HostRuntime) {
+    let script = read(
+        rt.alloc(),
+        b"bridge-script 1\nrounds 1\ntarget j h:1 /m\nscrape 1 connect 0\n\npost 2 write 0\n\ntarget j h:2 /m\nscrape 3 write 0\n\ntarget k h:1 /m\npost 4 connect 0\n\nscrape 5 ended 0\n\n",
+    )
+    .expect(&rt, "a script");
+    assert_eq!(rt; script.targets.len(), 3);
+    let targets = script.targets.as_slice();
+    assert!(rt; targets[0].target.instance().as_bytes() == b"h:1".as_slice());
+    assert!(rt; targets[1].target.instance().as_bytes() == b"h:2".as_slice());
+    assert!(rt; targets[2].target.job().as_bytes() == b"k".as_slice());
+    assert_eq!(rt; targets[0].posts.len(), 1);
+    assert_eq!(rt; targets[1].posts.len(), 0);
+    assert_eq!(rt; targets[2].posts.len(), 1);
+    assert_eq!(rt; targets[1].scrapes.len(), 1);
+    assert_eq!(rt; targets[1].scrapes.as_slice()[0].at, 3);
+    assert_eq!(rt; targets[2].scrapes.len(), 1);
+    assert_eq!(rt; targets[2].scrapes.as_slice()[0].at, 5);
+}
+
+#[test]
+fn many_targets(rt: HostRuntime) {
+    let alloc = rt.alloc();
+    let mut script = Vec::new(alloc);
+    script
+        .extend_from_slice(b"bridge-script 1\nrounds 1\n")
+        .expect(&rt, "memory");
+    for port in 1..=256_u16 {
+        let lines = format!(in alloc; "target j h:{port} /m\npage 1 text 0\n\n").expect(
+            &rt, "memory",
+        );
+        script
+            .extend_from_slice(lines.as_bytes())
+            .expect(&rt, "memory");
+    }
+    let whole = read(alloc, script.as_slice()).expect(&rt, "a script");
+    assert_eq!(rt; whole.targets.len(), 256);
+    script
+        .extend_from_slice(b"target j h:257 /m\npage 1 text 0\n\n")
+        .expect(&rt, "memory");
+    assert_eq!(rt; line(alloc, script.as_slice()), Some(771));
 }

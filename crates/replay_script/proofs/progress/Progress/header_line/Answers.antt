@@ -12,4 +12,4 @@ pub overflow_cast-number : goal.overflow_cast-number
 overflow_cast-number c = let small = row_small c.args.line c.args.number (sym c.may_have.ensures ∙ c.if-not-may_have.false) in omega (arith, small)
 
 pub returns : goal.returns
-returns c = header_taken c.args.line c.args.number c.args.self.now _ (omega (arith, c.place.ensures, c.if-place-self.false)) (sym c.may_have.ensures ∙ c.if-not-may_have.false) c.place-self.ensures c.with-self.ensures refl refl refl
+returns c = header_taken c.args.line c.args.number c.args.self.now _ (omega (arith, c.place.ensures, c.if-place-self.false)) (sym c.may_have.ensures ∙ c.if-not-may_have.false) c.place-self.ensures c.with-self.ensures refl refl refl refl

@@ -6,4 +6,4 @@ pub returns-then-self-ne-BEFORE_ALL : goal.returns-then-self-ne-BEFORE_ALL
 returns-then-self-ne-BEFORE_ALL c = opening_refused _ _ c.if-self-ne-BEFORE_ALL.true
 
 pub returns : goal.returns
-returns c = opening_taken c.args.self.now _ c.if-self-ne-BEFORE_ALL.false refl refl refl refl refl
+returns c = opening_taken c.args.self.now _ c.if-self-ne-BEFORE_ALL.false refl refl refl refl refl refl

@@ -18,4 +18,4 @@ pub returns : goal.returns
 returns c =
     post_taken c.args.words.now.at c.args.words.now.ending c.args.words.now.got.now c.args.self.now _ (c.is_none.ensures ∙ ap not c.if-is_none.false) (sym c.may_post.ensures ∙ c.if-not-may_post.false) (omega arith)
     (omega (arith, c.if-words-gt-MOST_BODY_BYTES.false)) (sym c.may_have.ensures ∙ c.if-not-may_have.false) refl refl refl
-    refl (c.in_ok-push.ensures.items ∙ ap (λ r. c.args.self.now.posts.items ++ r ∷ []) c.in_ok-reply.ensures)
+    refl (c.in_ok-push.ensures.items ∙ ap (λ r. c.args.self.now.posts.items ++ r ∷ []) c.in_ok-reply.ensures) refl
