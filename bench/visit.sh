@@ -1,10 +1,12 @@
 #!/bin/sh
-# What a visit of a target costs over converting its page: a page of 20,000 samples is read, made a tree and its
-# JSON text, and a track is visited over wires in memory that answer the same page and take its body. One program
-# takes both in turn, pinned to one processor, and the least time of each counts. A ratio above 1.50 is an error,
-# and so is a peak of memory above 64 MiB over 10 or 200 visits, or one that grows between them: there no
-# connection comes to the collector, so that the wires in memory, which keep what was sent, keep nothing.
-# Needs rt, awk, python3 and taskset. Run from anywhere: bench/visit.sh [TURNS]
+# What a history and a visit of a target cost over `bridge convert text`. A page of 20,000 samples is converted by
+# the command; in a program, the third page of a target is read, made a tree and its JSON text, where in each page
+# one series in a hundred is gone and those of the page before are back; and a track is visited over wires in memory
+# that answer the page, take its body and keep nothing. All take turns, pinned to one processor, and the least time
+# of each counts. A ratio above 1.40 for the third page or 1.50 for the visit is an error, and so is a peak of memory
+# above 64 MiB over 10 or 200 visits, or one that grows between them. What converting the page costs inside of the
+# program, where nothing is started and no input is read, is printed beside.
+# Needs rt, python3 and taskset. Run from anywhere: bench/visit.sh [TURNS]
 set -eu
 turns=${1:-15}
 . "$(dirname "$0")/workspace.sh"
@@ -12,21 +14,23 @@ core=$(($(nproc) - 1))
 node_page 20000 >"$work/page"
 
 take_crates series_table text_grammar
-add_program time_visit "series_table text_grammar target_core otlp_json otlp_tree bridge_ports page_model label_sets exact_decimal" <<'MAIN'
+add_program time_visit "series_table text_grammar target_core start_times otlp_json otlp_tree bridge_ports page_model label_sets exact_decimal" <<'MAIN'
 //! Reads a page on standard input, and visits a target that answers it as often as the first word says. With a
-//! second word nobody takes the bodies, and nothing is timed. Prints for each visit the nanoseconds of converting
-//! the page and of the visit, and how many bodies were taken so far.
+//! second word nothing is beside the visits. Prints for each visit the nanoseconds of converting
+//! the page, of the third page of a target and of the visit, and how many bodies were taken so far.
 #![tactic(auto)]
 
-ghost use Rattle.std.specs.Prelude.{◌≡◌, IfOk};
-ghost use Rattle.bridge_ports.specs.Plans.{seen_of};
+ghost use Rattle.std.specs.Prelude.{◌≡◌, Some, IfOk, OnOk};
+ghost use Rattle.start_times.specs.Scrapes.{moment_after};
+ghost use Rattle.target_core.specs.States.{HasNextMoment};
 ghost use Rattle.series_table.specs.Records.{IsFresh};
 
-use bridge_ports::{Address, End, MemoryReply, MemoryWire, Place, Settings, Target};
-use label_sets::{Bytes, List, Text};
+use bridge_ports::{Address, Failed, Place, Settings, Stage, Target, Wire};
+use label_sets::{Bytes, Memory, Text};
 use page_model::{Event, Outcome, PageFault, Treatment};
 use series_table::{Track, TrackFault};
 use std::alloc::{AllocError, Global};
+use std::marker::Model;
 use std::time::Instant;
 use std::{env, io};
 use target_core::TargetState;
@@ -42,40 +46,119 @@ const SETTINGS: Settings = Settings {
 
 const TAKEN: &[u8] = b"HTTP/1.1 200 OK\r\n\r\n";
 
-fn address(alloc: Global) -> Result<Address, AllocError> {
-    Ok(Address {
-        host: Bytes::from_slice(alloc, "h".as_bytes())?,
-        port: 1,
-        path: Bytes::from_slice(alloc, b"/metrics")?,
-    })
-}
-
 fn target(alloc: Global) -> Result<Target, AllocError> {
     let job = Text::from_str(alloc, "j")?;
     let instance = Text::from_str(alloc, "h:1")?;
-    Ok(Target::new(job, instance, address(alloc)?, false))
-}
-
-/// A wire that answers this in each talk, or to which no connection comes.
-fn wire(alloc: Global, post: bool, got: Option<&[u8]>) -> Result<MemoryWire, AllocError>
-    ensures { IfOk result (λ wire. IsFresh (seen_of wire)) }
-{
-    let place = Place { number: 1, post };
-    let after = match got {
-        Some(got) => Some(MemoryReply {
-            at: 0,
-            got: Bytes::from_slice(alloc, got)?,
-            end: End::Ended,
-        }),
-        None => None,
+    let address = Address {
+        host: Bytes::from_slice(alloc, "h".as_bytes())?,
+        port: 1,
+        path: Bytes::from_slice(alloc, b"/metrics")?,
     };
-    let (replies, failing) = (List::new(alloc), List::new(alloc));
-    Ok(MemoryWire::new(
-        alloc, place, replies, after, 65_536, failing,
-    ))
+    Ok(Target::new(job, instance, address, false))
 }
 
-fn converted(alloc: Global, bytes: &[u8]) -> Result<usize, PageFault> {
+fn collector(alloc: Global) -> Result<Address, AllocError> {
+    Ok(Address {
+        host: Bytes::from_slice(alloc, b"c")?,
+        port: 1,
+        path: Bytes::from_slice(alloc, b"/v1/metrics")?,
+    })
+}
+
+/// A wire without a peer: it answers the same bytes in each talk, and takes what is sent and forgets it.
+#[derive(Drop)]
+struct Stub {
+    place: Place,
+    allowed: u32,
+    room: u64,
+    left: u64,
+    stage: Stage,
+    reply: Bytes,
+    read: usize,
+}
+
+impl Model for Stub {
+    ghost use Rattle.std.specs.Prelude.{None};
+    ghost use Rattle.bridge_ports.specs.Talks.{WireState};
+
+    ghost Value = { WireState };
+
+    ghost view = { λ w. record {
+      place = w.place;
+      plan = None;
+      faults = 0;
+      allowed = w.allowed;
+      room = w.room;
+      stage = w.stage;
+      left = w.left;
+      told = None;
+    } };
+}
+
+impl Wire for Stub {
+    ghost state = { λ w. w };
+
+    fn ready(&mut self, _alloc: Global, count: u32, room: u64) -> Result<(), Memory> {
+        self.allowed = count;
+        self.room = room;
+        Ok(())
+    }
+
+    fn begin(&mut self, _due: u64) -> u64 {
+        self.allowed -= 1;
+        self.left = self.room;
+        self.stage = Stage::Begun;
+        self.read = 0;
+        0
+    }
+
+    fn connect(&mut self) -> Result<(), Failed> {
+        self.stage = Stage::Connected;
+        Ok(())
+    }
+
+    fn write(&mut self, piece: &[u8]) -> Result<u32, Failed> {
+        let count = piece.len().min(u32::MAX as usize);
+        self.left -= count as u64;
+        Ok(count as u32)
+    }
+
+    fn read(&mut self, into: &mut [u8]) -> Result<u32, Failed> {
+        let reply = self.reply.as_slice();
+        let read = self.read.min(reply.len());
+        let count = (reply.len() - read).min(into.len()).min(65_536);
+        into[..count].copy_from_slice(&reply[read..read + count]);
+        self.read = read + count;
+        if count == 0 {
+            self.stage = Stage::Idle;
+        }
+        Ok(count as u32)
+    }
+
+    fn leave(&mut self) {
+        self.stage = Stage::Idle;
+    }
+}
+
+/// A wire that answers this.
+fn wire(alloc: Global, post: bool, reply: &[u8]) -> Result<Stub, AllocError>
+    ensures { IfOk result (λ wire. IsFresh wire) }
+{
+    Ok(Stub {
+        place: Place { number: 1, post },
+        allowed: 0,
+        room: 0,
+        left: 0,
+        stage: Stage::Idle,
+        reply: Bytes::from_slice(alloc, reply)?,
+        read: 0,
+    })
+}
+
+/// The scrape of a page.
+fn read(alloc: Global, bytes: &[u8]) -> Result<Event, PageFault>
+    ensures { IfOk result (λ event. event.reading ≡ 0) }
+{
     let mut page = TextPage::new(alloc, Treatment::Scraped, SETTINGS.limit)?;
     for piece in bytes.chunks(65_536) {
         if !page.has_room(piece) {
@@ -83,58 +166,109 @@ fn converted(alloc: Global, bytes: &[u8]) -> Result<usize, PageFault> {
         }
         page.feed(piece)?;
     }
-    let page = page.finish()?;
-    let mut state = TargetState::new(alloc, target(alloc)?, SETTINGS.keep)?;
-    let tree = state.step(
-        alloc,
-        Event {
-            reading: 0,
-            outcome: Outcome::Page(page),
-        },
-    )?;
+    Ok(Event {
+        reading: 0,
+        outcome: Outcome::Page(page.finish()?),
+    })
+}
+
+/// The length of the text of the next scrape.
+fn step(alloc: Global, state: &mut TargetState, bytes: &[u8]) -> Result<usize, PageFault>
+    requires { HasNextMoment state.old.moment }
+    ensures { OnOk result (state.new.moment ≡ Some (moment_after state.old.moment 0)) }
+{
+    let event = read(alloc, bytes)?;
+    let tree = state.step(alloc, event)?;
     let mut text = Vec::new(alloc);
     otlp_json::write(&tree, &mut text)?;
     Ok(text.len())
 }
 
+fn converted(alloc: Global, bytes: &[u8]) -> Result<usize, PageFault> {
+    let mut state = TargetState::new(alloc, target(alloc)?, SETTINGS.keep)?;
+    step(alloc, &mut state, bytes)
+}
+
+/// A target that was scraped twice.
+fn scraped_twice(alloc: Global, first: &[u8], second: &[u8]) -> Result<TargetState, PageFault>
+    ensures { IfOk result (λ state. HasNextMoment state.moment) }
+{
+    let mut state = TargetState::new(alloc, target(alloc)?, SETTINGS.keep)?;
+    step(alloc, &mut state, first)?;
+    step(alloc, &mut state, second)?;
+    Ok(state)
+}
+
+/// The page without one sample in a hundred, another one for each turn.
+fn thinned(alloc: Global, page: &[u8], turn: u32) -> Result<Vec<u8>, AllocError> {
+    let mut kept = Vec::new(alloc);
+    let mut samples = 0u32;
+    let (mut begins, mut stays) = (true, true);
+    for &byte in page {
+        if begins {
+            let is_sample = byte != b'#';
+            if is_sample {
+                samples = samples.wrapping_add(1);
+            }
+            stays = !is_sample || samples % 100 != turn % 100;
+        }
+        begins = byte == b'\n';
+        if stays {
+            kept.push(byte)?;
+        }
+    }
+    Ok(kept)
+}
+
+/// The nanoseconds of converting a page, and those of the third page of a target.
+fn histories(rt: &HostRuntime, page: &[u8]) -> io::Result<(u128, u128)> {
+    let alloc = rt.alloc();
+    let (first, second) = (thinned(alloc, page, 0)?, thinned(alloc, page, 1)?);
+    let third = thinned(alloc, page, 2)?;
+    let start = Instant::now(rt)?;
+    let _length = converted(alloc, page).unwrap_or(0);
+    let converting = start.elapsed(rt)?.as_nanos();
+    let Ok(mut state) = scraped_twice(alloc, first.as_slice(), second.as_slice()) else {
+        return Err(io::Error::from(io::ErrorKind::InvalidData));
+    };
+    let start = Instant::now(rt)?;
+    let _length = step(alloc, &mut state, third.as_slice()).unwrap_or(0);
+    Ok((converting, start.elapsed(rt)?.as_nanos()))
+}
+
 fn timed(
     rt: &HostRuntime,
-    track: &mut Track<MemoryWire>,
-    bytes: &[u8],
+    track: &mut Track<Stub>,
+    page: &[u8],
     count: u32,
-    lost: bool,
+    alone: bool,
 ) -> io::Result<()> {
     for _ in 0..count {
-        let start = Instant::now(rt)?;
-        if !lost {
-            let _length = converted(rt.alloc(), bytes).unwrap_or(0);
-        }
-        let converting = start.elapsed(rt)?.as_nanos();
+        let (converting, third) = if alone { (0, 0) } else { histories(rt, page)? };
         let start = Instant::now(rt)?;
         if track.counts().visits < 1_000_000 {
             let _visited = track.visit(rt.alloc());
         }
         let visiting = start.elapsed(rt)?.as_nanos();
         let taken = track.counts().accepted;
-        println!(rt; "{converting} {visiting} {taken}")?;
+        println!(rt; "{converting} {third} {visiting} {taken}")?;
     }
     Ok(())
 }
 
-fn visits(rt: &HostRuntime, bytes: &[u8], count: u32, lost: bool) -> io::Result<()> {
+fn visits(rt: &HostRuntime, bytes: &[u8], count: u32, alone: bool) -> io::Result<()> {
     let alloc = rt.alloc();
     let mut reply = Vec::from_slice(alloc, b"HTTP/1.1 200 OK\r\n\r\n")?;
     reply.extend_from_slice(bytes)?;
-    let scrape = wire(alloc, false, Some(reply.as_slice()))?;
-    let post = wire(alloc, true, if lost { None } else { Some(TAKEN) })?;
-    let (target, to) = (target(alloc)?, address(alloc)?);
+    let (scrape, post) = (wire(alloc, false, reply.as_slice())?, wire(alloc, true, TAKEN)?);
+    let (target, to) = (target(alloc)?, collector(alloc)?);
     let mut track = match Track::new(alloc, target, to, SETTINGS, scrape, post) {
         Ok(track) => track,
         Err(TrackFault::Memory(_scrape, _post)) => {
             return Err(io::Error::from(io::ErrorKind::OutOfMemory));
         }
     };
-    let ended = timed(rt, &mut track, bytes, count, lost);
+    let ended = timed(rt, &mut track, bytes, count, alone);
     let (_scrape, _post) = track.into_wires();
     ended
 }
@@ -149,34 +283,38 @@ fn main(rt: HostRuntime) -> io::Result<()> {
         .next()
         .and_then(|word| word.parse::<u32>().ok())
         .unwrap_or(3);
-    let lost = words.next().is_some();
-    visits(&rt, page.as_slice(), count, lost)
+    let alone = words.next().is_some();
+    visits(&rt, page.as_slice(), count, alone)
 }
 MAIN
 build_program time_visit 1
-taskset -c "$core" "$work/proved" "$turns" <"$work/page" >"$work/times"
-if ! awk '$3 != NR { exit 1 }' "$work/times"; then
-    echo "a body was not taken:"
-    cat "$work/times"
-    exit 1
-fi
-late=0
-awk '
-    NR == 1 || $1 < converting { converting = $1 }
-    NR == 2 || NR > 2 && $2 < visiting { visiting = $2 }
-    END {
-        ratio = visiting / converting
-        printf "visit: %.2f ms, converting: %.2f ms, ratio %.2f, at most 1.50\n", visiting / 1e6, converting / 1e6, ratio
-        exit ratio > 1.5
-    }' "$work/times" || late=1
-python3 - "$here" "$work/proved" "$work/page" <<'PEAK' || late=1
+taskset -c "$core" python3 - "$here" "$work/proved" "$work/page" "$turns" <<'COMPARE'
+import subprocess
 import sys
 
-sys.path.insert(0, sys.argv[1])
-from timing import peak_bytes
+here, visiting, page, turns = sys.argv[1:]
+sys.path.insert(0, here)
+from timing import built_program, peak_bytes, seconds
 
-peaks = {count: peak_bytes([sys.argv[2], str(count), "lost"], sys.argv[3]) / 2**20 for count in (10, 200)}
+convert = [built_program(), "convert", "text", "j", "h:1", "1000"]
+commands, rows = [], []
+for _ in range(int(turns)):
+    commands.append(seconds(convert, page))
+    with open(page, "rb") as source:
+        told = subprocess.run([visiting, "3"], stdin=source, capture_output=True, text=True, check=True).stdout
+    turn = [[int(word) for word in line.split()] for line in told.splitlines()]
+    if [row[3] for row in turn] != [1, 2, 3]:
+        sys.exit(f"a body was not taken: {told}")
+    rows.append(turn)
+command = min(commands) * 1e3
+inside = min(row[0] for turn in rows for row in turn) / 1e6
+third = min(row[1] for turn in rows for row in turn) / 1e6
+visit = min(row[2] for turn in rows for row in turn[1:]) / 1e6
+print(f"convert: {command:.1f} ms; inside of a program {inside:.1f} ms")
+print(f"the third page: {third:.1f} ms, ratio {third / command:.2f}, at most 1.40; inside {third / inside:.2f}")
+print(f"a visit: {visit:.1f} ms, ratio {visit / command:.2f}, at most 1.50; inside {visit / inside:.2f}")
+peaks = {count: peak_bytes([visiting, str(count), "alone"], page) / 2**20 for count in (10, 200)}
 print("; ".join(f"peak memory of {count} visits: {peak:.0f} MiB" for count, peak in peaks.items()))
-sys.exit(max(peaks.values()) > 64 or peaks[200] > 1.1 * peaks[10])
-PEAK
-exit "$late"
+late = third > 1.4 * command or visit > 1.5 * command
+sys.exit(late or max(peaks.values()) > 64 or peaks[200] > 1.1 * peaks[10])
+COMPARE
