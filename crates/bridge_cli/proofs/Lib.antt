@@ -6,6 +6,7 @@ mod PageAnswerLaws
 mod ScriptAnswerLaws
 mod ReplayLaws
 mod VisitLaws
+mod TurnLaws
 mod ScriptLaws
 mod CommandLaws
 mod AnswerLaws

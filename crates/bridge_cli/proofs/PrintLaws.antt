@@ -1,5 +1,5 @@
 -- From what is to be printed, and how printing ended, to what the program answers.
-use Rattle.std.proofs.Common.{◌≡◌, ◌≢◌, ℕ, true, false, List, [], ◌∷◌, ◌++◌, Option, Some, None, Err, refl, sym, ap, subst, ◌∙◌, ◌⊎◌, inl, inr, arith}
+use Rattle.std.proofs.Common.{◌≡◌, ◌≢◌, ℕ, true, List, [], Option, Err, refl, sym, subst, ◌∙◌, ◌⊎◌, inl, inr, arith}
 use Rattle.std.specs.Io.KnownBytes.{Appends}
 use Rattle.std.proofs.lemmas.Bool.{true≢false}
 use Rattle.replay_script.specs.declared.script.Script.{Script}
@@ -13,13 +13,11 @@ use Rattle.bridge_cli.specs.declared.stop.Stop.{Stop}
 use Rattle.bridge_cli.specs.declared.words.Command.{Command}
 use Rattle.bridge_cli.specs.declared.words.Command.TheVariants.{Replay}
 use Rattle.bridge_cli.specs.Statuses.{code_of, IsStatus, IsTold, IsUntold}
-use Rattle.bridge_cli.specs.CommandWords.{IsCommand, FitNoForm, AskForNo, WhereRead, reads_input, most_input, prints_pieces, takes_memory}
-use Rattle.bridge_cli.specs.Inputs.{IsInput, TookAtMost, IsReadThrough}
+use Rattle.bridge_cli.specs.CommandWords.{IsCommand, FitNoForm, AskForNo, WhereRead, reads_input, most_input, takes_memory}
 use Rattle.bridge_cli.specs.StopAnswers.{IsStopAnswer, StopsAs}
-use Rattle.bridge_cli.specs.Answers.{Answers, CutAnswers, IsAnswer, no_form, answers, IsCutAnswer, whole, cut_off, script_done}
-use Rattle.bridge_cli.specs.ProgramOutputs.{WroteFront, HasAnswer, HasCutAnswer, Answered, AnsweredInPart, AnsweredInPieces, TellsFault}
-use Rattle.bridge_cli.specs.Replays.{IsReplay, IsReplayOfSome}
-use Rattle.bridge_cli.specs.Printed.{cut_status, CutCause, PrintsScript, Gives, GivesPart, IsNothing, IsPrintable, IsWhole, Ended, printed, stopped, wanting, IsPartOf, part_of_whole, part_of_some, HasPartOf, IsPrintedOf, IsPrintedFor, IsStopPrinted, HoldsScript}
+use Rattle.bridge_cli.specs.Answers.{Answers, IsAnswer, no_form, answers, IsCutAnswer, whole, cut_off, script_done}
+use Rattle.bridge_cli.specs.ProgramOutputs.{WroteFront, HasAnswer, Answered, AnsweredInPart, AnsweredInPieces, TellsFault}
+use Rattle.bridge_cli.specs.Printed.{cut_status, CutCause, PrintsScript, Gives, GivesPart, IsNothing, IsPrintable, IsWhole, Ended, printed, stopped, wanting, IsPartOf, part_of_whole, part_of_some, IsPrintedOf, IsPrintedFor, IsStopPrinted, HoldsScript}
 use Rattle.bridge_cli.proofs.CommandLaws.{one_command, pieces_take}
 use Rattle.bridge_cli.proofs.AnswerLaws.{words_answer, stop_told, stop_untold, told_or_not, no_front, tells_fault}
 

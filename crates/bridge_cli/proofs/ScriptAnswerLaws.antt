@@ -1,5 +1,5 @@
 -- What a command that reads a script may answer.
-use Rattle.std.proofs.Common.{◌≡◌, ◌≢◌, ℕ, List, refl, sym, ap, subst, ◌∙◌, arith}
+use Rattle.std.proofs.Common.{◌≡◌, ◌≢◌, ℕ, List, refl, ap, subst, arith}
 use Rattle.replay_script.specs.declared.script.Script.{Script}
 use Rattle.replay_script.proofs.Laws.{one_script, one_fault, never_both}
 use Rattle.bridge_cli.specs.declared.status.Status.TheVariants.{NoForm}

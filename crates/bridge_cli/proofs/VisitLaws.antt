@@ -1,32 +1,183 @@
--- What the visits of a script's target come to.
-use Rattle.std.proofs.Common.{◌≡◌, ℕ, ◌≤◌, length, Result, Ok, Err, subst, ◌∙◌, arith}
-use Rattle.std.specs.Prelude.{OnOk}
+-- The tracks of a script's run: that the run is right, how they are made, and what their visits come to.
+use Rattle.std.proofs.Common.{◌≡◌, ℕ, zero, suc, ◌+◌, ◌<◌, ◌≤◌, Bool, true, false, List, [], ◌∷◌, ◌++◌, length, map, take, get_or, below_more, All, Result, Ok, Err, Some, refl, sym, ap, subst, ◌∙◌, arith}
+use Rattle.std.specs.List.{AllByRecursion, IsDistinct, slice_get}
+use Rattle.std.specs.Prelude.{OnOk, EachIndex, Option}
+use Rattle.std.specs.Io.KnownBytes.{Appends}
+use Rattle.std.proofs.lemmas.Grind.{get_or_default_zero}
+use Rattle.std.proofs.lemmas.List.{map-append, take_more, length-take-le}
+use Rattle.std.proofs.lemmas.List.Elements.{All-append}
+use Rattle.plain_words.proofs.Laws.{in_range}
+use Rattle.bridge_ports.specs.Targets.{IsScraped}
 use Rattle.replay_script.specs.declared.header.Header.{Header}
 use Rattle.replay_script.specs.declared.script.ScriptTarget.{ScriptTarget}
-use Rattle.replay_script.specs.RightScripts.{IsRightTarget}
+use Rattle.replay_script.specs.declared.script.Script.{Script}
+use Rattle.replay_script.specs.ScriptRules.{same_names}
+use Rattle.replay_script.specs.WirePlans.{script_settings}
+use Rattle.replay_script.specs.RightScripts.{IsRightHeader, IsRightTarget, IsRightScript}
 use Rattle.series_table.specs.HttpTalks.{talking}
+use Rattle.series_table.specs.Talking.{Followed, AreInRange}
 use Rattle.series_table.specs.Records.{Kept, IsTrack, PostsWhatItsTalksTell}
-use Rattle.bridge_cli.specs.Rounds.{script_followed, IsUnvisited, IsVisited, HasVisits}
+use Rattle.target_table.specs.Runs.{Run, IsRightRun, is_same_target}
+use Rattle.target_table.specs.Tables.{HasAllVisits, IsTrackAt, AreTracks, AreUnvisited, IsRunOver}
+use Rattle.bridge_cli.specs.Replays.{IsReplayOfSome}
+use Rattle.bridge_cli.proofs.ReplayLaws.{grown_none}
+use Rattle.bridge_cli.specs.Rounds.{script_followed, script_targets, script_run, visits_counted, IsUnvisited, TellsTalks, HasVisits, IsVisitedThrough}
+
+-- ---- lists
+
+-- what holds of each by recursion holds of each
+all_of : {A : Type 0} (P : A → Type 0) (xs : List A) → AllByRecursion P xs → All P xs
+all_of P [] all i d within = absurd (omega (arith, within))
+all_of P (x ∷ xs) all zero d within = all.0
+all_of P (x ∷ xs) all (suc i) d within = all_of P xs all.1 i d (omega (arith, within))
+
+pub all_again : {A : Type 0} (P Q : A → Type 0) (xs : List A) → ((x : A) → P x → Q x) → AllByRecursion P xs → AllByRecursion Q xs
+all_again P Q [] f all = tt
+all_again P Q (x ∷ xs) f all = (f x all.0, all_again P Q xs f all.1)
+
+-- ---- the run of a script
+
+-- what is kept of each target of a script holds of each target of its run
+each_followed : (h : Header) (P : Followed → Type 0) (ts : List ScriptTarget) → AllByRecursion (λ t. P (script_followed h t)) ts → AllByRecursion P (script_targets h ts)
+each_followed h P [] all = tt
+each_followed h P (t ∷ ts) all = (all.0, each_followed h P ts all.1)
+
+followed_length : (h : Header) (ts : List ScriptTarget) → length (script_targets h ts) ≡ length ts
+followed_length h [] = refl
+followed_length h (t ∷ ts) = ap suc (followed_length h ts)
+
+-- no name again
+other_followed : (h : Header) (t : ScriptTarget) (ts : List ScriptTarget) → AllByRecursion (λ y. same_names t.target y ≡ false) (map (λ (u : ScriptTarget). u.target) ts)
+    → AllByRecursion (λ y. is_same_target (script_followed h t) y ≡ false) (script_targets h ts)
+other_followed h t [] all = tt
+other_followed h t (u ∷ us) all = (all.0, other_followed h t us all.1)
+
+distinct_followed : (h : Header) (ts : List ScriptTarget) → IsDistinct same_names (map (λ (u : ScriptTarget). u.target) ts) → IsDistinct is_same_target (script_targets h ts)
+unfolding IsDistinct
+distinct_followed h [] all = tt
+distinct_followed h (t ∷ ts) all = (other_followed h t ts all.0, distinct_followed h ts all.1)
+
+right_settings : (h : Header) → IsRightHeader h → AreInRange (script_settings h)
+right_settings h right = record {
+  keep = (in_range 0 4 h.keep right.keep).1;
+  tries = in_range 1 8 h.tries right.tries;
+  limit = in_range 1 200000 h.limit right.limit;
+  max_page = in_range 1024 67108864 h.max_page right.max_page;
+}
+
+pub right_run : (s : Script) → IsRightScript s → IsRightRun (script_run s)
+right_run s right =
+    let many = followed_length s.header s.targets in
+    record {
+      some = omega (arith, right.some_target, many);
+      few = omega (arith, right.few_targets, many);
+      distinct = distinct_followed s.header s.targets right.names;
+      scraped = all_of (λ (f : Followed). IsScraped f.target) (script_targets s.header s.targets)
+          (each_followed s.header (λ (f : Followed). IsScraped f.target) s.targets (all_again (IsRightTarget s.header) (λ (t : ScriptTarget). IsScraped t.target) s.targets (λ t is. is.scraped) right.targets));
+      settings = all_of (λ (f : Followed). AreInRange f.settings) (script_targets s.header s.targets)
+          (each_followed s.header (λ (f : Followed). AreInRange f.settings) s.targets (all_again (IsRightTarget s.header) (λ t. AreInRange (script_settings s.header)) s.targets (λ t is. right_settings s.header right.header) right.targets));
+      rounds = in_range 1 1000000 s.header.rounds right.header.rounds;
+    }
+
+-- ---- tracks
+
+-- one more behind the others
+track_more : (place : ℕ) (fs : List Followed) (ks : List Kept) (f : Followed) (k : Kept) → AreTracks talking place fs ks → IsTrackAt talking f (place + length fs) k → AreTracks talking place (fs ++ f ∷ []) (ks ++ k ∷ [])
+track_more place [] [] f k are at = let same : place + length {A = Followed} [] ≡ place = omega arith in (subst (λ n. IsTrackAt talking f n k) same at, tt)
+track_more place (g ∷ gs) (l ∷ ls) f k are at =
+    let same : place + length (g ∷ gs) ≡ place + 1 + length gs = omega arith in
+    (are.0, track_more (place + 1) gs ls f k are.1 (subst (λ n. IsTrackAt talking f n k) same at))
+track_more place [] (l ∷ ls) f k are at = absurd are
+track_more place (g ∷ gs) [] f k are at = absurd are
+
+-- the track of the next target of a script
+pub next_track : (h : Header) (ts : List ScriptTarget) (at : ℕ) (t : ScriptTarget) (ks : List Kept) (k : Kept) → at < length ts → t ≡ get_or ts at t → AreTracks talking 0 (script_targets h (take at ts)) ks → IsUnvisited at (script_followed h t) k
+    → AreTracks talking 0 (script_targets h (take (at + 1) ts)) (ks ++ k ∷ [])
+next_track h ts at t ks k inside is are new =
+    let many : length (script_targets h (take at ts)) ≡ at = followed_length h (take at ts) ∙ length-take-le at ts (omega (arith, inside)) in
+    let more : script_targets h (take (at + 1) ts) ≡ script_targets h (take at ts) ++ script_followed h t ∷ [] =
+    ap (script_targets h) (take_more ts at t inside ∙ ap (λ u. take at ts ++ u ∷ []) (sym is)) ∙ map-append (script_followed h) (take at ts) (t ∷ []) in
+    let place : at ≡ 0 + length (script_targets h (take at ts)) = omega (arith, many) in
+    subst (λ fs. AreTracks talking 0 fs (ks ++ k ∷ [])) (sym more)
+    (track_more 0 (script_targets h (take at ts)) ks (script_followed h t) k are (subst (λ n. IsTrackAt talking (script_followed h t) n k) place new.at))
+
+pub unvisited_more : (ks : List Kept) (k : Kept) (place : ℕ) (f : Followed) → AreUnvisited ks → IsUnvisited place f k → AreUnvisited (ks ++ k ∷ [])
+unvisited_more ks k place f all new = All-append (λ (l : Kept). (l.counts.visits ≡ 0) × (l.halted ≡ false)) ks (k ∷ []) all (all_of (λ (l : Kept). (l.counts.visits ≡ 0) × (l.halted ≡ false)) (k ∷ []) ((new.unvisited, new.goes_on), tt))
+
+-- the targets of tracks are those of the run
+followed_of : (place : ℕ) (fs : List Followed) (ks : List Kept) → AreTracks talking place fs ks → map (λ (k : Kept). k.followed) ks ≡ fs
+followed_of place [] [] are = refl
+followed_of place (f ∷ fs) (k ∷ ks) are = ap (λ g. g ∷ map (λ (l : Kept). l.followed) ks) are.0.followed ∙ ap (λ gs. f ∷ gs) (followed_of (place + 1) fs ks are.1)
+followed_of place [] (k ∷ ks) are = absurd are
+followed_of place (f ∷ fs) [] are = absurd are
+
+-- the run of these tracks is that of the script
+pub run_of : (s : Script) (ks : List Kept) (rounds : ℕ) → AreTracks talking 0 (script_targets s.header s.targets) ks → rounds ≡ s.header.rounds → script_run s ≡ record { targets = map (λ (k : Kept). k.followed) ks; rounds = rounds }
+run_of s ks rounds are same =
+    let RunWith : List Followed → ℕ → Run = λ fs n. record { targets = fs; rounds = n } in
+    ap (λ fs. RunWith fs s.header.rounds) (sym (followed_of 0 (script_targets s.header s.targets) ks are)) ∙ ap (RunWith (map (λ (k : Kept). k.followed) ks)) (sym same)
+
+-- ---- visits
 
 -- what every track keeps says that it posted what its talks tell
-pub keeps_sentence : (k : Kept) → IsTrack talking k → PostsWhatItsTalksTell talking k
+keeps_sentence : (k : Kept) → IsTrack talking k → PostsWhatItsTalksTell talking k
 keeps_sentence k keeps = λ scrapes posts told_scrapes told_posts.
     (keeps.history.events, keeps.history.posted, keeps.history.bodies scrapes posts told_scrapes told_posts)
 
--- where there were as many visits as scrapes, each round was one
-pub all_visited : {T E : Type 0} (r : Result T E) (h : Header) (t : ScriptTarget) (visits : ℕ) → IsRightTarget h t → HasVisits h t visits → OnOk r (length t.scrapes ≤ visits) → OnOk r (HasVisits h t h.rounds)
-all_visited (Ok done) h t visits right has as_many =
-    let same : visits ≡ h.rounds = omega (arith, as_many, right.scrapes, has.visited.few, has.counted) in
-    subst (HasVisits h t) same has
-all_visited (Err e) h t visits right has as_many = tt
+-- the visits of the tracks of a run that is over
+pub has_visits : (s : Script) (ks : List Kept) (visits : List ℕ) → IsRunOver talking (script_run s) ks → visits ≡ map visits_counted ks → AllByRecursion TellsTalks ks → AllByRecursion (IsTrack talking) ks → HasVisits s visits
+has_visits s ks visits over counted tell keep =
+    record { tracks = ks; over = over; counted = counted; tell = tell; sentences = all_again (IsTrack talking) (PostsWhatItsTalksTell talking) ks keeps_sentence keep }
 
--- the visits of a track that was made for a script's target
-pub has_visits : (h : Header) (t : ScriptTarget) (before after : Kept) (visits : ℕ) → IsUnvisited (script_followed h t) before → IsVisited h.rounds before.followed after → IsTrack talking after → visits ≡ after.counts.visits
-    → HasVisits h t visits
-has_visits h t before after visits new made keeps counted = record {
-  track = after;
-  visited = record { followed = made.followed ∙ new.followed; tells = made.tells; few = made.few; all = made.all };
-  counted = counted;
-  keeps = keeps;
-  sentence = keeps_sentence after keeps;
-}
+as_many_tracks : (place : ℕ) (fs : List Followed) (ks : List Kept) → AreTracks talking place fs ks → length {A = ℕ} (map visits_counted ks) ≡ length fs
+as_many_tracks place [] [] are = refl
+as_many_tracks place (f ∷ fs) (k ∷ ks) are = ap suc (as_many_tracks (place + 1) fs ks are.1)
+as_many_tracks place [] (k ∷ ks) are = absurd are
+as_many_tracks place (f ∷ fs) [] are = absurd are
+
+-- as many numbers as targets
+pub as_many_visits : (s : Script) (visits : List ℕ) → HasVisits s visits → length visits ≡ length s.targets
+as_many_visits s visits has = ap (length {A = ℕ}) has.counted ∙ as_many_tracks 0 (script_targets s.header s.targets) has.tracks has.over.tracks_are ∙ followed_length s.header s.targets
+
+-- a track has at most all its visits
+at_most_all : (rounds : ℕ) (k : Kept) (halted : Bool) → k.halted ≡ halted → HasAllVisits rounds k → k.counts.visits ≤ rounds
+at_most_all rounds k true e has = omega (arith, has.left e)
+at_most_all rounds k false e has = omega (arith, has.all e)
+
+counted_all : (rounds : ℕ) (ks : List Kept) (i : ℕ) → All (HasAllVisits rounds) ks → i < length {A = ℕ} (map visits_counted ks) → rounds ≤ get_or (map visits_counted ks) i 0 → get_or (map visits_counted ks) i 0 ≡ rounds
+counted_all rounds [] i all within many = absurd (omega (arith, within))
+counted_all rounds (k ∷ ks) zero all within many = omega (arith, many, at_most_all rounds k k.halted refl (all 0 k (omega arith)))
+counted_all rounds (k ∷ ks) (suc i) all within many = counted_all rounds ks i (λ j d inside. all (suc j) d (omega (arith, inside))) (omega (arith, within)) many
+
+-- where each target has a visit for each round, all were visited through
+pub visited_through : (s : Script) (visits : List ℕ) → HasVisits s visits → ((i : ℕ) → i < length visits → s.header.rounds ≤ get_or visits i 0) → IsVisitedThrough s
+visited_through s visits has many =
+    record {
+      visits = visits;
+      has = has;
+      all = λ i within. ap (λ ns. get_or ns i 0) has.counted ∙ counted_all s.header.rounds has.tracks i has.over.visited (subst (λ ns. i < length {A = ℕ} ns) has.counted within)
+          (subst (λ ns. s.header.rounds ≤ get_or ns i 0) has.counted (many i within));
+    }
+
+-- ---- printing
+
+-- one target more had a visit for each round
+pub each_more : (rounds : ℕ) (visits : List ℕ) (at n many : ℕ) → ((k : ℕ) → k < at → rounds ≤ get_or visits k 0) → at < length visits → many ≡ rounds → many ≤ n → n ≡ get_or visits at n → (k : ℕ) → k < at + 1 → rounds ≤ get_or visits k 0
+each_more rounds visits at n many before inside all enough is =
+    let same : n ≡ get_or visits at 0 = is ∙ get_or_default_zero visits at n inside in
+    below_more _ _ before (omega (arith, same, all, enough))
+
+-- where all was printed, each target was visited through
+pub through_of : {T E : Type 0} (r : Result T E) (s : Script) (visits seen : List ℕ) → HasVisits s visits → seen ≡ visits → OnOk r (EachIndex seen (λ k. s.header.rounds ≤ get_or seen k 0)) → OnOk r (IsVisitedThrough s)
+through_of (Ok done) s visits seen has same many = visited_through s visits has (subst (λ ns. EachIndex {X = ℕ} ns (λ k. s.header.rounds ≤ get_or ns k 0)) same many)
+through_of (Err e) s visits seen has same many = tt
+
+first_target : (ts : List ScriptTarget) → 1 ≤ length ts → (t : ScriptTarget) × (slice_get ts 0 ≡ Some t)
+first_target [] some = absurd (omega (arith, some))
+first_target (t ∷ ts) some = (t, refl)
+
+-- nothing is a part of what is printed of a script
+pub none_printed : (s : Script) (held : Option (List ℕ)) → 1 ≤ length s.targets → (text : List ℕ) × IsReplayOfSome s text × Appends held held text
+none_printed s held some =
+    let t = first_target s.targets some in
+    ([], record { texts = []; are = tt; target = t.0; stands = t.1; part = []; is_part = record { events = []; are = tt; says = refl }; says = refl }, grown_none held)

@@ -12,6 +12,7 @@ mod replaying;
 mod scripts;
 mod status;
 mod stop;
+mod turns;
 mod visiting;
 mod words;
 

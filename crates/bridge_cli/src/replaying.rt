@@ -1,16 +1,16 @@
 //! The bodies of a script's events, which are printed one after the other as they are made.
-ghost use Rattle.std.specs.Prelude.{◌≡◌, ◌≤◌, [], List as Seq, IfOk, OnOk, length};
+ghost use Rattle.std.specs.Prelude.{◌≡◌, ◌≤◌, [], List as Seq, IfOk, OnOk, length, EachIndex, slice_index};
 ghost use Rattle.bridge_ports.specs.Targets.{Scraped};
 ghost use Rattle.page_model.specs.declared.event.Event.{Event as AnyEvent};
 ghost use Rattle.target_core.specs.States.{StandsFor, HasNextMoment};
 ghost use Rattle.replay_script.specs.RightScripts.{IsOver, IsRightHeader, IsRightTarget, IsRightScript};
 ghost use Rattle.bridge_cli.specs.Replays.{script_tracking};
-ghost use Rattle.bridge_cli.specs.Rounds.{HasVisits};
+ghost use Rattle.bridge_cli.specs.Rounds.{IsVisitedThrough};
 ghost use Rattle.bridge_cli.specs.Printed.{cut_status, CutCause, MakesBody, PrintsNext, PrintsTarget, PrintsScript};
 
 use crate::output::write_all;
 use crate::status::Status;
-use crate::visiting::visits_made;
+use crate::turns::visits_made;
 use bridge_ports::{Failed, MemoryReply, Sink};
 use page_model::Event;
 use replay_script::{Header, Script, ScriptTarget};
@@ -128,39 +128,24 @@ fn print_replies<O: Sink>(
     Ok(())
 }
 
-/// Visits a target, and prints the bodies of its visits.
-#[tactic(auto, using(crate::proofs::VisitLaws::all_visited))]
+/// Prints the bodies of the visits of a target that were counted.
 fn print_target<O: Sink>(
     alloc: Global,
     header: &Header,
     target: &ScriptTarget,
+    visits: u64,
     output: &mut O,
 ) -> Result<(), Cut>
     requires right { IsRightHeader header.now }
     requires target { IsRightTarget header.now target.now }
     ensures printed { PrintsTarget header.now target.now (O.held output.old) (O.held output.new) result }
     ensures cause { CutCause (O.write_faults output.old) (O.write_faults output.new) result }
-    ensures visited { OnOk result (HasVisits header.now target.now header.now.rounds) }
+    ensures visited { OnOk result (length target.now.scrapes ≤ visits) }
 {
-    match visited(alloc, header, target) {
-        Ok((visits, state)) => print_replies(alloc, header, target, visits, state, output),
+    match new_state(alloc, header, target) {
+        Ok(state) => print_replies(alloc, header, target, visits, state, output),
         Err(AllocError) => Err(Cut::Memory),
     }
-}
-
-/// How many visits of a target were counted, and its state from which their bodies are printed.
-fn visited(
-    alloc: Global,
-    header: &Header,
-    target: &ScriptTarget,
-) -> Result<(u64, TargetState), AllocError>
-    requires { IsRightHeader header.now }
-    ensures visits { IfOk result (λ start. HasVisits header.now target.now start.0) }
-    ensures state { IfOk result (λ start. StandsFor target.now.target (script_tracking header.now) start.1 []) }
-{
-    let visits = visits_made(alloc, header, target)?;
-    let state = new_state(alloc, header, target)?;
-    Ok((visits, state))
 }
 
 /// The state of a target that was not scraped.
@@ -176,7 +161,31 @@ fn new_state(
     TargetState::new(alloc, copied, header.keep)
 }
 
-/// Prints the bodies of a script.
+/// Prints the bodies of a script's targets in order, so many of each as visits of it were counted.
+fn print_targets<O: Sink>(
+    alloc: Global,
+    script: &Script,
+    visits: &[u64],
+    output: &mut O,
+) -> Result<(), Cut>
+    requires right { IsRightScript script.now }
+    requires each { length visits.now ≡ length script.now.targets }
+    ensures printed { PrintsScript script.now (O.held output.old) (O.held output.new) result }
+    ensures cause { CutCause (O.write_faults output.old) (O.write_faults output.new) result }
+    ensures visited { OnOk result (EachIndex visits.now (λ k. script.now.header.rounds ≤ slice_index visits.now k)) }
+{
+    let targets = script.targets.as_slice();
+    let mut at = 0usize;
+    while at < targets.len() {
+        match print_target(alloc, &script.header, &targets[at], visits[at], output) {
+            Ok(()) => at += 1,
+            Err(cut) => return Err(cut),
+        }
+    }
+    Ok(())
+}
+
+/// Visits the targets of a script in turn, and prints the bodies of their visits.
 pub(crate) fn print_script<O: Sink>(
     alloc: Global,
     script: &Script,
@@ -185,14 +194,10 @@ pub(crate) fn print_script<O: Sink>(
     requires { IsRightScript script.now }
     ensures printed { PrintsScript script.now (O.held output.old) (O.held output.new) result }
     ensures cause { CutCause (O.write_faults output.old) (O.write_faults output.new) result }
+    ensures visited { OnOk result (IsVisitedThrough script.now) }
 {
-    let targets = script.targets.as_slice();
-    let mut at = 0usize;
-    while at < targets.len() {
-        match print_target(alloc, &script.header, &targets[at], output) {
-            Ok(()) => at += 1,
-            Err(cut) => return Err(cut),
-        }
+    match visits_made(alloc, script) {
+        Ok(visits) => print_targets(alloc, script, visits.as_slice(), output),
+        Err(AllocError) => Err(Cut::Memory),
     }
-    Ok(())
 }

@@ -1,41 +1,52 @@
-//! The visits of a script's target: its track, over wires that answer what the script says.
-ghost use Rattle.std.specs.Prelude.{◌≡◌, ◌≤◌, true, false, IfOk};
+//! The tracks of a script's targets, over wires that answer what the script says.
+ghost use Rattle.std.specs.Prelude.{◌≡◌, ◌+◌, ◌<◌, ◌≤◌, false, true, length, map, IfOk};
+ghost use Rattle.std.specs.List.{AllByRecursion};
 ghost use Rattle.bridge_ports.specs.Plans.{new_wire};
-ghost use Rattle.replay_script.specs.RightScripts.{IsRightHeader};
+ghost use Rattle.replay_script.specs.RightScripts.{IsRightHeader, IsRightScript};
+ghost use Rattle.replay_script.specs.ScriptRules.{most_targets};
 ghost use Rattle.replay_script.specs.WirePlans.{scrape_plan, post_plan};
-ghost use Rattle.bridge_cli.specs.Limits.{most_rounds};
-ghost use Rattle.bridge_cli.specs.Rounds.{script_place, script_followed, IsUnvisited, IsVisited, HasVisits};
+ghost use Rattle.series_table.specs.HttpTalks.{talking};
+ghost use Rattle.series_table.specs.Records.{IsTrack};
+ghost use Rattle.target_table.specs.Tables.{AreTracks, AreUnvisited};
+ghost use Rattle.bridge_cli.specs.Rounds.{script_place, script_followed, script_targets, visits_counted, IsUnvisited, TellsTalks};
 
 use bridge_ports::{MemoryWire, Place};
 use label_sets::{List, Memory};
-use replay_script::{Header, ScriptTarget, collector, default_reply, settings};
-use series_table::{Track, TrackFault, Visited};
+use replay_script::{Header, Script, ScriptTarget, collector, default_reply, settings};
+use series_table::{Track, TrackFault};
 use std::alloc::{AllocError, Global};
 
-/// The wire that answers a target's scrapes.
-fn scrape_wire(alloc: Global, header: &Header, target: &ScriptTarget) -> Result<MemoryWire, Memory>
+/// The wire that answers the scrapes of the target of a number.
+fn scrape_wire(
+    alloc: Global,
+    header: &Header,
+    target: &ScriptTarget,
+    number: u32,
+) -> Result<MemoryWire, Memory>
     requires { IsRightHeader header.now }
-    ensures { IfOk result (λ wire. wire ≡ new_wire (script_place false) (scrape_plan header.now target.now)) }
+    ensures { IfOk result (λ wire. wire ≡ new_wire (script_place number false) (scrape_plan header.now target.now)) }
 {
     let replies = target.scrapes.copy()?;
     let place = Place {
-        number: 1,
+        number,
         post: false,
     };
     Ok(MemoryWire::new(alloc, place, replies, None, header.cut, List::new(alloc)))
 }
 
-/// The wire that answers a target's posts.
-fn post_wire(alloc: Global, header: &Header, target: &ScriptTarget) -> Result<MemoryWire, Memory>
+/// The wire that answers the posts of the target of a number.
+fn post_wire(
+    alloc: Global,
+    header: &Header,
+    target: &ScriptTarget,
+    number: u32,
+) -> Result<MemoryWire, Memory>
     requires { IsRightHeader header.now }
-    ensures { IfOk result (λ wire. wire ≡ new_wire (script_place true) (post_plan header.now target.now)) }
+    ensures { IfOk result (λ wire. wire ≡ new_wire (script_place number true) (post_plan header.now target.now)) }
 {
     let replies = target.posts.copy()?;
     let after = default_reply(alloc)?;
-    let place = Place {
-        number: 1,
-        post: true,
-    };
+    let place = Place { number, post: true };
     Ok(MemoryWire::new(
         alloc,
         place,
@@ -46,51 +57,87 @@ fn post_wire(alloc: Global, header: &Header, target: &ScriptTarget) -> Result<Me
     ))
 }
 
-/// The track of a target, before its first visit.
+/// The track of the target at a place, counted from 0, before its first visit.
 fn new_track(
     alloc: Global,
     header: &Header,
     target: &ScriptTarget,
+    place: u32,
 ) -> Result<Track<MemoryWire>, Memory>
-    requires { IsRightHeader header.now }
-    ensures { IfOk result (IsUnvisited (script_followed header.now target.now)) }
+    requires right { IsRightHeader header.now }
+    requires few { place < most_targets }
+    ensures { IfOk result (IsUnvisited place (script_followed header.now target.now)) }
 {
+    let number = place + 1;
     let scraped = target.target.copy()?;
     let to = collector(alloc)?;
-    let scrape = scrape_wire(alloc, header, target)?;
-    let post = post_wire(alloc, header, target)?;
+    let scrape = scrape_wire(alloc, header, target, number)?;
+    let post = post_wire(alloc, header, target, number)?;
     match Track::new(alloc, scraped, to, settings(header), scrape, post) {
-        Ok(track) => Ok(track),
+        Ok(track) => {
+            track.facts();
+            Ok(track)
+        }
         Err(TrackFault::Memory(_scrape, _post)) => Err(AllocError),
     }
 }
 
-/// Visits a target so many times, or until memory is wanted.
-fn visit_rounds(alloc: Global, track: &mut Track<MemoryWire>, rounds: u32)
-    requires fresh { IsUnvisited track.old.followed track.old }
-    requires few { rounds ≤ most_rounds }
-    ensures { IsVisited rounds track.old.followed track.new }
-{
-    for _ in 0..rounds {
-        match track.visit(alloc) {
-            Visited::Done => {}
-            Visited::Halted => return,
-        }
+/// Gives up tracks with their wires.
+pub(crate) fn give_up(tracks: Vec<Track<MemoryWire>>) {
+    let mut left = tracks;
+    for _ in 0..left.len() {
+        let (_scrape, _post) = left.take_last().into_wires();
     }
+    left.destroy_empty();
 }
 
-/// Visits a target once for each round, and tells how many visits were counted: fewer where memory was wanted.
-pub(crate) fn visits_made(
-    alloc: Global,
-    header: &Header,
-    target: &ScriptTarget,
-) -> Result<u64, Memory>
-    requires { IsRightHeader header.now }
-    ensures { IfOk result (HasVisits header.now target.now) }
+/// The tracks of a script's targets in order, before their first visits.
+pub(crate) fn new_tracks(alloc: Global, script: &Script) -> Result<Vec<Track<MemoryWire>>, Memory>
+    requires { IsRightScript script.now }
+    ensures are { IfOk result (λ tracks. AreTracks talking 0 (script_targets script.now.header script.now.targets) tracks.items) }
+    ensures unvisited { IfOk result (λ tracks. AreUnvisited tracks.items) }
 {
-    let mut track = new_track(alloc, header, target)?;
-    visit_rounds(alloc, &mut track, header.rounds);
-    let visits = track.counts().visits;
-    let (_scrape, _post) = track.into_wires();
+    let targets = script.targets.as_slice();
+    let mut tracks = Vec::with_capacity(alloc, targets.len())?;
+    let mut at = 0usize;
+    while at < targets.len() {
+        match new_track(alloc, &script.header, &targets[at], at as u32) {
+            Ok(track) => {
+                tracks.push_reserved(track);
+                at += 1;
+            }
+            Err(AllocError) => {
+                give_up(tracks);
+                return Err(AllocError);
+            }
+        }
+    }
+    Ok(tracks)
+}
+
+/// How many visits each track counted, in order. The tracks are given up.
+pub(crate) fn counted_visits(
+    alloc: Global,
+    tracks: Vec<Track<MemoryWire>>,
+) -> Result<Vec<u64>, Memory>
+    ensures counted { IfOk result (λ visits. visits.items ≡ map visits_counted tracks.items) }
+    ensures tell { IfOk result (λ _. AllByRecursion TellsTalks tracks.items) }
+    ensures keep { IfOk result (λ _. AllByRecursion (IsTrack talking) tracks.items) }
+{
+    let mut visits = match Vec::with_capacity(alloc, tracks.len()) {
+        Ok(visits) => visits,
+        Err(AllocError) => {
+            give_up(tracks);
+            return Err(AllocError);
+        }
+    };
+    let mut left = tracks;
+    for _ in 0..left.len() {
+        let track = left.take_last();
+        visits.push_reserved(track.counts().visits);
+        let (_scrape, _post) = track.into_wires();
+    }
+    left.destroy_empty();
+    visits.reverse();
     Ok(visits)
 }

@@ -161,3 +161,50 @@ fn replayed_posts(rt: HostRuntime) {
         assert!(rt; ended.output.held() == bodies.output.held(), "{posts}");
     }
 }
+
+// Four scrapes at one time.
+const FOUR_AT_ONCE: &str =
+    "page 10 text 4\nx 1\n\npage 10 text 4\nx 2\n\npage 10 text 4\nx 3\n\npage 10 text 4\nx 4\n\n";
+
+const THREE_TARGETS: [&str; 3] = [
+    "target a h:1 /metrics\n",
+    "target b h:1 /metrics\n",
+    "target a h:3 /metrics\n",
+];
+
+const FOUR_MOMENTS: [&str; 4] = [
+    r#"{"timeUnixNano":"10","asDouble":1}"#,
+    r#"{"timeUnixNano":"11","asDouble":2}"#,
+    r#"{"timeUnixNano":"12","asDouble":3}"#,
+    r#"{"timeUnixNano":"13","asDouble":4}"#,
+];
+
+// The bodies of each target are those of a script that has it alone, target for target, and of scrapes at one time
+// each counts a nanosecond behind the one before of its own target.
+#[test]
+fn replayed_targets(rt: HostRuntime) {
+    let alloc = rt.alloc();
+    let head = "bridge-script 1\nrounds 4\n";
+    let mut alone = Vec::new(alloc);
+    for target in &THREE_TARGETS {
+        let script = joined(alloc, &[head, *target, FOUR_AT_ONCE]).expect(&rt, "memory");
+        let ended = run(alloc, &["replay"], script.as_bytes(), None, ROOM).expect(&rt, "memory");
+        assert_eq!(rt; ended.status, 0);
+        let text = std::str::from_utf8(ended.output.held()).expect(&rt, "text");
+        for moment in &FOUR_MOMENTS {
+            assert!(rt; text.contains(*moment), "{moment}");
+        }
+        alone
+            .extend_from_slice(ended.output.held())
+            .expect(&rt, "memory");
+    }
+    let [a, b, c] = THREE_TARGETS;
+    let script = joined(
+        alloc,
+        &[head, a, FOUR_AT_ONCE, b, FOUR_AT_ONCE, c, FOUR_AT_ONCE],
+    )
+    .expect(&rt, "memory");
+    let ended = run(alloc, &["replay"], script.as_bytes(), None, ROOM).expect(&rt, "memory");
+    assert_eq!(rt; ended.status, 0);
+    assert!(rt; ended.output.held() == alone.as_slice());
+}

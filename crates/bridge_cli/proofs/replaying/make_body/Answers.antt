@@ -1,7 +1,7 @@
-use Rattle.std.proofs.Common.{[], refl, ap, subst, arith}
+use Rattle.std.proofs.Common.{[], ap}
 use Rattle.plain_words.proofs.Laws.{in_range}
 use Rattle.otlp_json.specs.Texts.{request_text}
-use Rattle.bridge_cli.specs.Replays.{script_tracking, IsReplyEvent}
+use Rattle.bridge_cli.specs.Replays.{script_tracking}
 use Rattle.bridge_cli.proofs.ReplayLaws.{outcome_keys, made_body, reply_event}
 use Rattle.bridge_cli.proofs.replaying.make_body.Goals as goal
 

@@ -1,24 +1,12 @@
-use Rattle.std.proofs.Common.{◌∙◌, arith}
-use Rattle.replay_script.specs.RightScripts.{IsRightTarget}
-use Rattle.bridge_cli.proofs.ReplayLaws.{all_at, place_in_same, targets_more, script_cut}
+use Rattle.std.proofs.Common.{ℕ, length, ap, ◌∙◌}
+use Rattle.bridge_cli.proofs.VisitLaws.{as_many_visits, through_of, none_printed}
 use Rattle.bridge_cli.proofs.replaying.print_script.Goals as goal
 
-pub print_target-requires-clause-target : goal.print_target-requires-clause-target
-print_target-requires-clause-target g c =
-    all_at (IsRightTarget c.args.script.now.header) c.args.script.now.targets c.loop-at.at c.index-targets-at.result c.requires.targets
-    (place_in_same _ _ c.loop-at.at c.index-targets-at.result c.loop-at.invariant.1 c.loop-at-test.true c.index-targets-at.is)
+pub print_targets-requires-clause-each : goal.print_targets-requires-clause-each
+print_targets-requires-clause-each g c = ap (length {A = ℕ}) c.as_slice.ensures.value ∙ as_many_visits c.args.script.now c.in-Ok.visits.items c.in-Ok.ensures
 
-pub loop-at-preserved : goal.loop-at-preserved
-loop-at-preserved g c =
-    let stands = place_in_same _ _ c.loop-at.at c.index-targets-at.result c.loop-at.invariant.1 c.loop-at-test.true c.index-targets-at.is in
-    let next = c.in-Ok.ensures.printed in (
-      omega (arith, c.loop-at-test.true),
-      c.loop-at.invariant.1,
-      targets_more c.args.script.now c.loop-at.at _ _ _ c.index-targets-at.result next.0 c.loop-at.invariant.2 stands next.1 next.2,
-      c.in-Ok.ensures.cause ∙ c.loop-at.invariant.3,
-    )
+pub returns-in-Ok-clause-visited : goal.returns-in-Ok-clause-visited
+returns-in-Ok-clause-visited g c = through_of c.print_targets.result c.args.script.now c.in-Ok.visits.items c.as_slice.result.now c.in-Ok.ensures c.as_slice.ensures.value c.print_targets.ensures.visited
 
 pub returns-in-Err-clause-printed : goal.returns-in-Err-clause-printed
-returns-in-Err-clause-printed g c =
-    let stands = place_in_same _ _ c.loop-at.at c.index-targets-at.result c.loop-at.invariant.1 c.loop-at-test.true c.index-targets-at.is in
-    script_cut c.args.script.now c.loop-at.at _ _ _ c.index-targets-at.result c.in-Err.cut c.loop-at.invariant.2 stands c.in-Err.ensures.printed
+returns-in-Err-clause-printed g c = none_printed c.args.script.now (g.O.Sink.held c.args.output.now) c.requires.some_target

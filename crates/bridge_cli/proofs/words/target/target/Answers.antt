@@ -1,4 +1,4 @@
-use Rattle.std.proofs.Common.{sym, subst, ◌∙◌, false}
+use Rattle.std.proofs.Common.{sym, subst, false}
 use Rattle.bridge_ports.specs.Targets.{IsScraped}
 use Rattle.bridge_cli.proofs.PlaceLaws.{place_is_scraped}
 use Rattle.bridge_cli.proofs.words.target.target.Goals as goal
