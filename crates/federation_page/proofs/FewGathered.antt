@@ -18,7 +18,7 @@ use Rattle.federation_page.specs.Candidates.{is_left_out, stays, federated_kind,
 use Rattle.federation_page.specs.Conflicts.{founders, sorted_by_name, gathered_by}
 use Rattle.federation_page.specs.Gathering.{with_readings_of, gathered_families, federated_page, IsShowable}
 use Rattle.federation_page.specs.Laws.{GatheredAreFew}
-use Rattle.federation_page.proofs.Founders.{founders_apart, sorted_apart}
+use Rattle.federation_page.proofs.Founders.{founders_apart, sorted_apart, names_apart}
 
 -- ---- candidates
 
@@ -92,15 +92,6 @@ one_name x y h =
     let first = and_parts (bytes_eq x.name y.name && kind_eq x.kind y.kind) (bytes_eq x.unit y.unit) h in
     let name = and_parts (bytes_eq x.name y.name) (kind_eq x.kind y.kind) first.0 in
     (bytes_decides y.name x.name).1 (sym ((bytes_decides x.name y.name).0 name.0))
-
-names_apart : (fs : List Family) → AreApart fs → IsDistinct bytes_eq (map (λ (f : Family). f.name) fs)
-unfolding IsDistinct clash
-names_apart [] a = tt
-names_apart (f ∷ fs) a = (others fs a.0, names_apart fs a.1)
-  where
-    others : (gs : List Family) → AllByRecursion (λ k. clash (family_key f) k ≡ false) (map family_key gs) → AllByRecursion (λ name. bytes_eq f.name name ≡ false) (map (λ (g : Family). g.name) gs)
-    others [] h = tt
-    others (g ∷ gs) h = ((or_parts (bytes_eq f.name g.name) (share_sample_name (family_key f) (family_key g)) h.0).0, others gs h.1)
 
 gathered_lines : (cs : List Family) → total family_lines (gathered_families cs) ≤ total family_lines cs
 unfolding gathered_families gathered_by

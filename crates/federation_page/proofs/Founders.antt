@@ -3,6 +3,7 @@ use Rattle.std.proofs.Common.{◌≡◌, ℕ, Bool, true, false, ◌||◌, cond,
 use Rattle.std.specs.List.{flat_map, list_any, AllByRecursion, IsDistinct}
 use Rattle.std.specs.Str.{bytes_eq}
 use Rattle.std.specs.Cmp.Lexicographic.{bytes_decides}
+use Rattle.std.proofs.lemmas.Bool.{or_parts}
 use Rattle.label_sets.specs.Labels.{name_before}
 use Rattle.page_model.specs.declared.page.Family.{Family}
 use Rattle.open_writing.specs.FamilyKeys.{FamilyKey, family_key, sample_names, share_sample_name, clash, is_one_family, AreApart}
@@ -13,7 +14,7 @@ use Rattle.federation_page.specs.Gathering.{with_readings_of, gathered_families,
 
 -- ---- clashing goes both ways
 
-same_turned : (a b : List ℕ) → bytes_eq a b ≡ bytes_eq b a
+pub same_turned : (a b : List ℕ) → bytes_eq a b ≡ bytes_eq b a
 same_turned a b = go (bytes_eq a b) refl
   where
     back : bytes_eq a b ≡ false → (c : Bool) → bytes_eq b a ≡ c → bytes_eq a b ≡ bytes_eq b a
@@ -28,7 +29,7 @@ none : {A : Type 0} (ys : List A) → list_any (λ (y : A). false) ys ≡ false
 none [] = refl
 none (y ∷ ys) = none ys
 
-any_or : {A : Type 0} (p q : A → Bool) (ys : List A) → list_any (λ y. p y || q y) ys ≡ (list_any p ys || list_any q ys)
+pub any_or : {A : Type 0} (p q : A → Bool) (ys : List A) → list_any (λ y. p y || q y) ys ≡ (list_any p ys || list_any q ys)
 any_or p q [] = refl
 any_or p q (y ∷ ys) = ap (λ b. (p y || q y) || b) (any_or p q ys) ∙ by (p y) (q y) (list_any p ys) (list_any q ys)
   where
@@ -42,7 +43,7 @@ any_turned : (x : List ℕ) (ys : List (List ℕ)) → list_any (bytes_eq x) ys 
 any_turned x [] = refl
 any_turned x (y ∷ ys) = ap (λ b. b || list_any (bytes_eq x) ys) (same_turned x y) ∙ ap (λ b. bytes_eq y x || b) (any_turned x ys)
 
-shared_turned : (xs ys : List (List ℕ)) → list_any (λ x. list_any (bytes_eq x) ys) xs ≡ list_any (λ y. list_any (bytes_eq y) xs) ys
+pub shared_turned : (xs ys : List (List ℕ)) → list_any (λ x. list_any (bytes_eq x) ys) xs ≡ list_any (λ y. list_any (bytes_eq y) xs) ys
 shared_turned [] ys = sym (none ys)
 shared_turned (x ∷ xs) ys =
     ap (λ b. list_any (bytes_eq x) ys || b) (shared_turned xs ys) ∙ ap (λ b. b || list_any (λ y. list_any (bytes_eq y) xs) ys) (any_turned x ys)
@@ -119,3 +120,15 @@ gathered_apart cs = subst (IsDistinct clash) (sym (keys_kept cs (sorted_by_name 
 pub federated_apart : (shown : List Shown) → AreApart (federated_page shown).families
 unfolding federated_page
 federated_apart shown = gathered_apart (flat_map candidates_of shown)
+
+-- ---- names
+
+-- families that are apart have distinct names
+pub names_apart : (fs : List Family) → AreApart fs → IsDistinct bytes_eq (map (λ (f : Family). f.name) fs)
+unfolding IsDistinct clash
+names_apart [] a = tt
+names_apart (f ∷ fs) a = (others fs a.0, names_apart fs a.1)
+  where
+    others : (gs : List Family) → AllByRecursion (λ k. clash (family_key f) k ≡ false) (map family_key gs) → AllByRecursion (λ name. bytes_eq f.name name ≡ false) (map (λ (g : Family). g.name) gs)
+    others [] h = tt
+    others (g ∷ gs) h = ((or_parts (bytes_eq f.name g.name) (share_sample_name (family_key f) (family_key g)) h.0).0, others gs h.1)

@@ -1,4 +1,5 @@
 pub mod Candidates
 pub mod Conflicts
+pub mod Founding
 pub mod Gathering
 pub mod Laws

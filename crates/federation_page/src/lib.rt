@@ -1,12 +1,41 @@
 //! The federation page: what all targets showed last, gathered into one page of OpenMetrics.
 #![tactic(auto)]
 
-ghost use Rattle.std.specs.Prelude.{◌≡◌, ◌++◌, OnOk, OnErr};
+ghost use Rattle.std.specs.Prelude.{◌≡◌, ◌++◌, IfOk, OnOk, OnErr};
 ghost use Rattle.open_writing.specs.Writing.{written_text};
-ghost use Rattle.federation_page.specs.Laws.{GatheredAreApart, GatheredAreFew};
+ghost use Rattle.federation_page.specs.Gathering.{AreShowable, federated_page};
+ghost use Rattle.federation_page.specs.Laws.{
+  GatheredAreApart,
+  GatheredAreFew,
+  GatheredAreOpenForms,
+  GatheredAreWritable,
+  GatheredReadBack,
+};
+
+mod candidates;
+mod conflicts;
+mod names;
+mod pages;
+mod targets;
 
 use label_sets::Memory;
-use page_model::Page;
+use page_model::{Page, Shown};
+use pages::gathered_families;
+use std::alloc::Global;
+
+/// Gathers what targets show, in their order, into one page (Prometheus, "Federation").
+///
+/// Families stand in byte order of their names, each with the readings of all targets. Where two families can't
+/// stand on one page, that of the earlier target stays. The values of readings are shared, not copied.
+pub fn gather(alloc: Global, shown: &[Shown]) -> Result<Page, Memory>
+    requires { AreShowable shown.now }
+    ensures { IfOk result (λ page. page ≡ federated_page shown.now) }
+{
+    writing_laws::read_pages_are_formed();
+    gathered_pages();
+    let families = gathered_families(alloc, shown)?;
+    Ok(open_writing::page_of_families(families))
+}
 
 /// Puts the text of a page at the end of `out`, as [`open_writing::write`] does.
 ///
@@ -27,3 +56,16 @@ pub fn gathered_apart()
 pub fn gathered_few()
     ensures { GatheredAreFew }
 {}
+
+/// The federation page of what may be gathered can be written, some text says it, and its own text reads back as
+/// the page.
+pub fn gathered_pages()
+    ensures writable { GatheredAreWritable }
+    ensures forms { GatheredAreOpenForms }
+    ensures back { GatheredReadBack }
+{
+    writing_laws::read_pages_are_formed();
+    writing_laws::written_sizes();
+    writing_laws::open_forms();
+    writing_laws::read_back();
+}
