@@ -1,5 +1,5 @@
 -- Names and kinds under which the families of a page are federated.
-use Rattle.std.proofs.Common.{◌≡◌, ◌≢◌, ℕ, suc, ◌+◌, ◌-◌, ◌≤◌, Bool, true, false, not, ◌&&◌, ◌||◌, cond, List, [], ◌∷◌, ◌++◌, length, take, codes, Option, Some, None, refl, sym, ap, subst, ◌∙◌, arith, append-nil}
+use Rattle.std.proofs.Common.{◌≡◌, ℕ, ◌+◌, ◌-◌, ◌≤◌, Bool, true, false, not, ◌&&◌, List, [], ◌∷◌, ◌++◌, length, take, codes, Option, Some, None, refl, sym, ap, subst, ◌∙◌, arith, append-nil}
 use Rattle.std.specs.Prelude.{◌==◌, unwrap_or}
 use Rattle.std.specs.List.{ends_with, list_all}
 use Rattle.std.specs.Str.{bytes_eq}
@@ -15,7 +15,7 @@ use Rattle.label_sets.specs.Lists.{when_true}
 use Rattle.page_model.specs.declared.format.Format.{Format}
 use Rattle.page_model.specs.declared.format.Format.TheVariants.{Text, OpenMetrics}
 use Rattle.page_model.specs.Readings.{key_name}
-use Rattle.page_model.specs.Rules.{is_unit, is_foreign_unit, is_info_or_state_set}
+use Rattle.page_model.specs.Rules.{is_info_or_state_set}
 use Rattle.open_writing.specs.Forms.{is_kind_in, is_unit_of, may_have_unit}
 use Rattle.federation_page.specs.Candidates.{in_front_of, federated_kind, federated_name}
 use Rattle.federation_page.proofs.Ends.{front_is}

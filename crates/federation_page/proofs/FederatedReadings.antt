@@ -1,24 +1,18 @@
 -- The readings of a target as they stand on the page: their form, and the size of their lines.
-use Rattle.std.proofs.Common.{◌≡◌, ◌≢◌, ℕ, suc, ◌+◌, ◌*◌, ◌≤◌, Bool, true, false, not, ◌&&◌, ◌||◌, cond, List, [], ◌∷◌, ◌++◌, map, length, codes, Option, Some, None, refl, sym, ap, subst, ◌∙◌, arith, All}
-use Rattle.std.specs.Prelude.{IsTrue, ⊤, ◌==◌, option_map}
-use Rattle.std.specs.List.{list_any, list_all, flat_map, AllByRecursion}
-use Rattle.std.specs.Option.{option_to_list}
-use Rattle.std.specs.Str.{bytes_eq, is_utf8}
-use Rattle.std.proofs.lemmas.Bool.{and_parts, and_from, or_parts}
+use Rattle.std.proofs.Common.{◌≡◌, ℕ, suc, ◌+◌, ◌*◌, ◌≤◌, Bool, true, false, ◌||◌, cond, List, [], ◌∷◌, ◌++◌, map, length, codes, Option, Some, None, refl, sym, ap, subst, ◌∙◌, arith}
+use Rattle.std.specs.Prelude.{◌==◌, option_map}
+use Rattle.std.specs.List.{flat_map, AllByRecursion}
 use Rattle.std.proofs.lemmas.List.{length-append}
-use Rattle.std.proofs.lemmas.List.Elements.{All-from_recursion, recursion_from_All}
 use Rattle.label_sets.specs.declared.kind.Kind.{Kind}
 use Rattle.label_sets.specs.declared.kind.Kind.TheVariants as kinds
 use Rattle.label_sets.specs.declared.label.Label.{Label}
 use Rattle.label_sets.specs.declared.label_set.LabelSet.{LabelSet}
-use Rattle.label_sets.specs.Labels.{name_before, label_inserted, has_name}
+use Rattle.label_sets.specs.Labels.{name_before, label_inserted}
 use Rattle.exact_decimal.specs.declared.number.Number.{Number}
 use Rattle.exact_decimal.specs.declared.number.Number.TheVariants.{Finite}
 use Rattle.exact_decimal.specs.Numbers.{number_of}
 use Rattle.exact_decimal.specs.Literals.{number_text}
-use Rattle.page_model.specs.declared.format.Format.{Format}
-use Rattle.page_model.specs.declared.format.Format.TheVariants.{Text, OpenMetrics}
-use Rattle.page_model.specs.declared.format.Treatment.TheVariants.{Scraped, Written}
+use Rattle.page_model.specs.declared.format.Format.TheVariants.{OpenMetrics}
 use Rattle.page_model.specs.declared.item.Sample.{Sample}
 use Rattle.page_model.specs.declared.page.Bucket.{Bucket}
 use Rattle.page_model.specs.declared.page.Quantile.{Quantile}
@@ -26,11 +20,10 @@ use Rattle.page_model.specs.declared.page.Value.{Value}
 use Rattle.page_model.specs.declared.page.Value.TheVariants as values
 use Rattle.page_model.specs.declared.page.Reading.{Reading}
 use Rattle.page_model.specs.Readings.{key_name}
-use Rattle.open_writing.specs.Writing.{bare_sample, number_sample, with_number_label, bucket_sample, quantile_sample, count_suffix, sum_suffix, observations, total_samples, value_samples, reading_samples, escaped_char, escaped, open_label_text, more_labels_text, labels_text, sample_text}
-use Rattle.open_writing.specs.Forms.{is_count_of_events, is_plain_value, is_taken_name, IsFormedValue, IsFormedTime, has_created_time, is_kind_in}
-use Rattle.writing_laws.proofs.Laws.{total, total-append}
-use Rattle.federation_page.specs.Candidates.{with_target, federated_kind, federated_name, in_front_of, is_counter_value, stays, is_left_out}
-use Rattle.federation_page.proofs.TargetLabels.{job_label, instance_label, target_any, target_length, length_inserted}
+use Rattle.open_writing.specs.Writing.{bare_sample, number_sample, bucket_sample, quantile_sample, count_suffix, sum_suffix, observations, total_samples, value_samples, reading_samples, escaped_char, escaped, open_label_text, more_labels_text, labels_text, sample_text}
+use Rattle.writing_laws.proofs.Laws.{total}
+use Rattle.federation_page.specs.Candidates.{with_target}
+use Rattle.federation_page.proofs.TargetLabels.{job_label, instance_label, target_length, length_inserted}
 
 -- ---- all of lists that are put together
 

@@ -1,16 +1,16 @@
 -- The federation page has at most twice as many sample lines as the pages of which it is gathered have samples.
-use Rattle.std.proofs.Common.{◌≡◌, ℕ, ◌+◌, ◌*◌, ◌≤◌, Bool, true, false, cond, ◌&&◌, List, [], ◌∷◌, map, filter, filter_map, reverse, length, Option, Some, None, refl, sym, ap, subst, ◌∙◌, arith}
+use Rattle.std.proofs.Common.{◌≡◌, ℕ, ◌+◌, ◌*◌, ◌≤◌, Bool, true, false, cond, ◌&&◌, List, [], ◌∷◌, map, filter, filter_map, reverse, length, Option, Some, None, refl, sym, ap, ◌∙◌, arith}
 use Rattle.std.specs.List.{flat_map, cons_option, AllByRecursion, IsDistinct}
 use Rattle.std.specs.Str.{bytes_eq}
 use Rattle.std.specs.Cmp.Lexicographic.{bytes_decides}
-use Rattle.std.proofs.lemmas.Bool.{and_parts, or_parts}
+use Rattle.std.proofs.lemmas.Bool.{and_parts}
 use Rattle.std.proofs.lemmas.List.Elements.{recursion_from_All}
 use Rattle.label_sets.specs.declared.kind.Kind.{Kind}
 use Rattle.label_sets.specs.Keys.{kind_eq}
 use Rattle.page_model.specs.declared.page.Reading.{Reading}
 use Rattle.page_model.specs.declared.page.Family.{Family}
 use Rattle.page_model.specs.declared.event.Shown.{Shown}
-use Rattle.open_writing.specs.FamilyKeys.{family_key, share_sample_name, clash, is_one_family, AreApart}
+use Rattle.open_writing.specs.FamilyKeys.{family_key, is_one_family}
 use Rattle.open_writing.specs.Pieces.{reading_lines, family_lines}
 use Rattle.open_writing.proofs.Laws.{families_counted}
 use Rattle.writing_laws.proofs.Laws.{total, total_is, total-le, total-append, total-twice, total-map, at_most_one, same_bytes, few_lines, total_filtered}

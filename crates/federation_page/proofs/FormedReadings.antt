@@ -1,15 +1,14 @@
 -- The readings of a target have the form of those that can be written.
-use Rattle.std.proofs.Common.{◌≡◌, ◌≢◌, ℕ, suc, ◌+◌, ◌≤◌, Bool, true, false, not, ◌&&◌, ◌||◌, cond, List, [], ◌∷◌, ◌++◌, map, length, codes, Option, Some, None, refl, sym, ap, subst, ◌∙◌, arith, All}
-use Rattle.std.specs.Prelude.{IsTrue}
-use Rattle.std.specs.List.{list_any, list_all, AllByRecursion}
-use Rattle.std.specs.Str.{bytes_eq, is_utf8}
+use Rattle.std.proofs.Common.{◌≡◌, ◌≢◌, ℕ, ◌+◌, ◌≤◌, Bool, true, false, not, ◌&&◌, ◌||◌, List, [], ◌∷◌, length, codes, Option, Some, None, refl, sym, ap, subst, ◌∙◌, arith}
+use Rattle.std.specs.List.{list_all, AllByRecursion}
+use Rattle.std.specs.Str.{bytes_eq}
 use Rattle.std.proofs.lemmas.Bool.{and_parts, and_from}
 use Rattle.std.proofs.lemmas.List.Elements.{All-from_recursion, recursion_from_All}
 use Rattle.label_sets.specs.declared.kind.Kind.{Kind}
 use Rattle.label_sets.specs.declared.kind.Kind.TheVariants as kinds
 use Rattle.label_sets.specs.declared.label.Label.{Label}
 use Rattle.label_sets.specs.declared.label_set.LabelSet.{LabelSet}
-use Rattle.label_sets.specs.Names.{is_metric_name, is_label_name}
+use Rattle.label_sets.specs.Names.{is_metric_name}
 use Rattle.label_sets.specs.Labels.{has_name}
 use Rattle.exact_decimal.specs.declared.number.Number.{Number}
 use Rattle.page_model.specs.declared.format.Format.{Format}
@@ -27,9 +26,9 @@ use Rattle.open_writing.specs.Forms.{is_plain_value, is_taken_name, is_state, is
 use Rattle.open_writing.specs.OpenForms.{IsBareReading}
 use Rattle.federation_page.specs.Candidates.{with_target, federated_kind, federated_name, federated_reading, in_front_of, is_counter_value, stays, is_left_out}
 use Rattle.federation_page.specs.Gathering.{IsTargetName}
-use Rattle.federation_page.proofs.TargetLabels.{job_label, instance_label, target_any, target_all, target_set}
+use Rattle.federation_page.proofs.TargetLabels.{target_any, target_all, target_set}
 use Rattle.federation_page.proofs.FederatedNames.{open_kind, keeps_name, name_shorter, key_shorter}
-use Rattle.federation_page.proofs.FederatedReadings.{HasTarget, HaveTarget, target_more, reading_carried, longer_text, most_target_bytes}
+use Rattle.federation_page.proofs.FederatedReadings.{HasTarget, target_more, reading_carried, longer_text, most_target_bytes}
 
 -- ---- values
 

@@ -1,7 +1,6 @@
 -- Label sets of several targets: those of each differ where they did on its page, and no target has those of another.
-use Rattle.std.proofs.Common.{◌≡◌, ◌≢◌, ℕ, suc, ◌+◌, Bool, true, false, not, ◌&&◌, ◌||◌, cond, List, [], ◌∷◌, ◌++◌, map, filter, drop, codes, Option, Some, None, refl, sym, ap, subst, ◌∙◌}
-use Rattle.std.specs.Prelude.{IsTrue}
-use Rattle.std.specs.List.{list_any, list_all, prefix_len, AllByRecursion, IsDistinct}
+use Rattle.std.proofs.Common.{◌≡◌, ◌≢◌, ℕ, ◌+◌, Bool, true, false, not, ◌&&◌, ◌||◌, cond, List, [], ◌∷◌, ◌++◌, map, filter, codes, Option, Some, None, refl, sym, ap, ◌∙◌}
+use Rattle.std.specs.List.{list_any, list_all, AllByRecursion, IsDistinct}
 use Rattle.std.specs.Str.{bytes_eq}
 use Rattle.std.specs.Cmp.Lexicographic.{bytes_decides}
 use Rattle.std.proofs.Math.Numerals.{one-add}
@@ -11,7 +10,7 @@ use Rattle.label_sets.specs.declared.kind.Kind.{Kind}
 use Rattle.label_sets.specs.declared.kind.Kind.TheVariants as kinds
 use Rattle.label_sets.specs.declared.label.Label.{Label}
 use Rattle.label_sets.specs.declared.label_set.LabelSet.{LabelSet}
-use Rattle.label_sets.specs.Labels.{label_sets_eq, without_label}
+use Rattle.label_sets.specs.Labels.{label_sets_eq}
 use Rattle.label_sets.specs.Lists.{rest_while}
 use Rattle.label_sets.specs.Sets.{IsLabelSet}
 use Rattle.label_sets.proofs.Laws.{sets_decide, same_tests}
@@ -21,7 +20,7 @@ use Rattle.page_model.specs.Owners.{group_of}
 use Rattle.page_model.specs.Readings.{key_name}
 use Rattle.open_writing.specs.Forms.{is_own_label, is_taken_name, stand_together}
 use Rattle.federation_page.specs.Candidates.{with_target, federated_kind, federated_name, in_front_of, is_left_out}
-use Rattle.federation_page.proofs.TargetLabels.{AreOwn, job_label, instance_label, own_back, job_back, instance_back, target_without}
+use Rattle.federation_page.proofs.TargetLabels.{AreOwn, own_back, job_back, instance_back, target_without}
 
 -- ---- neighbours
 

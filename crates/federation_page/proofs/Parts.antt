@@ -1,11 +1,11 @@
 -- What each target gives a family of the page.
-use Rattle.std.proofs.Common.{◌≡◌, ◌≢◌, ℕ, suc, ◌+◌, ◌≤◌, Bool, true, false, not, ◌&&◌, ◌||◌, cond, List, [], ◌∷◌, ◌++◌, map, filter, filter_map, length, codes, Option, Some, None, refl, sym, ap, subst, ◌∙◌, arith, All, append-nil}
-use Rattle.std.specs.Prelude.{IsTrue, unwrap_or, if◌then◌else◌}
-use Rattle.std.specs.List.{list_any, list_all, flat_map, cons_option, AllByRecursion, IsDistinct}
+use Rattle.std.proofs.Common.{◌≡◌, ℕ, ◌+◌, ◌≤◌, Bool, true, false, cond, List, [], ◌∷◌, ◌++◌, map, filter, filter_map, length, codes, Option, Some, None, refl, sym, ap, subst, ◌∙◌, arith, append-nil}
+use Rattle.std.specs.Prelude.{unwrap_or, if◌then◌else◌}
+use Rattle.std.specs.List.{flat_map, cons_option, AllByRecursion, IsDistinct}
 use Rattle.std.specs.Str.{bytes_eq, is_utf8}
 use Rattle.std.specs.Cmp.Lexicographic.{bytes_decides}
 use Rattle.std.proofs.lemmas.List.{length-append}
-use Rattle.std.proofs.lemmas.List.Elements.{All-from_recursion, recursion_from_All}
+use Rattle.std.proofs.lemmas.List.Elements.{recursion_from_All}
 use Rattle.label_sets.specs.declared.kind.Kind.{Kind}
 use Rattle.label_sets.specs.declared.kind.Kind.TheVariants as kinds
 use Rattle.label_sets.specs.declared.label_set.LabelSet.{LabelSet}
@@ -27,7 +27,7 @@ use Rattle.page_model.specs.Readings.{key_name}
 use Rattle.page_model.specs.Rules.{is_unit}
 use Rattle.open_writing.specs.Writing.{reading_samples, family_samples, item_unless_empty, family_items, item_text, sample_text, escaped}
 use Rattle.open_writing.specs.FamilyKeys.{FamilyKey, family_key, is_one_family}
-use Rattle.open_writing.specs.Forms.{IsFormedReading, IsFormedFamily, is_kind_in, is_unit_of, label_sets_of, stand_together}
+use Rattle.open_writing.specs.Forms.{IsFormedReading, IsFormedFamily, is_unit_of, label_sets_of, stand_together}
 use Rattle.open_writing.specs.OpenForms.{IsBareReading}
 use Rattle.writing_laws.specs.WritingLaws.{most_scraped_line}
 use Rattle.federation_page.specs.Candidates.{with_target, federated_kind, federated_name, federated_reading, renamed_family, candidate_of, stays, is_left_out}
@@ -35,7 +35,7 @@ use Rattle.federation_page.specs.Gathering.{IsTargetName}
 use Rattle.federation_page.proofs.Steps.{one_key}
 use Rattle.federation_page.proofs.TargetLabels.{AreOwn}
 use Rattle.federation_page.proofs.FederatedNames.{federated_metric, federated_unit, name_shorter, one_source}
-use Rattle.federation_page.proofs.FederatedReadings.{all_joined, all_first, all_second, most_target_bytes}
+use Rattle.federation_page.proofs.FederatedReadings.{all_first, all_second, most_target_bytes}
 use Rattle.federation_page.proofs.FormedReadings.{formed_reading, bare_reading, short_reading, not_empty}
 use Rattle.federation_page.proofs.Groups.{together_made, distinct_made, own_group, target_group, federated_group, target_once}
 

@@ -1,15 +1,15 @@
 -- A page that can be written is a right one, and what may be gathered has the form of scraped pages.
-use Rattle.std.proofs.Common.{◌≡◌, ℕ, List, [], ◌∷◌, refl, subst, inl, ◌⊎◌, All}
+use Rattle.std.proofs.Common.{◌≡◌, List, [], ◌∷◌, refl, subst, inl, All}
 use Rattle.std.specs.List.{AllByRecursion}
 use Rattle.std.proofs.lemmas.List.Elements.{All-from_recursion, recursion_from_All}
 use Rattle.page_model.specs.declared.format.Treatment.{Treatment}
-use Rattle.page_model.specs.declared.format.Treatment.TheVariants.{Scraped, Written}
+use Rattle.page_model.specs.declared.format.Treatment.TheVariants.{Written}
 use Rattle.page_model.specs.declared.page.Reading.{Reading}
 use Rattle.page_model.specs.declared.page.Family.{Family}
 use Rattle.page_model.specs.declared.page.Page.{Page}
 use Rattle.page_model.specs.declared.event.Shown.{Shown}
-use Rattle.page_model.specs.Written.{Setting, open_setting}
-use Rattle.page_model.specs.Pages.{AreSomeOf, IsThinnerReading, IsThinnerFamily, AreThinnerFamilies, IsPageRead, IsRightPage}
+use Rattle.page_model.specs.Written.{open_setting}
+use Rattle.page_model.specs.Pages.{AreSomeOf, IsThinnerReading, AreThinnerFamilies, IsRightPage}
 use Rattle.open_writing.specs.Forms.{AreFormed}
 use Rattle.open_writing.specs.OpenForms.{IsOpenForm}
 use Rattle.writing_laws.specs.WritingLaws.{ReadPagesAreFormed}

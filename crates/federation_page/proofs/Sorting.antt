@@ -1,6 +1,6 @@
 -- Families in byte order of their names: how the definition's insertion meets a sort, and an order in which they were founded.
-use Rattle.std.proofs.Common.{◌≡◌, ℕ, zero, suc, ◌+◌, ◌<◌, Bool, true, false, cond, not, ◌||◌, List, [], ◌∷◌, ◌++◌, map, filter, reverse, fold, length, get_or, refl, sym, ap, subst, ◌∙◌, ◌⊎◌, inl, inr, arith}
-use Rattle.std.specs.List.{Contains, AllByRecursion, IsDistinct, list_any}
+use Rattle.std.proofs.Common.{◌≡◌, ℕ, zero, suc, ◌+◌, ◌<◌, Bool, true, false, cond, List, [], ◌∷◌, ◌++◌, map, reverse, length, get_or, refl, sym, ap, subst, ◌∙◌, ◌⊎◌, inl, inr, arith}
+use Rattle.std.specs.List.{Contains, AllByRecursion, IsDistinct}
 use Rattle.std.specs.List.Sorted.{IsStrictlySortedBy, IsPermutation, IsSortedBy}
 use Rattle.std.specs.Str.{bytes_eq}
 use Rattle.std.specs.Cmp.{IsTotalOrder}
@@ -16,7 +16,7 @@ use Rattle.std.proofs.lemmas.Map.Text.{is_eq-slice_cmp}
 use Rattle.label_sets.specs.Labels.{name_before}
 use Rattle.page_model.specs.declared.page.Family.{Family}
 use Rattle.open_writing.specs.FamilyKeys.{family_key, AreApart}
-use Rattle.federation_page.specs.Conflicts.{founders, placed_by_name, sorted_by_name, gathered_by, with_candidate, with_candidates}
+use Rattle.federation_page.specs.Conflicts.{founders, placed_by_name, sorted_by_name, gathered_by, with_candidates}
 use Rattle.federation_page.specs.Gathering.{gathered_families}
 use Rattle.federation_page.proofs.Founders.{founders_apart, names_apart, same_turned}
 use Rattle.federation_page.proofs.Steps.{so_far, founded_of, step}

@@ -1,6 +1,5 @@
 -- What is gathered of pages that texts say can be written.
-use Rattle.std.proofs.Common.{◌≡◌, ◌≢◌, ℕ, suc, ◌+◌, ◌≤◌, Bool, true, false, not, ◌&&◌, ◌||◌, cond, List, [], ◌∷◌, ◌++◌, map, filter, filter_map, reverse, length, codes, Option, Some, None, refl, sym, ap, subst, ◌∙◌, arith, All, inl, inr, ◌⊎◌}
-use Rattle.std.specs.Prelude.{IsTrue}
+use Rattle.std.proofs.Common.{◌≡◌, ◌+◌, ◌≤◌, Bool, true, false, cond, List, [], ◌∷◌, ◌++◌, map, filter, reverse, length, codes, refl, sym, ap, subst, ◌∙◌, arith, All, inl, inr}
 use Rattle.std.specs.List.{list_any, flat_map, AllByRecursion, IsDistinct}
 use Rattle.std.specs.Str.{bytes_eq}
 use Rattle.std.proofs.lemmas.Bool.{or_from}
@@ -14,27 +13,25 @@ use Rattle.label_sets.specs.Labels.{label_sets_eq, name_before}
 use Rattle.label_sets.proofs.Laws.{sets_decide}
 use Rattle.page_model.specs.declared.format.Format.{Format}
 use Rattle.page_model.specs.declared.format.Format.TheVariants.{OpenMetrics}
-use Rattle.page_model.specs.declared.format.Treatment.{Treatment}
 use Rattle.page_model.specs.declared.format.Treatment.TheVariants.{Scraped, Written}
 use Rattle.page_model.specs.declared.item.Item.{Item}
 use Rattle.page_model.specs.declared.item.Item.TheVariants as items
 use Rattle.page_model.specs.declared.item.Sample.{Sample}
 use Rattle.page_model.specs.declared.page.Reading.{Reading}
 use Rattle.page_model.specs.declared.page.Family.{Family}
-use Rattle.page_model.specs.declared.page.Page.{Page}
 use Rattle.page_model.specs.declared.event.Shown.{Shown}
 use Rattle.page_model.specs.PageValues.{PageValue}
 use Rattle.page_model.specs.Written.{Setting, line_limit}
 use Rattle.page_model.specs.Owners.{group_of}
-use Rattle.page_model.specs.Pages.{AreSomeOf, IsThinnerReading, IsThinnerFamily, AreThinnerFamilies, IsPageRead}
+use Rattle.page_model.specs.Pages.{AreSomeOf, IsThinnerReading, AreThinnerFamilies, IsPageRead}
 use Rattle.open_writing.specs.Writing.{reading_samples, family_samples, item_unless_empty, family_items, page_items, item_text, sample_text}
 use Rattle.open_writing.specs.FamilyKeys.{family_key, clash, is_one_family}
 use Rattle.open_writing.specs.Forms.{IsFormedReading, IsFormedFamily, AreFormed, is_kind_in, label_sets_of, stand_together}
-use Rattle.open_writing.specs.OpenForms.{HaveShortLines, IsBareReading, AreWritable}
+use Rattle.open_writing.specs.OpenForms.{IsBareReading, AreWritable}
 use Rattle.writing_laws.specs.WritingLaws.{ReadPagesAreFormed, WritesShortLines, most_scraped_line}
 use Rattle.federation_page.specs.Candidates.{with_target, candidates_of, stays}
 use Rattle.federation_page.specs.Conflicts.{founders, placed_by_name, sorted_by_name, gathered_by}
-use Rattle.federation_page.specs.Gathering.{with_readings_of, gathered_families, federated_page, is_one_target, IsTargetName, IsShowable, AreShowable}
+use Rattle.federation_page.specs.Gathering.{with_readings_of, gathered_families, federated_page, is_one_target, IsTargetName, IsShowable}
 use Rattle.federation_page.specs.Laws.{GatheredAreWritable}
 use Rattle.federation_page.proofs.Founders.{gathered_apart, names_apart}
 use Rattle.federation_page.proofs.FederatedReadings.{all_joined, all_first, all_second, most_target_bytes}
