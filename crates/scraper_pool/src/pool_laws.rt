@@ -1,0 +1,8 @@
+//! A law of turns, as the contract of a function that does nothing.
+ghost use Rattle.scraper_pool.specs.Laws.{TurnsAreTold};
+
+/// The counts of a share tell a turn: a target was visited exactly where the count of takes rose, and there was none
+/// exactly where the count of idle turns rose.
+pub fn turns_are_told()
+    ensures { TurnsAreTold }
+{}

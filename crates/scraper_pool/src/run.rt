@@ -1,0 +1,141 @@
+//! A whole run: the workers, and then the caller's own visits.
+ghost use Rattle.std.specs.Prelude.{◌≡◌, ◌<◌, None, IfOk, IfErr};
+ghost use Rattle.series_table.specs.HttpTalks.{talking};
+ghost use Rattle.target_table.specs.declared.table.TableFault.TheVariants as faults;
+ghost use Rattle.target_table.specs.Runs.{IsRightRun};
+ghost use Rattle.target_table.specs.Tables.{next_place, AreTracks, AreUnvisited, IsRunOver};
+ghost use Rattle.scraper_pool.specs.Turns.{run_of};
+
+use crate::pool::Pool;
+use bridge_ports::Wire;
+use std::alloc::Global;
+use std::marker::Brand;
+use std::sync::Wait;
+use std::sync::ledger::Blank;
+use std::thread::Threads;
+use target_table::{Blanks, Lane, RunName, Seat, Shares, Table, TableFault, Track};
+
+/// What a run gives back.
+pub struct Ended<W: Wire> {
+    /// The tracks of all targets, in order.
+    pub tracks: Vec<Track<W>>,
+}
+
+// Makes the visits that are left.
+fn visit_rest<
+    N: RunName,
+    A: Lane,
+    B: Lane,
+    C: Lane,
+    D: Lane,
+    W: Wire,
+    S: Seat<A, B, C, D>,
+    R: Wait,
+>(rt: &R, alloc: Global, table: &mut Table<N, A, B, C, D, W>, seat: &mut S)
+    requires lane { S.right }
+    requires free { S.out seat.old ≡ 0 }
+    ensures free { S.out seat.new ≡ 0 }
+    ensures none { next_place N.run.rounds table.new.slots ≡ None }
+{
+    for _ in rt.forever() {
+        let Some(lease) = table.take(seat) else {
+            return;
+        };
+        let mut lease = lease;
+        let _visited = lease.track.visit(alloc);
+        table.put(seat, lease);
+    }
+    unreachable!()
+}
+
+impl<
+    N: RunName + Send + Sync,
+    A: Lane + Send + Sync,
+    B: Lane + Send + Sync,
+    C: Lane + Send + Sync,
+    D: Lane + Send + Sync,
+    W: Wire,
+> Pool<N, A, B, C, D, W> {
+    /// Visits all targets, by as many workers as `scrapers` says, but at most four. What they leave is visited by the
+    /// caller itself, so each target has all its visits, but for those that are halted.
+    pub fn run<R: Threads + Wait + Sync>(
+        self,
+        rt: &R,
+        alloc: Global,
+        shares: Shares<A, B, C, D>,
+        scrapers: u32,
+    ) -> Ended<W>
+        requires a { (A.all ≡ A.parts) × (0 < A.all) × (shares.a.held ≡ 0) }
+        requires b { (B.all ≡ B.parts) × (0 < B.all) × (shares.b.held ≡ 0) }
+        requires c { (C.all ≡ C.parts) × (0 < C.all) × (shares.c.held ≡ 0) }
+        requires d { (D.all ≡ D.parts) × (0 < D.all) × (shares.d.held ≡ 0) }
+        ensures { IsRunOver talking N.run result.tracks.items }
+    {
+        let mut shares = self.work_all(rt, alloc, shares, scrapers);
+        let Pool { table } = self;
+        let mut table = table.into_inner();
+        visit_rest(rt, alloc, &mut table, &mut shares.a);
+        Ended {
+            tracks: table.into_tracks(shares),
+        }
+    }
+}
+
+// Under one name of a run and of its four lanes.
+fn run_named<
+    N: RunName + Send + Sync,
+    A: Lane + Send + Sync,
+    B: Lane + Send + Sync,
+    C: Lane + Send + Sync,
+    D: Lane + Send + Sync,
+    W: Wire,
+    R: Threads + Wait + Sync,
+>(
+    rt: &R,
+    alloc: Global,
+    tracks: Vec<Track<W>>,
+    rounds: u32,
+    scrapers: u32,
+    blanks: Blanks,
+) -> Result<Ended<W>, TableFault<W>>
+    requires run { IsRightRun N.run }
+    requires rounds { rounds ≡ N.run.rounds }
+    requires tracks { AreTracks talking 0 N.run.targets tracks.items }
+    requires unvisited { AreUnvisited tracks.items }
+    requires a { (blanks.a.name ≡ A.name) × (blanks.a.parts ≡ A.parts) × (A.all ≡ A.parts) × (0 < A.all) }
+    requires b { (blanks.b.name ≡ B.name) × (blanks.b.parts ≡ B.parts) × (B.all ≡ B.parts) × (0 < B.all) }
+    requires c { (blanks.c.name ≡ C.name) × (blanks.c.parts ≡ C.parts) × (C.all ≡ C.parts) × (0 < C.all) }
+    requires d { (blanks.d.name ≡ D.name) × (blanks.d.parts ≡ D.parts) × (D.all ≡ D.parts) × (0 < D.all) }
+    ensures over { IfOk result (λ ended. IsRunOver talking N.run ended.tracks.items) }
+    ensures back { IfErr result (λ fault. fault ≡ faults.Memory tracks) }
+{
+    match Pool::<N, A, B, C, D, W>::new(alloc, tracks, rounds, blanks) {
+        Ok((pool, shares)) => Ok(pool.run(rt, alloc, shares, scrapers)),
+        Err(fault) => Err(fault),
+    }
+}
+
+/// Visits the targets of these tracks, each so often, by so many workers, but at most four.
+pub fn run_targets<W: Wire, R: Threads + Wait + Sync>(
+    rt: &R,
+    alloc: Global,
+    tracks: Vec<Track<W>>,
+    rounds: u32,
+    scrapers: u32,
+) -> Result<Ended<W>, TableFault<W>>
+    requires run { IsRightRun (run_of rounds tracks.items) }
+    requires tracks { AreTracks talking 0 (run_of rounds tracks.items).targets tracks.items }
+    requires unvisited { AreUnvisited tracks.items }
+    ensures over { IfOk result (λ ended. IsRunOver talking (run_of rounds tracks.items) ended.tracks.items) }
+    ensures back { IfErr result (λ fault. fault ≡ faults.Memory tracks) }
+{
+    let blanks = Blanks {
+        a: Blank::new(1),
+        b: Blank::new(1),
+        c: Blank::new(1),
+        d: Blank::new(1),
+    };
+    run_named::<Brand, Brand, Brand, Brand, Brand, W, R>(
+        rt, alloc, tracks, rounds, scrapers, blanks,
+    )
+}

@@ -1,0 +1,133 @@
+//! The workers: one for each lane, each in a thread of its own where one can be made.
+ghost use Rattle.std.specs.Prelude.{◌≡◌, ◌<◌, nat_lt};
+ghost use Rattle.std.specs.Thread.{IsSync};
+ghost use Rattle.scraper_pool.specs.Turns.{IsWork, seated};
+
+use crate::pool::Pool;
+use crate::turn::Turn;
+use bridge_ports::Wire;
+use std::alloc::Global;
+use std::sync::Wait;
+use std::thread::{Threads, join};
+use target_table::{First, Fourth, Lane, RunName, Seat, Second, Share, Shares, Third};
+
+impl<N: RunName, A: Lane, B: Lane, C: Lane, D: Lane, W: Wire> Pool<N, A, B, C, D, W> {
+    // The work of a lane, which ends at once where it is not asked for.
+    fn work<S: Seat<A, B, C, D>, R: Wait>(
+        &self,
+        rt: &R,
+        alloc: Global,
+        seat: S,
+        is_asked: bool,
+    ) -> S
+        requires lane { S.right }
+        requires free { S.out seat ≡ 0 }
+        ensures { IsWork is_asked (seated (S.out seat) (S.takes seat) (S.rests seat)) (seated (S.out result) (S.takes result) (S.rests result)) }
+    {
+        let mut seat = seat;
+        if !is_asked {
+            return seat;
+        }
+        for _ in rt.forever() {
+            match self.visit_next(rt, alloc, &mut seat) {
+                Turn::Visited => {}
+                Turn::Nothing => return seat,
+            }
+        }
+        unreachable!()
+    }
+}
+
+impl<
+    N: RunName + Send + Sync,
+    A: Lane + Send + Sync,
+    B: Lane + Send + Sync,
+    C: Lane + Send + Sync,
+    D: Lane + Send + Sync,
+    W: Wire,
+> Pool<N, A, B, C, D, W> {
+    // The work of the last two lanes.
+    fn work_last<R: Threads + Wait + Sync>(
+        &self,
+        rt: &R,
+        alloc: Global,
+        c: Share<Third, C>,
+        d: Share<Fourth, D>,
+        scrapers: u32,
+    ) -> (Share<Third, C>, Share<Fourth, D>)
+        requires c { (C.all ≡ C.parts) × (0 < C.all) × (c.held ≡ 0) }
+        requires d { (D.all ≡ D.parts) × (0 < D.all) × (d.held ≡ 0) }
+        ensures c { IsWork (nat_lt 2 scrapers) (seated c.held c.taken c.idle) (seated result.0.held result.0.taken result.0.idle) }
+        ensures d { IsWork (nat_lt 3 scrapers) (seated d.held d.taken d.idle) (seated result.1.held result.1.taken result.1.idle) }
+    {
+        join(
+            rt,
+            || -> Share<Third, C>
+                requires { IsSync R.row × (C.all ≡ C.parts) × (0 < C.all) × (c.held ≡ 0) }
+            { self.work(rt, alloc, c, 2 < scrapers) },
+            || -> Share<Fourth, D>
+                requires { IsSync R.row × (D.all ≡ D.parts) × (0 < D.all) × (d.held ≡ 0) }
+            { self.work(rt, alloc, d, 3 < scrapers) },
+        )
+    }
+
+    // The work of the last three lanes.
+    fn work_later<R: Threads + Wait + Sync>(
+        &self,
+        rt: &R,
+        alloc: Global,
+        b: Share<Second, B>,
+        c: Share<Third, C>,
+        d: Share<Fourth, D>,
+        scrapers: u32,
+    ) -> (Share<Second, B>, (Share<Third, C>, Share<Fourth, D>))
+        requires b { (B.all ≡ B.parts) × (0 < B.all) × (b.held ≡ 0) }
+        requires c { (C.all ≡ C.parts) × (0 < C.all) × (c.held ≡ 0) }
+        requires d { (D.all ≡ D.parts) × (0 < D.all) × (d.held ≡ 0) }
+        ensures b { IsWork (nat_lt 1 scrapers) (seated b.held b.taken b.idle) (seated result.0.held result.0.taken result.0.idle) }
+        ensures c { IsWork (nat_lt 2 scrapers) (seated c.held c.taken c.idle) (seated result.1.0.held result.1.0.taken result.1.0.idle) }
+        ensures d { IsWork (nat_lt 3 scrapers) (seated d.held d.taken d.idle) (seated result.1.1.held result.1.1.taken result.1.1.idle) }
+    {
+        join(
+            rt,
+            || -> Share<Second, B>
+                requires { IsSync R.row × (B.all ≡ B.parts) × (0 < B.all) × (b.held ≡ 0) }
+            { self.work(rt, alloc, b, 1 < scrapers) },
+            || -> (Share<Third, C>, Share<Fourth, D>)
+                requires { IsSync R.row × (C.all ≡ C.parts) × (0 < C.all) × (c.held ≡ 0) × (D.all ≡ D.parts) × (0 < D.all) × (d.held ≡ 0) }
+            { self.work_last(rt, alloc, c, d, scrapers) },
+        )
+    }
+
+    /// Has as many workers as `scrapers` says, but at most four, take turns until they find none to take. Each has a
+    /// lane of its own, and gives the lane's share back.
+    pub(crate) fn work_all<R: Threads + Wait + Sync>(
+        &self,
+        rt: &R,
+        alloc: Global,
+        shares: Shares<A, B, C, D>,
+        scrapers: u32,
+    ) -> Shares<A, B, C, D>
+        requires a { (A.all ≡ A.parts) × (0 < A.all) × (shares.a.held ≡ 0) }
+        requires b { (B.all ≡ B.parts) × (0 < B.all) × (shares.b.held ≡ 0) }
+        requires c { (C.all ≡ C.parts) × (0 < C.all) × (shares.c.held ≡ 0) }
+        requires d { (D.all ≡ D.parts) × (0 < D.all) × (shares.d.held ≡ 0) }
+        ensures a { IsWork (nat_lt 0 scrapers) (seated shares.a.held shares.a.taken shares.a.idle) (seated result.a.held result.a.taken result.a.idle) }
+        ensures b { IsWork (nat_lt 1 scrapers) (seated shares.b.held shares.b.taken shares.b.idle) (seated result.b.held result.b.taken result.b.idle) }
+        ensures c { IsWork (nat_lt 2 scrapers) (seated shares.c.held shares.c.taken shares.c.idle) (seated result.c.held result.c.taken result.c.idle) }
+        ensures d { IsWork (nat_lt 3 scrapers) (seated shares.d.held shares.d.taken shares.d.idle) (seated result.d.held result.d.taken result.d.idle) }
+        ensures home { (result.a.held ≡ 0) × (result.b.held ≡ 0) × (result.c.held ≡ 0) × (result.d.held ≡ 0) }
+    {
+        let Shares { a, b, c, d } = shares;
+        let (a, (b, (c, d))) = join(
+            rt,
+            || -> Share<First, A>
+                requires { IsSync R.row × (A.all ≡ A.parts) × (0 < A.all) × (a.held ≡ 0) }
+            { self.work(rt, alloc, a, 0 < scrapers) },
+            || -> (Share<Second, B>, (Share<Third, C>, Share<Fourth, D>))
+                requires { IsSync R.row × (B.all ≡ B.parts) × (0 < B.all) × (b.held ≡ 0) × (C.all ≡ C.parts) × (0 < C.all) × (c.held ≡ 0) × (D.all ≡ D.parts) × (0 < D.all) × (d.held ≡ 0) }
+            { self.work_later(rt, alloc, b, c, d, scrapers) },
+        );
+        Shares { a, b, c, d }
+    }
+}
