@@ -6,7 +6,7 @@ ghost use Rattle.page_model.specs.Suffixes.{suffixes};
 ghost use Rattle.page_model.specs.SuffixNames.{suffix_bytes};
 ghost use Rattle.open_writing.specs.FamilyKeys.{family_key, sample_names};
 ghost use Rattle.federation_page.specs.Conflicts.{meets, sorted_by_name, with_candidate};
-ghost use Rattle.federation_page.specs.Founding.{AreKept, is_among};
+ghost use Rattle.federation_page.specs.Founding.{AreFounders, is_name_among};
 
 use crate::candidates::Candidate;
 use byte_table::ByteTable;
@@ -45,7 +45,7 @@ fn add_sample_names(
     names: &mut ByteTable,
     candidate: &Candidate,
 ) -> Result<(), Memory>
-    ensures { OnOk result ((name : Seq ℕ) → is_among names.new name ≡ (is_among names.old name || is_among (sample_names (family_key candidate.now)) name)) }
+    ensures { OnOk result ((name : Seq ℕ) → is_name_among names.new name ≡ (is_name_among names.old name || is_name_among (sample_names (family_key candidate.now)) name)) }
 {
     let suffixes = suffixes(candidate.kind());
     for suffix in suffixes {
@@ -66,7 +66,7 @@ pub(crate) struct Founders {
 impl Founders {
     /// No families.
     pub(crate) fn new(alloc: Global) -> Founders
-        ensures kept { AreKept result }
+        ensures kept { AreFounders result }
         ensures none { result.families.items ≡ [] }
     {
         Founders {
@@ -78,7 +78,7 @@ impl Founders {
 
     /// Whether a sample name that the candidate's kind allows is one of a family that is there.
     fn shares_sample_name(&self, candidate: &Candidate) -> Result<bool, Memory>
-        ensures { IfOk result (λ shares. shares ≡ list_any (is_among self.now.sample_names) (sample_names (family_key candidate.now))) }
+        ensures { IfOk result (λ shares. shares ≡ list_any (is_name_among self.now.sample_names) (sample_names (family_key candidate.now))) }
     {
         let alloc = *self.families.allocator();
         let suffixes = suffixes(candidate.kind());
@@ -93,9 +93,9 @@ impl Founders {
 
     /// Adds a family that clashes with none.
     fn found(&mut self, candidate: Candidate) -> Result<(), Memory>
-        requires kept { AreKept self.old }
+        requires kept { AreFounders self.old }
         requires free { meets self.old.families.items (family_key candidate) ≡ false }
-        ensures kept { OnOk result (AreKept self.new) }
+        ensures kept { OnOk result (AreFounders self.new) }
         ensures founded { OnOk result (self.new.families.items ≡ self.old.families.items ++ candidate ∷ []) }
     {
         let alloc = *self.families.allocator();
@@ -107,9 +107,9 @@ impl Founders {
 
     /// Adds a family of a name that none has, unless it shares a sample name.
     fn take_new(&mut self, candidate: Candidate) -> Result<(), Memory>
-        requires kept { AreKept self.old }
-        requires new { is_among self.old.names candidate.name ≡ false }
-        ensures kept { OnOk result (AreKept self.new) }
+        requires kept { AreFounders self.old }
+        requires new { is_name_among self.old.names candidate.name ≡ false }
+        ensures kept { OnOk result (AreFounders self.new) }
         ensures taken { OnOk result (self.new.families.items ≡ with_candidate self.old.families.items candidate) }
     {
         if self.shares_sample_name(&candidate)? {
@@ -121,9 +121,9 @@ impl Founders {
 
     /// Adds the readings of a candidate to the family of its name, where they are one.
     fn join(&mut self, place: usize, candidate: Candidate) -> Result<(), Memory>
-        requires kept { AreKept self.old }
+        requires kept { AreFounders self.old }
         requires there { slice_get self.old.names place ≡ Some candidate.name }
-        ensures kept { OnOk result (AreKept self.new) }
+        ensures kept { OnOk result (AreFounders self.new) }
         ensures taken { OnOk result (self.new.families.items ≡ with_candidate self.old.families.items candidate) }
     {
         self.families[place].join(candidate)?;
@@ -132,8 +132,8 @@ impl Founders {
 
     /// Adds a family, or its readings to the one that it is one with, unless it clashes.
     pub(crate) fn take(&mut self, candidate: Candidate) -> Result<(), Memory>
-        requires kept { AreKept self.old }
-        ensures kept { OnOk result (AreKept self.new) }
+        requires kept { AreFounders self.old }
+        ensures kept { OnOk result (AreFounders self.new) }
         ensures taken { OnOk result (self.new.families.items ≡ with_candidate self.old.families.items candidate) }
     {
         match self.names.find(candidate.name().as_bytes()) {
@@ -144,7 +144,7 @@ impl Founders {
 
     /// The families in byte order of their names.
     pub(crate) fn into_families(self) -> Result<List<Family>, Memory>
-        requires { AreKept self }
+        requires { AreFounders self }
         ensures { IfOk result (λ families. families ≡ sorted_by_name family_key self.families.items) }
     {
         let mut candidates = self.families;

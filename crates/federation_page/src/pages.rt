@@ -6,7 +6,7 @@ ghost use Rattle.page_model.specs.declared.format.Treatment.TheVariants.{Scraped
 ghost use Rattle.open_writing.specs.Forms.{IsFormedFamily};
 ghost use Rattle.federation_page.specs.Candidates.{HasNames, IsFormedTarget, candidate_of, candidates_of};
 ghost use Rattle.federation_page.specs.Conflicts.{with_candidates, with_option};
-ghost use Rattle.federation_page.specs.Founding.{AreKept};
+ghost use Rattle.federation_page.specs.Founding.{AreFounders};
 ghost use Rattle.federation_page.specs.Gathering.{gathered_families};
 
 use crate::candidates::candidate_of;
@@ -22,10 +22,10 @@ fn take_family(
     target: &Shown,
     family: &Family,
 ) -> Result<(), Memory>
-    requires kept { AreKept founders.old }
+    requires kept { AreFounders founders.old }
     requires named { HasNames target.now }
     requires formed { (format : Format) × IsFormedFamily format Scraped family.now }
-    ensures kept { OnOk result (AreKept founders.new) }
+    ensures kept { OnOk result (AreFounders founders.new) }
     ensures taken { OnOk result (founders.new.families.items ≡ with_option founders.old.families.items (candidate_of target.now family.now)) }
 {
     match candidate_of(alloc, target, family)? {
@@ -36,9 +36,9 @@ fn take_family(
 
 /// Takes the families of a target in page order.
 fn take_target(alloc: Global, founders: &mut Founders, target: &Shown) -> Result<(), Memory>
-    requires kept { AreKept founders.old }
+    requires kept { AreFounders founders.old }
     requires able { IsFormedTarget target.now }
-    ensures kept { OnOk result (AreKept founders.new) }
+    ensures kept { OnOk result (AreFounders founders.new) }
     ensures taken { OnOk result (founders.new.families.items ≡ with_candidates founders.old.families.items (candidates_of target.now)) }
 {
     let families = target.page.families().as_slice();

@@ -1,10 +1,10 @@
 use Rattle.std.proofs.Common.{◌≡◌, drop, filter_map}
 use Rattle.federation_page.specs.Candidates.{candidate_of}
 use Rattle.federation_page.specs.Conflicts.{with_candidates}
-use Rattle.federation_page.specs.Founding.{AreKept}
+use Rattle.federation_page.specs.Founding.{AreFounders}
 use Rattle.federation_page.proofs.pages.take_target.Given as goal
 
 -- the candidates that are left give what all give
 abbrev pub invariant-loop-family : goal.invariant-loop-family
-invariant-loop-family l = AreKept l.founders
+invariant-loop-family l = AreFounders l.founders
     × (with_candidates l.founders.families.items (filter_map (candidate_of l.target) (drop l.family-index l.families)) ≡ with_candidates l.initial.founders.families.items (filter_map (candidate_of l.target) l.families))
