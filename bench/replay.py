@@ -4,9 +4,8 @@ hundred is gone and those of the scrape before are back, beside `bridge convert 
 
     python3 bench/replay.py [ROUNDS]
 
-`replay` visits its target, which bench/visit.sh measures, and makes each body once more to print it; so a scrape may
-cost at most 3.2 times what `convert` costs for the page. The script is held while it is replayed, and the wires in
-memory hold what was posted; the peaks for 10 and for 50 scrapes are printed beside that of the script.
+A scrape may cost at most 1.4 times what `convert` costs for the page. The script is held while it is replayed,
+so the peak memory beyond the script is what counts: it is to be the same for 10 and for 50 scrapes.
 The programs take turns; the least time of each counts.
 """
 
@@ -19,7 +18,7 @@ from timing import built_program, peak_bytes, rounds, seconds
 
 SAMPLES = 20_000
 SCRAPES = 50
-MOST_RATIO = 3.2
+MOST_RATIO = 1.4
 
 
 def thinned(lines: list[bytes], scrape: int) -> bytes:
