@@ -1,6 +1,6 @@
 -- The families of one target as they would stand on the federation page, before any conflict with those of other targets.
 -- Prometheus, "Federation" (job and instance labels); OpenMetrics 1.0, "Counter", "Info", "StateSet". What is left out is the bridge's own.
-use Rattle.std.specs.Prelude.{◌≢◌, ℕ, ◌-◌, IsTrue, Bool, true, false, not, ◌&&◌, ◌||◌, List, [], ◌∷◌, map, filter, filter_map, length, take, codes, Option, Some, None, option_map, unwrap_or, ◌==◌, if◌then◌else◌}
+use Rattle.std.specs.Prelude.{◌≡◌, ◌≢◌, ℕ, ◌-◌, IsTrue, Bool, true, false, not, ◌&&◌, ◌||◌, List, [], ◌∷◌, map, filter, filter_map, length, take, codes, Option, Some, None, option_map, unwrap_or, ◌==◌, if◌then◌else◌}
 use Rattle.std.specs.List.{ends_with, list_all}
 use Rattle.std.specs.Str.{bytes_eq}
 use Rattle.label_sets.specs.declared.kind.Kind.{Kind}
@@ -92,6 +92,14 @@ unfoldable pub candidates_of : Shown → List Family
 candidates_of shown = filter_map (candidate_of shown) shown.page.families
 
 -- ---- what the code makes a candidate of
+
+-- the readings of a family that stay
+abbrev pub staying_readings : Family → List Reading
+staying_readings f = filter (stays f.kind) f.readings
+
+-- the first of these
+abbrev pub IsFirstOf : List Reading → Reading → Type 0
+IsFirstOf readings first = (rest : List Reading) × (readings ≡ first ∷ rest)
 
 -- the target has both of its names
 pub record HasNames (s : Shown) : Type 0 where

@@ -11,6 +11,10 @@ use Rattle.federation_page.specs.declared.conflicts.Founders.{Founders}
 abbrev pub is_name_among : List (List ℕ) → List ℕ → Bool
 is_name_among names name = list_any (bytes_eq name) names
 
+-- the names of both lists
+abbrev pub AreNamesOfBoth : List (List ℕ) → List (List ℕ) → List (List ℕ) → Type 0
+AreNamesOfBoth some more all = (name : List ℕ) → is_name_among all name ≡ (is_name_among some name || is_name_among more name)
+
 -- the sample names that these families allow
 abbrev pub all_sample_names : List Family → List (List ℕ)
 all_sample_names fs = flat_map (λ f. sample_names (family_key f)) fs

@@ -1,5 +1,5 @@
 //! The families of a target as they would stand on the page, before any conflict.
-ghost use Rattle.std.specs.Prelude.{◌≡◌, ◌≢◌, [], ◌∷◌, map, filter, List as Seq, All, IfOk, OnOk, MatchOption};
+ghost use Rattle.std.specs.Prelude.{◌≡◌, ◌≢◌, [], map, filter, All, IfOk, OnOk, MatchOption};
 ghost use Rattle.std.specs.Ordering.{nat_cmp};
 ghost use Rattle.std.specs.Cmp.Lexicographic.{slice_cmp};
 ghost use Rattle.page_model.specs.declared.format.Format.{Format};
@@ -10,10 +10,12 @@ ghost use Rattle.open_writing.specs.FamilyKeys.{family_key, is_one_family};
 ghost use Rattle.federation_page.specs.Candidates.{
   AreFreeLabels,
   HasNames,
+  IsFirstOf,
   candidate_of,
   is_left_out,
   named_candidate,
   reading_under,
+  staying_readings,
   stays,
 };
 ghost use Rattle.federation_page.specs.Conflicts.{joined_by};
@@ -169,7 +171,7 @@ fn reading_under(
 
 /// The first reading of a family that stays.
 fn first_that_stays(family: &Family) -> Option<&Reading>
-    ensures { MatchOption result (filter (stays family.now.kind) family.now.readings ≡ []) (λ first. (rest : Seq OneReading) × (filter (stays family.now.kind) family.now.readings ≡ first.now ∷ rest)) }
+    ensures { MatchOption result (staying_readings family.now ≡ []) (λ first. IsFirstOf (staying_readings family.now) first.now) }
 {
     let readings = family.readings.as_slice();
     for reading in readings {

@@ -1,12 +1,12 @@
 //! Which of many families found one of the page (OpenMetrics 1.0, "MetricFamily"): of two that clash the first stays.
-ghost use Rattle.std.specs.Prelude.{◌≡◌, ◌++◌, ◌||◌, ℕ, [], ◌∷◌, List as Seq, map, false, Some, IfOk, OnOk, slice_get};
+ghost use Rattle.std.specs.Prelude.{◌≡◌, ◌++◌, [], ◌∷◌, map, false, Some, IfOk, OnOk, slice_get};
 ghost use Rattle.std.specs.List.{list_any};
 ghost use Rattle.page_model.specs.declared.format.Format.TheVariants.{OpenMetrics};
 ghost use Rattle.page_model.specs.Suffixes.{suffixes};
 ghost use Rattle.page_model.specs.SuffixNames.{suffix_bytes};
 ghost use Rattle.open_writing.specs.FamilyKeys.{family_key, sample_names};
 ghost use Rattle.federation_page.specs.Conflicts.{meets, sorted_by_name, with_candidate};
-ghost use Rattle.federation_page.specs.Founding.{AreFounders, is_name_among};
+ghost use Rattle.federation_page.specs.Founding.{AreFounders, AreNamesOfBoth, is_name_among};
 
 use crate::candidates::Candidate;
 use byte_table::ByteTable;
@@ -45,7 +45,7 @@ fn add_sample_names(
     names: &mut ByteTable,
     candidate: &Candidate,
 ) -> Result<(), Memory>
-    ensures { OnOk result ((name : Seq ℕ) → is_name_among names.new name ≡ (is_name_among names.old name || is_name_among (sample_names (family_key candidate.now)) name)) }
+    ensures { OnOk result (AreNamesOfBoth names.old (sample_names (family_key candidate.now)) names.new) }
 {
     let suffixes = suffixes(candidate.kind());
     for suffix in suffixes {

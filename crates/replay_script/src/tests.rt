@@ -59,7 +59,7 @@ fn what_wires_answer(rt: HostRuntime) {
 }
 
 #[test]
-fn refused_lines(rt: HostRuntime) {
+fn refused_records(rt: HostRuntime) {
     let alloc = rt.alloc();
     assert_eq!(rt; line(alloc, b""), Some(1));
     assert_eq!(rt;
@@ -83,6 +83,11 @@ fn refused_lines(rt: HostRuntime) {
         ),
         Some(7)
     );
+}
+
+#[test]
+fn refused_targets(rt: HostRuntime) {
+    let alloc = rt.alloc();
     assert_eq!(rt;
         line(
             alloc,

@@ -1,6 +1,6 @@
 -- What a turn says of a lane's share, what the work of a lane comes to, and which run tracks are of.
 -- The bridge's own.
-use Rattle.std.specs.Prelude.{◌≡◌, ℕ, ◌+◌, Bool, true, false, List, map}
+use Rattle.std.specs.Prelude.{◌≡◌, ℕ, ◌+◌, ◌<◌, Bool, true, false, List, map}
 use Rattle.series_table.specs.Counting.{as_count}
 use Rattle.series_table.specs.Records.{Kept}
 use Rattle.target_table.specs.Runs.{Run}
@@ -34,6 +34,10 @@ IsTurn before after Nothing = (after.held ≡ 0) × FoundNone before after
 abbrev pub IsWork : Bool → Seated → Seated → Type 0
 IsWork false before after = after ≡ before
 IsWork true before after = (after.held ≡ 0) × (after.idle ≡ as_count (before.idle + 1))
+
+-- a lane whose shares, all of which are somewhere, are so many, and with which no target is out
+abbrev pub IsFreeLane : ℕ → ℕ → ℕ → Type 0
+IsFreeLane all parts held = (all ≡ parts) × (0 < all) × (held ≡ 0)
 
 -- the run of the targets of these tracks, each visited so often
 abbrev pub run_of : ℕ → List Kept → Run

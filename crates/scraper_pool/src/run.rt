@@ -4,7 +4,7 @@ ghost use Rattle.series_table.specs.HttpTalks.{talking};
 ghost use Rattle.target_table.specs.declared.table.TableFault.TheVariants as faults;
 ghost use Rattle.target_table.specs.Runs.{IsRightRun};
 ghost use Rattle.target_table.specs.Tables.{next_place, AreTracks, AreUnvisited, IsRunOver};
-ghost use Rattle.scraper_pool.specs.Turns.{run_of};
+ghost use Rattle.scraper_pool.specs.Turns.{IsFreeLane, run_of};
 
 use crate::pool::Pool;
 use bridge_ports::Wire;
@@ -65,10 +65,10 @@ impl<
         shares: Shares<A, B, C, D>,
         scrapers: u32,
     ) -> Ended<W>
-        requires a { (A.all ≡ A.parts) × (0 < A.all) × (shares.a.held ≡ 0) }
-        requires b { (B.all ≡ B.parts) × (0 < B.all) × (shares.b.held ≡ 0) }
-        requires c { (C.all ≡ C.parts) × (0 < C.all) × (shares.c.held ≡ 0) }
-        requires d { (D.all ≡ D.parts) × (0 < D.all) × (shares.d.held ≡ 0) }
+        requires a { IsFreeLane A.all A.parts shares.a.held }
+        requires b { IsFreeLane B.all B.parts shares.b.held }
+        requires c { IsFreeLane C.all C.parts shares.c.held }
+        requires d { IsFreeLane D.all D.parts shares.d.held }
         ensures { IsRunOver talking N.run result.tracks.items }
     {
         let mut shares = self.work_all(rt, alloc, shares, scrapers);

@@ -1,7 +1,7 @@
 //! The workers: one for each lane, each in a thread of its own where one can be made.
-ghost use Rattle.std.specs.Prelude.{◌≡◌, ◌<◌, nat_lt};
+ghost use Rattle.std.specs.Prelude.{◌≡◌, nat_lt};
 ghost use Rattle.std.specs.Thread.{IsSync};
-ghost use Rattle.scraper_pool.specs.Turns.{IsWork, seated};
+ghost use Rattle.scraper_pool.specs.Turns.{IsFreeLane, IsWork, seated};
 
 use crate::pool::Pool;
 use crate::turn::Turn;
@@ -55,18 +55,18 @@ impl<
         d: Share<Fourth, D>,
         scrapers: u32,
     ) -> (Share<Third, C>, Share<Fourth, D>)
-        requires c { (C.all ≡ C.parts) × (0 < C.all) × (c.held ≡ 0) }
-        requires d { (D.all ≡ D.parts) × (0 < D.all) × (d.held ≡ 0) }
+        requires c { IsFreeLane C.all C.parts c.held }
+        requires d { IsFreeLane D.all D.parts d.held }
         ensures c { IsWork (nat_lt 2 scrapers) (seated c.held c.taken c.idle) (seated result.0.held result.0.taken result.0.idle) }
         ensures d { IsWork (nat_lt 3 scrapers) (seated d.held d.taken d.idle) (seated result.1.held result.1.taken result.1.idle) }
     {
         join(
             rt,
             || -> Share<Third, C>
-                requires { IsSync R.row × (C.all ≡ C.parts) × (0 < C.all) × (c.held ≡ 0) }
+                requires { IsSync R.row × IsFreeLane C.all C.parts c.held }
             { self.work(rt, alloc, c, 2 < scrapers) },
             || -> Share<Fourth, D>
-                requires { IsSync R.row × (D.all ≡ D.parts) × (0 < D.all) × (d.held ≡ 0) }
+                requires { IsSync R.row × IsFreeLane D.all D.parts d.held }
             { self.work(rt, alloc, d, 3 < scrapers) },
         )
     }
@@ -81,9 +81,9 @@ impl<
         d: Share<Fourth, D>,
         scrapers: u32,
     ) -> (Share<Second, B>, (Share<Third, C>, Share<Fourth, D>))
-        requires b { (B.all ≡ B.parts) × (0 < B.all) × (b.held ≡ 0) }
-        requires c { (C.all ≡ C.parts) × (0 < C.all) × (c.held ≡ 0) }
-        requires d { (D.all ≡ D.parts) × (0 < D.all) × (d.held ≡ 0) }
+        requires b { IsFreeLane B.all B.parts b.held }
+        requires c { IsFreeLane C.all C.parts c.held }
+        requires d { IsFreeLane D.all D.parts d.held }
         ensures b { IsWork (nat_lt 1 scrapers) (seated b.held b.taken b.idle) (seated result.0.held result.0.taken result.0.idle) }
         ensures c { IsWork (nat_lt 2 scrapers) (seated c.held c.taken c.idle) (seated result.1.0.held result.1.0.taken result.1.0.idle) }
         ensures d { IsWork (nat_lt 3 scrapers) (seated d.held d.taken d.idle) (seated result.1.1.held result.1.1.taken result.1.1.idle) }
@@ -91,10 +91,10 @@ impl<
         join(
             rt,
             || -> Share<Second, B>
-                requires { IsSync R.row × (B.all ≡ B.parts) × (0 < B.all) × (b.held ≡ 0) }
+                requires { IsSync R.row × IsFreeLane B.all B.parts b.held }
             { self.work(rt, alloc, b, 1 < scrapers) },
             || -> (Share<Third, C>, Share<Fourth, D>)
-                requires { IsSync R.row × (C.all ≡ C.parts) × (0 < C.all) × (c.held ≡ 0) × (D.all ≡ D.parts) × (0 < D.all) × (d.held ≡ 0) }
+                requires { IsSync R.row × IsFreeLane C.all C.parts c.held × IsFreeLane D.all D.parts d.held }
             { self.work_last(rt, alloc, c, d, scrapers) },
         )
     }
@@ -108,10 +108,10 @@ impl<
         shares: Shares<A, B, C, D>,
         scrapers: u32,
     ) -> Shares<A, B, C, D>
-        requires a { (A.all ≡ A.parts) × (0 < A.all) × (shares.a.held ≡ 0) }
-        requires b { (B.all ≡ B.parts) × (0 < B.all) × (shares.b.held ≡ 0) }
-        requires c { (C.all ≡ C.parts) × (0 < C.all) × (shares.c.held ≡ 0) }
-        requires d { (D.all ≡ D.parts) × (0 < D.all) × (shares.d.held ≡ 0) }
+        requires a { IsFreeLane A.all A.parts shares.a.held }
+        requires b { IsFreeLane B.all B.parts shares.b.held }
+        requires c { IsFreeLane C.all C.parts shares.c.held }
+        requires d { IsFreeLane D.all D.parts shares.d.held }
         ensures a { IsWork (nat_lt 0 scrapers) (seated shares.a.held shares.a.taken shares.a.idle) (seated result.a.held result.a.taken result.a.idle) }
         ensures b { IsWork (nat_lt 1 scrapers) (seated shares.b.held shares.b.taken shares.b.idle) (seated result.b.held result.b.taken result.b.idle) }
         ensures c { IsWork (nat_lt 2 scrapers) (seated shares.c.held shares.c.taken shares.c.idle) (seated result.c.held result.c.taken result.c.idle) }
@@ -122,10 +122,10 @@ impl<
         let (a, (b, (c, d))) = join(
             rt,
             || -> Share<First, A>
-                requires { IsSync R.row × (A.all ≡ A.parts) × (0 < A.all) × (a.held ≡ 0) }
+                requires { IsSync R.row × IsFreeLane A.all A.parts a.held }
             { self.work(rt, alloc, a, 0 < scrapers) },
             || -> (Share<Second, B>, (Share<Third, C>, Share<Fourth, D>))
-                requires { IsSync R.row × (B.all ≡ B.parts) × (0 < B.all) × (b.held ≡ 0) × (C.all ≡ C.parts) × (0 < C.all) × (c.held ≡ 0) × (D.all ≡ D.parts) × (0 < D.all) × (d.held ≡ 0) }
+                requires { IsSync R.row × IsFreeLane B.all B.parts b.held × IsFreeLane C.all C.parts c.held × IsFreeLane D.all D.parts d.held }
             { self.work_later(rt, alloc, b, c, d, scrapers) },
         );
         Shares { a, b, c, d }

@@ -13,7 +13,7 @@ use crate::point_counts::{PointCounts, of_tree};
 use bridge_ports::{Address, Wire};
 use http_talk::post_text;
 use label_sets::{Bytes, Memory};
-use otlp_json::{length, write};
+use otlp_json::write;
 use otlp_tree::Request;
 use page_model::{Event, Outcome, Shown, page_laws};
 use scrape_client::scrape;
@@ -102,7 +102,7 @@ fn take_event<W: Wire>(
 fn body_request(alloc: Global, to: &Address, tree: &Request) -> Result<Bytes, Memory>
     ensures { IfOk result (λ text. text ≡ post_request to.now (request_text tree.now)) }
 {
-    let mut body = Vec::with_capacity(alloc, length(tree) as usize)?;
+    let mut body = Vec::new(alloc);
     write(tree, &mut body)?;
     post_text(alloc, to, body.as_slice())
 }
