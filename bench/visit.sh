@@ -1,11 +1,11 @@
 #!/bin/sh
-# What a history and a visit of a target cost over `bridge convert text`. A page of 20,000 samples is converted by
-# the command; in a program, the third page of a target is read, made a tree and its JSON text, where in each page
-# one series in a hundred is gone and those of the page before are back; and a track is visited over wires in memory
-# that answer the page, take its body and keep nothing. All take turns, pinned to one processor, and the least time
-# of each counts. A ratio above 1.40 for the third page or 1.50 for the visit is an error, and so is a peak of memory
-# above 64 MiB over 10 or 200 visits, or one that grows between them. What converting the page costs inside of the
-# program, where nothing is started and no input is read, is printed beside.
+# What a history and a visit of a target cost over converting its page: of a page of 20,000 samples, a program takes in
+# turn converting it, the third page of a target, where in each page one series in a hundred is gone and those of the
+# page before are back, and a visit of a track over wires in memory that answer the page and take its body. It is
+# pinned to one processor, and the least time of each counts. A ratio above 1.40 for the third page or 1.50 for the
+# visit is an error, and so is a peak of memory above 64 MiB over 10 or 200 visits, or one that grows between them:
+# there the wires keep nothing. What the command `convert text` takes, with its start, input and output, and what a
+# visit over wires that keep nothing, is printed beside.
 # Needs rt, python3 and taskset. Run from anywhere: bench/visit.sh [TURNS]
 set -eu
 turns=${1:-15}
@@ -15,18 +15,22 @@ node_page 20000 >"$work/page"
 
 take_crates series_table text_grammar
 add_program time_visit "series_table text_grammar target_core start_times otlp_json otlp_tree bridge_ports page_model label_sets exact_decimal" <<'MAIN'
-//! Reads a page on standard input, and visits a target that answers it as often as the first word says. With a
-//! second word nothing is beside the visits. Prints for each visit the nanoseconds of converting
-//! the page, of the third page of a target and of the visit, and how many bodies were taken so far.
+//! Reads a page on standard input, and visits a target that answers it as often as the first word says, over wires in
+//! memory. With a second word the wires keep nothing, and nothing else is done between the visits. Prints for each
+//! visit the nanoseconds of converting the page, of the third page of a target and of the visit, and how many bodies
+//! were taken so far.
 #![tactic(auto)]
 
 ghost use Rattle.std.specs.Prelude.{◌≡◌, Some, IfOk, OnOk};
+ghost use Rattle.bridge_ports.specs.Plans.{seen_of};
 ghost use Rattle.start_times.specs.Scrapes.{moment_after};
 ghost use Rattle.target_core.specs.States.{HasNextMoment};
 ghost use Rattle.series_table.specs.Records.{IsFresh};
 
-use bridge_ports::{Address, Failed, Place, Settings, Stage, Target, Wire};
-use label_sets::{Bytes, Memory, Text};
+use bridge_ports::{
+    Address, End, Failed, MemoryReply, MemoryWire, Place, Settings, Stage, Target, Wire,
+};
+use label_sets::{Bytes, List, Memory, Text};
 use page_model::{Event, Outcome, PageFault, Treatment};
 use series_table::{Track, TrackFault};
 use std::alloc::{AllocError, Global};
@@ -140,8 +144,8 @@ impl Wire for Stub {
     }
 }
 
-/// A wire that answers this.
-fn wire(alloc: Global, post: bool, reply: &[u8]) -> Result<Stub, AllocError>
+/// A wire that answers this and keeps nothing.
+fn stub_wire(alloc: Global, post: bool, reply: &[u8]) -> Result<Stub, AllocError>
     ensures { IfOk result (λ wire. IsFresh wire) }
 {
     Ok(Stub {
@@ -153,6 +157,27 @@ fn wire(alloc: Global, post: bool, reply: &[u8]) -> Result<Stub, AllocError>
         reply: Bytes::from_slice(alloc, reply)?,
         read: 0,
     })
+}
+
+/// A wire in memory that answers this in each talk.
+fn memory_wire(alloc: Global, post: bool, reply: &[u8]) -> Result<MemoryWire, AllocError>
+    ensures { IfOk result (λ wire. IsFresh (seen_of wire)) }
+{
+    let place = Place { number: 1, post };
+    let after = MemoryReply {
+        at: 0,
+        got: Bytes::from_slice(alloc, reply)?,
+        end: End::Ended,
+    };
+    let (replies, failing) = (List::new(alloc), List::new(alloc));
+    Ok(MemoryWire::new(
+        alloc,
+        place,
+        replies,
+        Some(after),
+        65_536,
+        failing,
+    ))
 }
 
 /// The scrape of a page.
@@ -236,9 +261,9 @@ fn histories(rt: &HostRuntime, page: &[u8]) -> io::Result<(u128, u128)> {
     Ok((converting, start.elapsed(rt)?.as_nanos()))
 }
 
-fn timed(
+fn timed<W: Wire>(
     rt: &HostRuntime,
-    track: &mut Track<Stub>,
+    track: &mut Track<W>,
     page: &[u8],
     count: u32,
     alone: bool,
@@ -256,11 +281,18 @@ fn timed(
     Ok(())
 }
 
-fn visits(rt: &HostRuntime, bytes: &[u8], count: u32, alone: bool) -> io::Result<()> {
+fn visits<W: Wire + Drop>(
+    rt: &HostRuntime,
+    scrape: W,
+    post: W,
+    page: &[u8],
+    count: u32,
+    alone: bool,
+) -> io::Result<()>
+    requires scrape { IsFresh (W.state scrape) }
+    requires post { IsFresh (W.state post) }
+{
     let alloc = rt.alloc();
-    let mut reply = Vec::from_slice(alloc, b"HTTP/1.1 200 OK\r\n\r\n")?;
-    reply.extend_from_slice(bytes)?;
-    let (scrape, post) = (wire(alloc, false, reply.as_slice())?, wire(alloc, true, TAKEN)?);
     let (target, to) = (target(alloc)?, collector(alloc)?);
     let mut track = match Track::new(alloc, target, to, SETTINGS, scrape, post) {
         Ok(track) => track,
@@ -268,9 +300,23 @@ fn visits(rt: &HostRuntime, bytes: &[u8], count: u32, alone: bool) -> io::Result
             return Err(io::Error::from(io::ErrorKind::OutOfMemory));
         }
     };
-    let ended = timed(rt, &mut track, bytes, count, alone);
+    let ended = timed(rt, &mut track, page, count, alone);
     let (_scrape, _post) = track.into_wires();
     ended
+}
+
+fn run(rt: &HostRuntime, page: &[u8], count: u32, alone: bool) -> io::Result<()> {
+    let alloc = rt.alloc();
+    let mut reply = Vec::from_slice(alloc, TAKEN)?;
+    reply.extend_from_slice(page)?;
+    let reply = reply.as_slice();
+    if alone {
+        let (scrape, post) = (stub_wire(alloc, false, reply)?, stub_wire(alloc, true, TAKEN)?);
+        visits(rt, scrape, post, page, count, alone)
+    } else {
+        let (scrape, post) = (memory_wire(alloc, false, reply)?, memory_wire(alloc, true, TAKEN)?);
+        visits(rt, scrape, post, page, count, alone)
+    }
 }
 
 fn main(rt: HostRuntime) -> io::Result<()> {
@@ -284,7 +330,7 @@ fn main(rt: HostRuntime) -> io::Result<()> {
         .and_then(|word| word.parse::<u32>().ok())
         .unwrap_or(3);
     let alone = words.next().is_some();
-    visits(&rt, page.as_slice(), count, alone)
+    run(&rt, page.as_slice(), count, alone)
 }
 MAIN
 build_program time_visit 1
@@ -297,24 +343,31 @@ sys.path.insert(0, here)
 from timing import built_program, peak_bytes, seconds
 
 convert = [built_program(), "convert", "text", "j", "h:1", "1000"]
-commands, rows = [], []
-for _ in range(int(turns)):
-    commands.append(seconds(convert, page))
+
+
+def nanoseconds(words):
     with open(page, "rb") as source:
-        told = subprocess.run([visiting, "3"], stdin=source, capture_output=True, text=True, check=True).stdout
+        told = subprocess.run([visiting, *words], stdin=source, capture_output=True, text=True, check=True).stdout
     turn = [[int(word) for word in line.split()] for line in told.splitlines()]
     if [row[3] for row in turn] != [1, 2, 3]:
         sys.exit(f"a body was not taken: {told}")
-    rows.append(turn)
-command = min(commands) * 1e3
+    return turn
+
+
+commands, rows, stubs = [], [], []
+for _ in range(int(turns)):
+    commands.append(seconds(convert, page))
+    rows.append(nanoseconds(["3"]))
+    stubs.append(nanoseconds(["3", "alone"]))
 inside = min(row[0] for turn in rows for row in turn) / 1e6
 third = min(row[1] for turn in rows for row in turn) / 1e6
 visit = min(row[2] for turn in rows for row in turn[1:]) / 1e6
-print(f"convert: {command:.1f} ms; inside of a program {inside:.1f} ms")
-print(f"the third page: {third:.1f} ms, ratio {third / command:.2f}, at most 1.40; inside {third / inside:.2f}")
-print(f"a visit: {visit:.1f} ms, ratio {visit / command:.2f}, at most 1.50; inside {visit / inside:.2f}")
+stub = min(row[2] for turn in stubs for row in turn[1:]) / 1e6
+print(f"converting: {inside:.1f} ms; by the command {min(commands) * 1e3:.1f} ms")
+print(f"the third page: {third:.1f} ms, ratio {third / inside:.2f}, at most 1.40")
+print(f"a visit: {visit:.1f} ms, ratio {visit / inside:.2f}, at most 1.50; over wires that keep nothing {stub / inside:.2f}")
 peaks = {count: peak_bytes([visiting, str(count), "alone"], page) / 2**20 for count in (10, 200)}
 print("; ".join(f"peak memory of {count} visits: {peak:.0f} MiB" for count, peak in peaks.items()))
-late = third > 1.4 * command or visit > 1.5 * command
+late = third > 1.4 * inside or visit > 1.5 * inside
 sys.exit(late or max(peaks.values()) > 64 or peaks[200] > 1.1 * peaks[10])
 COMPARE

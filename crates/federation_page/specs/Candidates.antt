@@ -98,8 +98,8 @@ abbrev pub staying_readings : Family → List Reading
 staying_readings f = filter (stays f.kind) f.readings
 
 -- the first of these
-abbrev pub IsFirstOf : List Reading → Reading → Type 0
-IsFirstOf readings first = (rest : List Reading) × (readings ≡ first ∷ rest)
+abbrev pub IsFirstReading : List Reading → Reading → Type 0
+IsFirstReading readings first = (rest : List Reading) × (readings ≡ first ∷ rest)
 
 -- the target has both of its names
 pub record HasNames (s : Shown) : Type 0 where

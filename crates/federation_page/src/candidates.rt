@@ -10,7 +10,7 @@ ghost use Rattle.open_writing.specs.FamilyKeys.{family_key, is_one_family};
 ghost use Rattle.federation_page.specs.Candidates.{
   AreFreeLabels,
   HasNames,
-  IsFirstOf,
+  IsFirstReading,
   candidate_of,
   is_left_out,
   named_candidate,
@@ -171,7 +171,7 @@ fn reading_under(
 
 /// The first reading of a family that stays.
 fn first_that_stays(family: &Family) -> Option<&Reading>
-    ensures { MatchOption result (staying_readings family.now ≡ []) (λ first. IsFirstOf (staying_readings family.now) first.now) }
+    ensures { MatchOption result (staying_readings family.now ≡ []) (λ first. IsFirstReading (staying_readings family.now) first.now) }
 {
     let readings = family.readings.as_slice();
     for reading in readings {
