@@ -1,0 +1,6 @@
+mod ConnSteps
+mod RequestFronts
+mod RequestTrees
+mod ServeSteps
+mod ServingCases
+mod StatusLaws

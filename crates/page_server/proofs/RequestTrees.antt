@@ -1,0 +1,119 @@
+-- Requests that are given as trees: what is to be tested of one, and what is then known of the bytes.
+use Rattle.std.proofs.Common.{◌≡◌, ℕ, Bool, true, false, List, [], ◌∷◌, ◌++◌, length, Some, refl, sym, ap, arith, inl}
+use Rattle.std.specs.Prelude.{◌&&◌, nat_le, nat_lt, All}
+use Rattle.std.specs.List.{list_all}
+use Rattle.std.specs.Str.{is_utf8}
+use Rattle.std.proofs.lemmas.Str.{IsUtf8-from_is_utf8}
+use Rattle.std.proofs.lemmas.List.Sums.{AllPass-from_list_all}
+use Rattle.std.proofs.lemmas.Bool.{leb-true, ltb-true}
+use Rattle.httparse.specs.Grammar.{RequestHead, IsRequestHead, print_request, print_blank, HasNoRequest, Field, IsField, is_token, is_token_byte, is_uri_byte, is_value_byte, LineEnd}
+use Rattle.httparse.specs.Spans.{RequestOverflows}
+use Rattle.httparse.specs.Pieces.{Begins, Then, Never, Stops, is_newline, Word, Method, Target, Version, Newline, RequestStart, SectionOfAtMost}
+use Rattle.httparse.proofs.GrammarLemmas.{request_prefix_free}
+use Rattle.httparse.proofs.HeadLemmas.{request_overflows}
+use Rattle.httparse.proofs.PieceLemmas.{Never_intro, Refutes_first, Refutes_next, Blank_deterministic}
+use Rattle.httparse.proofs.RunLemmas.{run_unique}
+use Rattle.page_server.specs.declared.status.ReplyStatus.{ReplyStatus}
+use Rattle.page_server.specs.declared.status.ReplyStatus.TheVariants as statuses
+use Rattle.page_server.specs.RequestHeads.{waiting, refused, asked, RequestIs}
+use Rattle.page_server.specs.Serving.{status_of_request, HasStatus}
+use Rattle.page_server.proofs.RequestFronts.{refused_by_error}
+
+-- ---- tests of a tree
+
+and_left : (a b : Bool) → (a && b) ≡ true → a ≡ true
+and_left true b e = refl
+and_left false b e = e
+
+and_right : (a b : Bool) → (a && b) ≡ true → b ≡ true
+and_right true b e = e
+and_right false b e = absurd (cc e)
+
+-- a field that may stand in a head
+abbrev pub may_stand : Field → Bool
+may_stand f = is_token f.name && list_all is_value_byte f.raw
+
+-- a head that the grammar has
+abbrev pub is_request : RequestHead → Bool
+is_request h =
+    is_token h.method
+    && (nat_lt 0 (length h.target)
+    && (list_all is_uri_byte h.target
+    && (is_utf8 h.target
+    && (nat_le h.minor 1
+    && list_all may_stand h.fields))))
+
+all_fields : (fs : List Field) → list_all may_stand fs ≡ true → All IsField fs
+all_fields fs e = λ k d short.
+    let here = AllPass-from_list_all may_stand fs e k d short in
+    record {
+      name = (leb-true 1 _ (and_left _ _ (and_left _ _ here)), AllPass-from_list_all is_token_byte _ (and_right _ _ (and_left _ _ here)));
+      raw = AllPass-from_list_all is_value_byte _ (and_right _ _ here);
+    }
+
+pub is_request_so : (h : RequestHead) → is_request h ≡ true → IsRequestHead h
+is_request_so h e =
+    let method = and_left (is_token h.method) _ e in
+    let a = and_right (is_token h.method) _ e in
+    let some = and_left (nat_lt 0 (length h.target)) _ a in
+    let b = and_right (nat_lt 0 (length h.target)) _ a in
+    let uri = and_left (list_all is_uri_byte h.target) _ b in
+    let c = and_right (list_all is_uri_byte h.target) _ b in
+    let text = and_left (is_utf8 h.target) _ c in
+    let d = and_right (is_utf8 h.target) _ c in
+    record {
+      method = (leb-true 1 _ (and_left _ _ method), AllPass-from_list_all is_token_byte _ (and_right _ _ method));
+      target = (ltb-true 0 _ some, AllPass-from_list_all is_uri_byte _ uri);
+      target_text = IsUtf8-from_is_utf8 _ text;
+      minor = leb-true _ _ (and_left (nat_le h.minor 1) _ d);
+      fields = all_fields h.fields (and_right (nat_le h.minor 1) _ d);
+    }
+
+-- ---- heads that are there, or under way
+
+-- bytes that are this head and what follows it
+pub by_request : (got : List ℕ) (h : RequestHead) (rest : List ℕ) (status : ReplyStatus)
+    → is_request h ≡ true → got ≡ print_request h ++ rest → nat_le (length (print_request h)) 16384 ≡ true → nat_le (length h.fields) 64 ≡ true
+    → status_of_request h.method h.target ≡ status → HasStatus got false status
+by_request got h rest status right bytes short few is = record {
+  head = asked h rest;
+  head_is = ((is_request_so h right, bytes), leb-true _ _ short, leb-true _ _ few);
+  status_is = ap Some is;
+}
+
+no_cons : (rest : List ℕ) (b : ℕ) (more : List ℕ) → rest ++ b ∷ more ≡ [] → ⊥
+no_cons [] b more e = cc e
+no_cons (c ∷ rest) b more e = cc e
+
+-- no head is there where one byte more, and others, make the bytes one
+none_yet : (got : List ℕ) (b : ℕ) (more : List ℕ) (h : RequestHead) → is_request h ≡ true
+    → got ++ b ∷ more ≡ print_request h ++ [] → HasNoRequest got
+none_yet got b more h right bytes = λ k rest reads.
+    let same = request_prefix_free got (b ∷ more) k h rest [] reads (is_request_so h right, bytes) in
+    absurd (no_cons rest b more same.1)
+
+-- bytes that this head begins with decide nothing
+pub by_begun : (got : List ℕ) (b : ℕ) (more : List ℕ) (h : RequestHead)
+    → is_request h ≡ true → got ++ b ∷ more ≡ print_request h ++ [] → nat_lt (length got) 16384 ≡ true → RequestIs got waiting
+by_begun got b more h right bytes short =
+    (ltb-true _ _ short, none_yet got b more h right bytes, inl (b ∷ more, h, (is_request_so h right, bytes)))
+
+-- ---- bytes of which no head begins
+
+-- a byte that no word begins with
+pub never_begun : (test : ℕ → Bool) (stop : ℕ) → test stop ≡ false → (c : ℕ) (tail : List ℕ) → test c ≡ false → Never (Begins (Word test stop)) (c ∷ tail)
+never_begun test stop stops c tail fails = Never_intro λ more h.
+    let same = run_unique test [] h.0 (c ∷ (tail ++ more)) (stop ∷ h.1) (AllPass-from_list_all test [] refl) h.2.1 fails stops h.2.2 in
+    omega (arith, h.2.0, ap (length {A = ℕ}) (sym same.0))
+
+-- empty lines and then no method
+pub over_method : (got : List ℕ) (blank : List LineEnd) (text : List ℕ) → got ≡ print_blank blank ++ text → Stops is_newline text → Never (Begins Method) text
+    → RequestOverflows 64 got
+over_method got blank text is stops none =
+    request_overflows 64 (Refutes_first RequestStart (SectionOfAtMost 64)
+    (Refutes_next (Then Method (Then Target (Then Version Newline))) Blank_deterministic {a = blank} (is, stops)
+    (Refutes_first Method (Then Target (Then Version Newline)) none)))
+
+-- bytes behind which no head that is taken can come
+pub by_over : (got : List ℕ) → RequestOverflows 64 got → HasStatus got false statuses.BadRequest
+by_over got over = record { head = refused; head_is = refused_by_error got over; status_is = refl }

@@ -1,0 +1,4 @@
+pub mod Connections
+pub mod RequestHeads
+pub mod Serving
+pub mod ServingLaws

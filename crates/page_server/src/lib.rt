@@ -1,0 +1,17 @@
+//! One connection that asks for a page: the head of its request, read within its limits, and the reply.
+#![tactic(auto)]
+
+mod conn;
+mod reply;
+mod request;
+mod served;
+pub mod serving_laws;
+mod shown_page;
+mod status;
+#[cfg(test)]
+mod tests;
+
+pub use conn::Conn;
+pub use served::serve_one;
+pub use shown_page::ShownPage;
+pub use status::{ReplyStatus, ServeFault};
