@@ -11,3 +11,5 @@ mod Beginning
 mod Ending
 mod Cases
 mod OneOutcome
+mod Showable
+mod Paged

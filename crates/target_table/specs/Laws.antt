@@ -1,11 +1,12 @@
 -- Laws of the table of targets. Each is proved, and a call of the crate stands for it.
 -- The bridge's own.
-use Rattle.std.specs.Prelude.{◌≡◌, ℕ, ◌≤◌, List, [], ◌∷◌, Some, None}
+use Rattle.std.specs.Prelude.{◌≡◌, ℕ, ◌≤◌, List, [], ◌∷◌, ◌++◌, Some, None}
 use Rattle.std.specs.List.{slice_get}
 use Rattle.target_core.specs.Events.{latest_shown}
 use Rattle.series_table.specs.Talking.{Talking, Followed}
 use Rattle.target_table.specs.Runs.{Run}
-use Rattle.target_table.specs.Machine.{OneTarget, TableStep, TableRun, visits_of, state_after, own_steps, alone}
+use Rattle.target_table.specs.Machine.{OneTarget, TableStep, TableRun, visits_of, state_after, pages_seen, own_steps, alone}
+use Rattle.target_table.specs.Paging.{NonePutsBack}
 use Rattle.series_table.specs.Records.{BodiesOf, further_talks}
 
 -- what a target of a run has is what it has in a run of its own: the same talks, posts, events and shown pages, by its own steps
@@ -36,3 +37,13 @@ abbrev pub SameOwnSteps : Talking → Type 0
 SameOwnSteps w = (run other : Run) (steps others : List TableStep) (place at : ℕ) (f : Followed) → TableRun w run steps → TableRun w other others
     → slice_get run.targets place ≡ Some f → slice_get other.targets at ≡ Some f → own_steps place steps ≡ own_steps at others
     → slice_get (state_after run steps) place ≡ slice_get (state_after other others) at
+
+-- what a page shows of a target is what the page of a run of its own shows
+abbrev pub PagesAreOwn : Talking → Type 0
+PagesAreOwn w = (run : Run) (steps : List TableStep) (place : ℕ) (f : Followed) → TableRun w run steps → slice_get run.targets place ≡ Some f
+    → slice_get (pages_seen (state_after run steps)) place ≡ slice_get (pages_seen (state_after (alone f run.rounds) (own_steps place steps))) 0
+
+-- what a page shows of a target stays as it was, also while the target is out, until it is put back
+abbrev pub SeenUntilPut : Type 0
+SeenUntilPut = (run : Run) (later earlier : List TableStep) (place : ℕ) → NonePutsBack place later
+    → slice_get (pages_seen (state_after run (later ++ earlier))) place ≡ slice_get (pages_seen (state_after run earlier)) place

@@ -4,6 +4,7 @@
 mod books;
 mod lane;
 mod lease;
+mod page;
 mod slots;
 mod table;
 pub mod table_laws;
@@ -12,5 +13,6 @@ mod turn;
 pub use books::{Books, Seat};
 pub use lane::{Blanks, First, Fourth, Lane, Second, Share, Shares, Third};
 pub use lease::{Lease, RunName};
+pub use page::write_page;
 pub use series_table::{Counts, Track, Visited};
 pub use table::{Table, TableFault};

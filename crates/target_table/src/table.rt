@@ -1,16 +1,19 @@
 //! The table of all targets of a run: what a lock keeps.
-ghost use Rattle.std.specs.Prelude.{◌≡◌, ◌∷◌, [], ◌+◌, ◌≤◌, length, map, Some, None, IfOk, IfErr, IfSome, IfNone};
+ghost use Rattle.std.specs.Prelude.{◌≡◌, ◌∷◌, [], ◌+◌, ◌++◌, ◌≤◌, length, map, Some, None, IfOk, IfErr, IfSome, IfNone, OnOk, OnErr};
 ghost use Rattle.std.specs.Vec.{vec_capacity};
+ghost use Rattle.federation_page.specs.Gathering.{AreShowable};
 ghost use Rattle.series_table.specs.Counting.{as_count};
 ghost use Rattle.series_table.specs.HttpTalks.{talking};
 ghost use Rattle.series_table.specs.Records.{Kept};
 ghost use Rattle.target_table.specs.declared.table.TableFault.TheVariants as faults;
 ghost use Rattle.target_table.specs.Runs.{IsRightRun};
-ghost use Rattle.target_table.specs.Tables.{next_place, targets_out, TakesTarget, MayBePut, PutsTarget, AreTracks, AreUnvisited, IsRunOver};
+ghost use Rattle.target_table.specs.Paging.{federated_text};
+ghost use Rattle.target_table.specs.Tables.{next_place, targets_out, TakesTarget, MayBePut, PutsTarget, IsTable, AreTracks, AreUnvisited, IsRunOver};
 
 use crate::books::{Books, Seat};
 use crate::lane::{Blanks, Lane, Shares};
 use crate::lease::{Lease, RunName};
+use crate::page::{copies_of, write_page};
 use crate::slots::{clear, count_empty, fill, pages_of, put_in, put_seen, take_out};
 use crate::turn::whose_turn;
 use bridge_ports::Wire;
@@ -161,6 +164,27 @@ impl<N: RunName, A: Lane, B: Lane, C: Lane, D: Lane, W: Wire> Table<N, A, B, C, 
         let second = track.take_second();
         put_in(&mut self.slots, place, track);
         put_seen(&mut self.seen, place, second);
+    }
+
+    /// What readers see of each target, in order. It may be gathered.
+    pub fn shown(&self, alloc: Global) -> Result<Vec<Shown>, Memory>
+        ensures shown { IfOk result (λ shown. shown.items ≡ self.now.seen) }
+        ensures table { IsTable talking N.run self.now }
+        ensures showable { AreShowable self.now.seen }
+    {
+        copies_of(alloc, self.seen.as_slice())
+    }
+
+    /// Puts the text of the federation page of what readers see behind what `out` holds, targets in order. Of a target
+    /// that is out they see what they saw when it was taken. Where there is no memory, `out` holds what it held.
+    ///
+    /// What they see may be gathered, so the text reads back as its page (`federation_page::gathered_pages`).
+    pub fn page(&self, out: &mut Vec<u8>) -> Result<(), Memory>
+        ensures ok { OnOk result (out.new.items ≡ out.old.items ++ federated_text self.now.seen) }
+        ensures err { OnErr result (out.new.items ≡ out.old.items) }
+        ensures showable { AreShowable self.now.seen }
+    {
+        write_page(self.seen.as_slice(), out)
     }
 
     /// How many targets are out.
