@@ -1,6 +1,6 @@
 -- What the code keeps of the families of the page so far.
 -- The bridge's own.
-use Rattle.std.specs.Prelude.{◌≡◌, ℕ, Bool, List, map}
+use Rattle.std.specs.Prelude.{◌≡◌, ℕ, Bool, ◌||◌, List, map}
 use Rattle.std.specs.List.{list_any, flat_map}
 use Rattle.std.specs.Str.{bytes_eq}
 use Rattle.page_model.specs.declared.page.Family.{Family}
