@@ -19,7 +19,7 @@ StatusStays = (got more : List ℕ) (ended : Bool) (status : ReplyStatus) → Ha
 abbrev pub StatusOfAll : Type 0
 StatusOfAll = (taken rest : List ℕ) (ended : Bool) (status : ReplyStatus) → HasStatus taken ended status → (ended ≡ true → rest ≡ []) → HasStatus (taken ++ rest) true status
 
--- while a head is waited for, no other one is there, and there are fewer bytes than it may have
+-- while a head is waited for, there are fewer bytes than one may have, and their end makes a bad request
 abbrev pub WaitsShortly : Type 0
 WaitsShortly = (got : List ℕ) → RequestIs got waiting → (length got < head_limit) × HasStatus got true statuses.BadRequest
 
