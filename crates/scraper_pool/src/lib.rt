@@ -4,6 +4,8 @@
 mod pool;
 pub mod pool_laws;
 mod run;
+#[cfg(test)]
+mod tests;
 mod turn;
 mod workers;
 
