@@ -30,5 +30,5 @@ fn main(rt: HostRuntime) -> ExitCode {
     };
     let mut input = StdSource::new(rt.stdin());
     let mut output = StdSink::new(rt.stdout());
-    ExitCode::from(bridge(rt.alloc(), words.as_slice(), &mut input, &mut output))
+    ExitCode::from(bridge(&rt, rt.alloc(), words.as_slice(), &mut input, &mut output))
 }

@@ -6,7 +6,6 @@ mod PageAnswerLaws
 mod ScriptAnswerLaws
 mod ReplayLaws
 mod VisitLaws
-mod TurnLaws
 mod ScriptLaws
 mod CommandLaws
 mod AnswerLaws

@@ -18,6 +18,7 @@ use Rattle.series_table.specs.HttpTalks.{talking}
 use Rattle.series_table.specs.Talking.{Followed, AreInRange}
 use Rattle.series_table.specs.Records.{Kept, IsTrack, PostsWhatItsTalksTell}
 use Rattle.target_table.specs.Runs.{Run, IsRightRun, is_same_target}
+use Rattle.scraper_pool.specs.Turns.{run_of}
 use Rattle.target_table.specs.Tables.{HasAllVisits, IsTrackAt, AreTracks, AreUnvisited, IsRunOver}
 use Rattle.bridge_cli.specs.Replays.{IsReplayOfSome}
 use Rattle.bridge_cli.proofs.ReplayLaws.{grown_none}
@@ -112,8 +113,8 @@ followed_of place [] (k ∷ ks) are = absurd are
 followed_of place (f ∷ fs) [] are = absurd are
 
 -- the run of these tracks is that of the script
-pub run_of : (s : Script) (ks : List Kept) (rounds : ℕ) → AreTracks talking 0 (script_targets s.header s.targets) ks → rounds ≡ s.header.rounds → script_run s ≡ record { targets = map (λ (k : Kept). k.followed) ks; rounds = rounds }
-run_of s ks rounds are same =
+pub same_run : (s : Script) (ks : List Kept) (rounds : ℕ) → AreTracks talking 0 (script_targets s.header s.targets) ks → rounds ≡ s.header.rounds → script_run s ≡ run_of rounds ks
+same_run s ks rounds are same =
     let RunWith : List Followed → ℕ → Run = λ fs n. record { targets = fs; rounds = n } in
     ap (λ fs. RunWith fs s.header.rounds) (sym (followed_of 0 (script_targets s.header s.targets) ks are)) ∙ ap (RunWith (map (λ (k : Kept). k.followed) ks)) (sym same)
 

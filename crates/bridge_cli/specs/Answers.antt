@@ -31,13 +31,13 @@ pub data IsScriptAnswer (Prints : Script → List ℕ → Type 0) (bytes : List 
   script_refused : (line : ℕ) → length bytes ≤ most_script → HasScriptFault bytes line → IsScriptAnswer Prints bytes (code_of ScriptRefused) (script_text line)
   script_too_long : most_script < length bytes → IsScriptAnswer Prints bytes (code_of TooLong) too_long_text
 
--- what a command answers to the bytes on the input
+-- what a command answers to the bytes on the input; of `replay` it is the same for every number of scrapers
 abbrev pub Answers : Command → List ℕ → ℕ → List ℕ → Type 0
 Answers Help bytes = IsFixedAnswer help_text
 Answers Version bytes = IsFixedAnswer version_text
 Answers (Check format) bytes = IsPageAnswer (page_setting format) checked_text bytes
 Answers (Convert format target nanos) bytes = IsPageAnswer (page_setting format) (converted_text target nanos) bytes
-Answers Replay bytes = IsScriptAnswer IsReplay bytes
+Answers (Replay scrapers) bytes = IsScriptAnswer IsReplay bytes
 
 -- what the program answers: the words fit no form, or a command answers
 pub data IsAnswer (words : List (List ℕ)) (bytes : List ℕ) : ℕ → List ℕ → Type 0 where
@@ -46,7 +46,7 @@ pub data IsAnswer (words : List (List ℕ)) (bytes : List ℕ) : ℕ → List �
 
 -- what a command that prints in pieces has printed where it is cut off: a text of some of the events
 abbrev pub CutAnswers : Command → List ℕ → List ℕ → Type 0
-CutAnswers Replay bytes text = (script : Script) × IsScriptInput script bytes × IsReplayOfSome script text
+CutAnswers (Replay scrapers) bytes text = (script : Script) × IsScriptInput script bytes × IsReplayOfSome script text
 CutAnswers _ bytes text = ⊥
 
 -- a text of which a front may be written: that of an answer, or of a command that is cut off

@@ -1,12 +1,12 @@
 -- The words of the command line. The bridge's own.
-use Rattle.std.specs.Prelude.{◌≡◌, ℕ, ◌≤◌, Bool, true, false, List, [], ◌∷◌, length, codes, ⊤}
+use Rattle.std.specs.Prelude.{◌≡◌, ℕ, ◌≤◌, Bool, true, false, List, [], ◌∷◌, length, codes, Option, Some, None, ⊤}
 use Rattle.std.specs.Fmt.{decimal}
 use Rattle.bridge_ports.specs.Targets.{Scraped}
 use Rattle.plain_words.specs.Places.{IsHostAndPort}
 use Rattle.replay_script.specs.ScriptParts.{format_word}
 use Rattle.bridge_cli.specs.declared.words.Command.{Command}
 use Rattle.bridge_cli.specs.declared.words.Command.TheVariants.{Help, Version, Check, Convert, Replay}
-use Rattle.bridge_cli.specs.Limits.{most_page, most_script, most_nanos, most_job, most_host}
+use Rattle.bridge_cli.specs.Limits.{most_page, most_script, most_nanos, most_job, most_host, most_scrapers}
 
 -- what is scraped of a host and a port: its metrics, whose times do not count
 unfoldable pub place_target : List ℕ → List ℕ → List ℕ → ℕ → Scraped
@@ -20,6 +20,21 @@ pub record IsTarget (t : Scraped) : Type 0 where
   pub path : t.address.path ≡ codes "/metrics"
   pub honor : t.honor ≡ false
 
+-- the word of a number that may be left out
+abbrev pub word_if : Option ℕ → List (List ℕ)
+word_if None = []
+word_if (Some n) = decimal n ∷ []
+
+-- 1 to 4 scrapers, where their number is said
+abbrev pub AreScrapers : Option ℕ → Type 0
+AreScrapers None = ⊤
+AreScrapers (Some n) = (1 ≤ n) × (n ≤ most_scrapers)
+
+-- how many scrapers there are: 1 where their number isn't said
+abbrev pub scrapers_asked : Option ℕ → ℕ
+scrapers_asked None = 1
+scrapers_asked (Some n) = n
+
 -- ---- the tables of the commands
 
 -- the words that ask for a command; numbers are decimal digits without a sign or a leading zero
@@ -28,7 +43,7 @@ words_of Help = codes "--help" ∷ []
 words_of Version = codes "--version" ∷ []
 words_of (Check format) = codes "check" ∷ format_word format ∷ []
 words_of (Convert format target nanos) = codes "convert" ∷ format_word format ∷ target.job ∷ target.instance ∷ decimal nanos ∷ []
-words_of Replay = codes "replay" ∷ []
+words_of (Replay scrapers) = codes "replay" ∷ word_if scrapers
 
 -- the ranges of a command's arguments
 abbrev pub IsInLimits : Command → Type 0
@@ -36,7 +51,7 @@ IsInLimits Help = ⊤
 IsInLimits Version = ⊤
 IsInLimits (Check format) = ⊤
 IsInLimits (Convert format target nanos) = IsTarget target × (nanos ≤ most_nanos)
-IsInLimits Replay = ⊤
+IsInLimits (Replay scrapers) = AreScrapers scrapers
 
 -- the command reads the input
 abbrev pub reads_input : Command → Bool
@@ -44,7 +59,7 @@ reads_input Help = false
 reads_input Version = false
 reads_input (Check format) = true
 reads_input (Convert format target nanos) = true
-reads_input Replay = true
+reads_input (Replay scrapers) = true
 
 -- the most bytes of the input that the command reads
 abbrev pub most_input : Command → ℕ
@@ -52,7 +67,7 @@ most_input Help = 0
 most_input Version = 0
 most_input (Check format) = most_page
 most_input (Convert format target nanos) = most_page
-most_input Replay = most_script
+most_input (Replay scrapers) = most_script
 
 -- the command prints its text in pieces, as they are made
 abbrev pub prints_pieces : Command → Bool
@@ -60,7 +75,7 @@ prints_pieces Help = false
 prints_pieces Version = false
 prints_pieces (Check format) = false
 prints_pieces (Convert format target nanos) = false
-prints_pieces Replay = true
+prints_pieces (Replay scrapers) = true
 
 -- the command takes memory
 abbrev pub takes_memory : Command → Bool
@@ -68,7 +83,7 @@ takes_memory Help = false
 takes_memory Version = false
 takes_memory (Check format) = true
 takes_memory (Convert format target nanos) = true
-takes_memory Replay = true
+takes_memory (Replay scrapers) = true
 
 -- ---- what words ask for
 

@@ -10,7 +10,6 @@ pub mod CheckTexts
 pub mod ConvertTexts
 pub mod Replays
 pub mod Rounds
-pub mod Turns
 pub mod Answers
 pub mod ProgramOutputs
 pub mod StopAnswers

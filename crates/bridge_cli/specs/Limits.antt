@@ -13,6 +13,10 @@ most_script = 2 ^ 28
 abbrev pub most_block : ℕ
 most_block = 2 ^ 16
 
+-- the most scrapers that visit the targets of a script at once
+abbrev pub most_scrapers : ℕ
+most_scrapers = 4
+
 -- the most samples of a page
 abbrev pub most_samples : ℕ
 most_samples = 200000

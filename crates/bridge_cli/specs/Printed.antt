@@ -31,27 +31,27 @@ use Rattle.bridge_cli.specs.ProgramOutputs.{WroteFront, HasAnswer, HasCutAnswer}
 -- this is the text that is to be printed
 abbrev pub Gives : Printed → List ℕ → Type 0
 Gives (Whole t) text = text ≡ cow_slice_items t
-Gives (Bodies script) text = IsReplay script text
+Gives (Bodies script scrapers) text = IsReplay script text
 
 -- this is a text of which a front may be printed
 abbrev pub GivesPart : Printed → List ℕ → Type 0
 GivesPart (Whole t) text = text ≡ cow_slice_items t
-GivesPart (Bodies script) text = IsReplayOfSome script text
+GivesPart (Bodies script scrapers) text = IsReplayOfSome script text
 
 -- nothing is to be printed
 abbrev pub IsNothing : Printed → Type 0
 IsNothing (Whole t) = cow_slice_items t ≡ []
-IsNothing (Bodies script) = ⊥
+IsNothing (Bodies script scrapers) = ⊥
 
 -- what is printed in pieces is a right script, and the command is done
 abbrev pub IsPrintable : Status → Printed → Type 0
 IsPrintable status (Whole t) = ⊤
-IsPrintable status (Bodies script) = IsRightScript script × (status ≡ Done)
+IsPrintable status (Bodies script scrapers) = IsRightScript script × (status ≡ Done)
 
 -- what is printed isn't made in pieces
 abbrev pub IsWhole : Printed → Type 0
 IsWhole (Whole t) = ⊤
-IsWhole (Bodies script) = ⊥
+IsWhole (Bodies script scrapers) = ⊥
 
 -- the status where printing in pieces is cut off
 abbrev pub cut_status : Cut → Status
@@ -140,7 +140,7 @@ pub record IsPrintedFor (words : List (List ℕ)) (left : Option (List ℕ)) (st
 -- the answer to a stop is printed whole
 abbrev pub IsStopPrinted : Stop → Status → Printed → Type 0
 IsStopPrinted stop status (Whole t) = IsStopAnswer stop status (cow_slice_items t)
-IsStopPrinted stop status (Bodies script) = ⊥
+IsStopPrinted stop status (Bodies script scrapers) = ⊥
 
 -- the bytes on the input are these, and no more than so many
 pub record HoldsBytes (most : ℕ) (left : Option (List ℕ)) (bytes : List ℕ) : Type 0 where

@@ -18,8 +18,9 @@ use std::borrow::CowSlice;
 pub(crate) enum Printed {
     /// A text.
     Whole(CowSlice<'static, u8>),
-    /// The bodies of a script, each of which is made when the one before it is printed.
-    Bodies(Script),
+    /// The bodies of a script, whose targets are visited by so many scrapers at once. Each body is made when the one
+    /// before it is printed.
+    Bodies { script: Script, scrapers: u32 },
 }
 
 /// What the program prints, and the status that it ends with.

@@ -1,7 +1,7 @@
 //! The commands: what each prints, or why it stops.
 ghost use Rattle.std.specs.Prelude.{◌≡◌, true, false, IfOk, IfErr, IsOk};
 ghost use Rattle.bridge_cli.specs.Answers.{Answers};
-ghost use Rattle.bridge_cli.specs.CommandWords.{reads_input, most_input, takes_memory};
+ghost use Rattle.bridge_cli.specs.CommandWords.{reads_input, most_input, takes_memory, scrapers_asked};
 ghost use Rattle.bridge_cli.specs.PageInputs.{Leaves};
 ghost use Rattle.bridge_cli.specs.Printed.{IsPrintedOf};
 ghost use Rattle.bridge_cli.specs.StopAnswers.{StopsAs};
@@ -19,6 +19,13 @@ use bridge_ports::Source;
 pub use help::{HELP, VERSION};
 use std::alloc::Global;
 use std::borrow::CowSlice;
+
+/// How many scrapers `replay` has: 1 where the words do not say it.
+fn scrapers_of(said: Option<u32>) -> u32
+    ensures { result ≡ scrapers_asked said }
+{
+    said.unwrap_or(1)
+}
 
 /// Does what a command asks for up to printing, and gives what it prints.
 pub(crate) fn run<I: Source>(
@@ -47,6 +54,10 @@ pub(crate) fn run<I: Source>(
         } => Ok(Printed::Whole(CowSlice::Owned(convert::convert(
             alloc, format, &target, nanos, input,
         )?))),
-        Command::Replay => Ok(Printed::Bodies(whole_script(alloc, input)?)),
+        Command::Replay { scrapers } => {
+            let scrapers = scrapers_of(scrapers);
+            let script = whole_script(alloc, input)?;
+            Ok(Printed::Bodies { script, scrapers })
+        }
     }
 }

@@ -9,6 +9,9 @@ pub(crate) const MOST_SCRIPT_BYTES: usize = 1 << 28;
 /// The most bytes that one read takes.
 pub(crate) const BLOCK_BYTES: usize = 1 << 16;
 
+/// The most scrapers that visit the targets of a script at once.
+pub(crate) const MOST_SCRAPERS: u64 = 4;
+
 /// The most samples of a page.
 pub(crate) const MOST_SAMPLES: u32 = 200_000;
 

@@ -20,6 +20,8 @@ use crate::stop::Stop;
 use crate::words::command;
 use bridge_ports::{Failed, Sink, Source};
 use std::alloc::Global;
+use std::sync::Wait;
+use std::thread::Threads;
 
 /// What the program prints where nothing stops it.
 fn text<I: Source>(alloc: Global, words: &[String], input: &mut I) -> Result<Printed, Stop>
@@ -63,7 +65,12 @@ fn answer<I: Source>(alloc: Global, words: &[String], input: &mut I) -> Answer
 
 /// Prints an answer and gives its status, the one of a failed write, or that of want of memory for a
 /// piece of it.
-fn print<O: Sink>(alloc: Global, output: &mut O, answer: &Answer) -> u8
+fn print<R: Threads + Wait + Sync, O: Sink>(
+    rt: &R,
+    alloc: Global,
+    output: &mut O,
+    answer: &Answer,
+) -> u8
     requires right { IsPrintable answer.now.status answer.now.printed }
     requires status { answer.now.status ≢ WriteFailed }
     ensures ended { Ended answer.now.status answer.now.printed (O.held output.old) (O.held output.new) result }
@@ -75,10 +82,12 @@ fn print<O: Sink>(alloc: Global, output: &mut O, answer: &Answer) -> u8
             Ok(()) => answer.status.code(),
             Err(Failed) => Status::WriteFailed.code(),
         },
-        Printed::Bodies(script) => match print_script(alloc, script, output) {
-            Ok(()) => answer.status.code(),
-            Err(cut) => cut.status().code(),
-        },
+        Printed::Bodies { script, scrapers } => {
+            match print_script(rt, alloc, script, *scrapers, output) {
+                Ok(()) => answer.status.code(),
+                Err(cut) => cut.status().code(),
+            }
+        }
     }
 }
 
@@ -98,7 +107,11 @@ fn print<O: Sink>(alloc: Global, output: &mut O, answer: &Answer) -> u8
 /// The limit is 64 MiB of a page and 256 MiB of a script.
 ///
 /// A source that does not tell its bytes has some bytes, and the answer is to those.
-pub fn bridge<I: Source, O: Sink>(
+///
+/// `replay` starts threads and waits for them, so what is said here holds where the call returns. Its answer is the
+/// same for every number of scrapers.
+pub fn bridge<R: Threads + Wait + Sync, I: Source, O: Sink>(
+    rt: &R,
     alloc: Global,
     words: &[String],
     input: &mut I,
@@ -139,5 +152,5 @@ pub fn bridge<I: Source, O: Sink>(
     ensures write_faults { TellsFault (code_of WriteFailed) result (O.write_faults output.old) (O.write_faults output.new) }
 {
     let answer = answer(alloc, words, input);
-    print(alloc, output, &answer)
+    print(rt, alloc, output, &answer)
 }

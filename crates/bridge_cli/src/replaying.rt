@@ -16,6 +16,8 @@ use page_model::Event;
 use replay_script::{Header, Script, ScriptTarget};
 use scrape_client::outcome;
 use std::alloc::{AllocError, Global};
+use std::sync::Wait;
+use std::thread::Threads;
 use target_core::TargetState;
 
 /// Why printing in pieces was cut off.
@@ -185,10 +187,12 @@ fn print_targets<O: Sink>(
     Ok(())
 }
 
-/// Visits the targets of a script in turn, and prints the bodies of their visits.
-pub(crate) fn print_script<O: Sink>(
+/// Visits the targets of a script by so many scrapers, and prints the bodies of their visits.
+pub(crate) fn print_script<R: Threads + Wait + Sync, O: Sink>(
+    rt: &R,
     alloc: Global,
     script: &Script,
+    scrapers: u32,
     output: &mut O,
 ) -> Result<(), Cut>
     requires { IsRightScript script.now }
@@ -196,7 +200,7 @@ pub(crate) fn print_script<O: Sink>(
     ensures cause { CutCause (O.write_faults output.old) (O.write_faults output.new) result }
     ensures visited { OnOk result (IsVisitedThrough script.now) }
 {
-    match visits_made(alloc, script) {
+    match visits_made(rt, alloc, script, scrapers) {
         Ok(visits) => print_targets(alloc, script, visits.as_slice(), output),
         Err(AllocError) => Err(Cut::Memory),
     }

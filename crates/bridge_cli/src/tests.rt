@@ -6,6 +6,8 @@ use crate::bridge;
 use bridge_ports::{Failed, MemorySink, MemorySource, Source};
 use label_sets::{Bytes, List, Memory};
 use std::alloc::Global;
+use std::sync::Wait;
+use std::thread::Threads;
 
 const ROOM: u64 = 65_536;
 
@@ -59,7 +61,8 @@ fn failing(alloc: Global, call: Option<u64>) -> Result<List<u64>, Memory> {
 
 /// The program on these words and this page, of which one read may fail, with room for so many
 /// bytes of output.
-fn run(
+fn run<R: Threads + Wait + Sync>(
+    rt: &R,
     alloc: Global,
     words: &[&str],
     page: &[u8],
@@ -70,7 +73,7 @@ fn run(
     let mut input = MemorySource::new(bytes, failing(alloc, bad_read)?);
     let mut output = MemorySink::new(alloc, room, List::new(alloc))?;
     let words = strings(alloc, words)?;
-    let status = bridge(alloc, words.as_slice(), &mut input, &mut output);
+    let status = bridge(rt, alloc, words.as_slice(), &mut input, &mut output);
     Ok(Ended { status, output })
 }
 
@@ -130,7 +133,7 @@ const CONVERTED: [(&[u8], &str, &str); 7] = [
 fn converted_pages(rt: HostRuntime) {
     let alloc = rt.alloc();
     for (page, scope, scraped) in &CONVERTED {
-        let run = run(alloc, &CONVERT, page, None, ROOM).expect(&rt, "memory");
+        let run = run(&rt, alloc, &CONVERT, page, None, ROOM).expect(&rt, "memory");
         let text = joined(alloc, &[RESOURCE, scope, scraped, "]}]}\n"]).expect(&rt, "memory");
         assert_eq!(rt; run.status, 0);
         assert!(rt; run.output.held() == text.as_bytes(), "{scope}");
@@ -150,7 +153,7 @@ const FOUR_SAMPLES: &str =
 #[test]
 fn converted_open_page(rt: HostRuntime) {
     let alloc = rt.alloc();
-    let run = run(alloc, &CONVERT_OPEN, OPEN, None, ROOM).expect(&rt, "memory");
+    let run = run(&rt, alloc, &CONVERT_OPEN, OPEN, None, ROOM).expect(&rt, "memory");
     let text = [RESOURCE, OPEN_METRICS, FOUR_SAMPLES, "]}]}\n"];
     let text = joined(alloc, &text).expect(&rt, "memory");
     assert_eq!(rt; run.status, 0);
@@ -193,7 +196,7 @@ fn number_literals(rt: HostRuntime) {
     let alloc = rt.alloc();
     for (token, literal) in &TOKENS {
         let page = joined(alloc, &["# TYPE t gauge\nt ", token, "\n"]).expect(&rt, "memory");
-        let run = run(alloc, &CONVERT, page.as_bytes(), None, ROOM).expect(&rt, "memory");
+        let run = run(&rt, alloc, &CONVERT, page.as_bytes(), None, ROOM).expect(&rt, "memory");
         match literal {
             Ok(literal) => {
                 let text = [
@@ -300,20 +303,24 @@ const OPEN_CHECKED: [(&[u8], u8, &str); 9] = [
 #[test]
 fn checked_pages(rt: HostRuntime) {
     for (page, status, text) in &CHECKED {
-        let run = run(rt.alloc(), &CHECK, page, None, ROOM).expect(&rt, "memory");
+        let run = run(&rt, rt.alloc(), &CHECK, page, None, ROOM).expect(&rt, "memory");
         assert_eq!(rt; run.status, *status);
         assert!(rt; run.output.held() == text.as_bytes(), "{text}");
     }
     for (page, status, text) in &OPEN_CHECKED {
-        let run = run(rt.alloc(), &CHECK_OPEN, page, None, ROOM).expect(&rt, "memory");
+        let run = run(&rt, rt.alloc(), &CHECK_OPEN, page, None, ROOM).expect(&rt, "memory");
         assert_eq!(rt; run.status, *status);
         assert!(rt; run.output.held() == text.as_bytes(), "{text}");
     }
 }
 
-const FAULTY_WORDS: [&[&str]; 14] = [
+const FAULTY_WORDS: [&[&str]; 18] = [
     &[],
     &["replay", "5"],
+    &["replay", "0"],
+    &["replay", "01"],
+    &["replay", "all"],
+    &["replay", "1", "2"],
     &["load", "1", "64", "313"],
     &["check", "json"],
     &["check", "--help"],
@@ -331,7 +338,7 @@ const FAULTY_WORDS: [&[&str]; 14] = [
 #[test]
 fn faulty_words(rt: HostRuntime) {
     for words in &FAULTY_WORDS {
-        let run = run(rt.alloc(), words, PAGE, Some(1), ROOM).expect(&rt, "memory");
+        let run = run(&rt, rt.alloc(), words, PAGE, Some(1), ROOM).expect(&rt, "memory");
         assert_eq!(rt; run.status, 2);
         assert!(rt; run.output.held() == b"words\n".as_slice());
     }
@@ -339,10 +346,10 @@ fn faulty_words(rt: HostRuntime) {
 
 #[test]
 fn help_and_version(rt: HostRuntime) {
-    let help = run(rt.alloc(), &["--help"], PAGE, Some(1), ROOM).expect(&rt, "memory");
+    let help = run(&rt, rt.alloc(), &["--help"], PAGE, Some(1), ROOM).expect(&rt, "memory");
     assert_eq!(rt; help.status, 0);
     assert!(rt; help.output.held() == crate::HELP.as_bytes());
-    let version = run(rt.alloc(), &["--version"], PAGE, Some(1), ROOM).expect(&rt, "memory");
+    let version = run(&rt, rt.alloc(), &["--version"], PAGE, Some(1), ROOM).expect(&rt, "memory");
     assert_eq!(rt; version.status, 0);
     assert!(rt; version.output.held() == b"bridge 0.1.0\n".as_slice());
 }
@@ -365,7 +372,7 @@ const FAILING: [(&[u8], u64, u64, u8, &str); 7] = [
 #[test]
 fn failing_reads_and_writes(rt: HostRuntime) {
     for (page, bad_read, room, status, text) in &FAILING {
-        let run = run(rt.alloc(), &CHECK, page, Some(*bad_read), *room).expect(&rt, "memory");
+        let run = run(&rt, rt.alloc(), &CHECK, page, Some(*bad_read), *room).expect(&rt, "memory");
         assert_eq!(rt; run.status, *status, "{bad_read} {room}");
         assert!(rt; run.output.held() == text.as_bytes(), "{bad_read} {room}");
     }
@@ -402,7 +409,7 @@ fn page_in_single_bytes(rt: HostRuntime) {
         at: 0,
     };
     let mut output = MemorySink::new(alloc, ROOM, List::new(alloc)).expect(&rt, "memory");
-    let status = bridge(alloc, words.as_slice(), &mut input, &mut output);
+    let status = bridge(&rt, alloc, words.as_slice(), &mut input, &mut output);
     let text = joined(alloc, &[RESOURCE, ESCAPED, ONE_SAMPLE, "]}]}\n"]).expect(&rt, "memory");
     assert_eq!(rt; status, 0);
     assert!(rt; output.held() == text.as_bytes());
@@ -432,7 +439,7 @@ fn endless_input_is_left(rt: HostRuntime) {
     let words = strings(alloc, &CHECK).expect(&rt, "memory");
     let mut input = Endless { reads: 0 };
     let mut output = MemorySink::new(alloc, ROOM, List::new(alloc)).expect(&rt, "memory");
-    let status = bridge(alloc, words.as_slice(), &mut input, &mut output);
+    let status = bridge(&rt, alloc, words.as_slice(), &mut input, &mut output);
     assert_eq!(rt; status, 8);
     assert_eq!(rt; input.reads, 1025);
     assert!(rt; output.held() == b"input too long\n".as_slice());

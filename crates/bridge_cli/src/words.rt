@@ -28,5 +28,8 @@ pub enum Command {
         nanos: u64,
     },
     /// What the scrapes of a script become.
-    Replay,
+    Replay {
+        /// How many scrapers visit the targets at once, from 1 to 4, where the words say it.
+        scrapers: Option<u32>,
+    },
 }

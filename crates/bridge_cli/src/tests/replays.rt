@@ -19,17 +19,17 @@ const FAILS: &[u8] =
 #[test]
 fn replayed_scripts(rt: HostRuntime) {
     let alloc = rt.alloc();
-    let falls = run(alloc, &["replay"], FALLS, None, ROOM).expect(&rt, "memory");
+    let falls = run(&rt, alloc, &["replay"], FALLS, None, ROOM).expect(&rt, "memory");
     assert_eq!(rt; falls.status, 0);
     let text = std::str::from_utf8(falls.output.held()).expect(&rt, "text");
     for point in &FALLS_POINTS {
         assert!(rt; text.contains(*point), "{point}");
     }
-    let fails = run(alloc, &["replay"], FAILS, None, ROOM).expect(&rt, "memory");
+    let fails = run(&rt, alloc, &["replay"], FAILS, None, ROOM).expect(&rt, "memory");
     assert_eq!(rt; fails.status, 0);
     let text = std::str::from_utf8(fails.output.held()).expect(&rt, "text");
     assert!(rt; text.contains(r#""timeUnixNano":"11","asDouble":0"#));
-    let refused = run(alloc, &["replay"], b"", None, ROOM).expect(&rt, "memory");
+    let refused = run(&rt, alloc, &["replay"], b"", None, ROOM).expect(&rt, "memory");
     assert_eq!(rt; refused.status, 7);
     assert!(rt; refused.output.held() == b"script line 1\n".as_slice());
 }
@@ -106,7 +106,9 @@ fn replayed_histories(rt: HostRuntime) {
     let alloc = rt.alloc();
     for (head, records, told, untold) in &HISTORIES {
         let script = joined(alloc, &["bridge-script 1\n", *head, *records]).expect(&rt, "memory");
-        let ended = run(alloc, &["replay"], script.as_bytes(), None, ROOM).expect(&rt, "memory");
+        let ended = run(&rt, alloc, &["replay"], script.as_bytes(), None, ROOM).expect(
+            &rt, "memory",
+        );
         assert_eq!(rt; ended.status, 0);
         let text = std::str::from_utf8(ended.output.held()).expect(&rt, "text");
         assert!(rt; text.contains(*told), "{told}");
@@ -128,7 +130,7 @@ const CHUNKED_POINTS: [&str; 4] = [
 
 #[test]
 fn replayed_chunks(rt: HostRuntime) {
-    let chunked = run(rt.alloc(), &["replay"], CHUNKED.as_bytes(), None, ROOM).expect(
+    let chunked = run(&rt, rt.alloc(), &["replay"], CHUNKED.as_bytes(), None, ROOM).expect(
         &rt, "memory",
     );
     assert_eq!(rt; chunked.status, 0);
@@ -153,10 +155,12 @@ const ANSWERED_POSTS: [&str; 5] = [
 fn replayed_posts(rt: HostRuntime) {
     let alloc = rt.alloc();
     let plain = joined(alloc, &["bridge-script 1\n", CREATED]).expect(&rt, "memory");
-    let bodies = run(alloc, &["replay"], plain.as_bytes(), None, ROOM).expect(&rt, "memory");
+    let bodies = run(&rt, alloc, &["replay"], plain.as_bytes(), None, ROOM).expect(&rt, "memory");
     for posts in &ANSWERED_POSTS {
         let script = joined(alloc, &["bridge-script 1\n", CREATED, *posts]).expect(&rt, "memory");
-        let ended = run(alloc, &["replay"], script.as_bytes(), None, ROOM).expect(&rt, "memory");
+        let ended = run(&rt, alloc, &["replay"], script.as_bytes(), None, ROOM).expect(
+            &rt, "memory",
+        );
         assert_eq!(rt; ended.status, 0);
         assert!(rt; ended.output.held() == bodies.output.held(), "{posts}");
     }
@@ -179,8 +183,8 @@ const FOUR_MOMENTS: [&str; 4] = [
     r#"{"timeUnixNano":"13","asDouble":4}"#,
 ];
 
-// The bodies of each target are those of a script that has it alone, target for target, and of scrapes at one time
-// each counts a nanosecond behind the one before of its own target.
+// The bodies of each target are those of a script that has it alone, target for target, for any number of scrapers, and
+// of scrapes at one time each counts a nanosecond behind the one before of its own target.
 #[test]
 fn replayed_targets(rt: HostRuntime) {
     let alloc = rt.alloc();
@@ -188,7 +192,9 @@ fn replayed_targets(rt: HostRuntime) {
     let mut alone = Vec::new(alloc);
     for target in &THREE_TARGETS {
         let script = joined(alloc, &[head, *target, FOUR_AT_ONCE]).expect(&rt, "memory");
-        let ended = run(alloc, &["replay"], script.as_bytes(), None, ROOM).expect(&rt, "memory");
+        let ended = run(&rt, alloc, &["replay"], script.as_bytes(), None, ROOM).expect(
+            &rt, "memory",
+        );
         assert_eq!(rt; ended.status, 0);
         let text = std::str::from_utf8(ended.output.held()).expect(&rt, "text");
         for moment in &FOUR_MOMENTS {
@@ -204,7 +210,13 @@ fn replayed_targets(rt: HostRuntime) {
         &[head, a, FOUR_AT_ONCE, b, FOUR_AT_ONCE, c, FOUR_AT_ONCE],
     )
     .expect(&rt, "memory");
-    let ended = run(alloc, &["replay"], script.as_bytes(), None, ROOM).expect(&rt, "memory");
+    let ended = run(&rt, alloc, &["replay"], script.as_bytes(), None, ROOM).expect(&rt, "memory");
     assert_eq!(rt; ended.status, 0);
     assert!(rt; ended.output.held() == alone.as_slice());
+    for scrapers in ["1", "2", "4"] {
+        let words = ["replay", scrapers];
+        let ended = run(&rt, alloc, &words, script.as_bytes(), None, ROOM).expect(&rt, "memory");
+        assert_eq!(rt; ended.status, 0);
+        assert!(rt; ended.output.held() == alone.as_slice(), "{scrapers}");
+    }
 }

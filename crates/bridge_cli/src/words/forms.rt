@@ -6,7 +6,7 @@ ghost use Rattle.replay_script.specs.ScriptParts.{format_word};
 
 use super::Command;
 use super::target::target;
-use crate::limits::{MOST_HOST_BYTES, MOST_JOB_BYTES, MOST_NANOS};
+use crate::limits::{MOST_HOST_BYTES, MOST_JOB_BYTES, MOST_NANOS, MOST_SCRAPERS};
 use page_model::Format;
 use plain_words::{host_and_port, number};
 use std::alloc::{AllocError, Global};
@@ -23,7 +23,7 @@ fn lone_word(word: &str) -> Option<Command>
         return Some(Command::Version);
     }
     if word == "replay" {
-        return Some(Command::Replay);
+        return Some(Command::Replay { scrapers: None });
     }
     None
 }
@@ -36,18 +36,46 @@ fn format_named(word: &str) -> Option<Format>
     replay_script::format_named(word.as_bytes())
 }
 
-/// The command that two words ask for.
-fn two_words(verb: &str, format: &str) -> Option<Command>
-    ensures found { IfSome result (IsCommand (verb.now ∷ format.now ∷ [])) }
-    ensures none { IfNone result (FitNoForm (verb.now ∷ format.now ∷ [])) }
+/// The check that the word behind `check` asks for.
+fn check_of(format: &str) -> Option<Command>
+    ensures found { IfSome result (IsCommand (codes "check" ∷ format.now ∷ [])) }
+    ensures none { IfNone result (FitNoForm (codes "check" ∷ format.now ∷ [])) }
 {
-    if verb != "check" {
-        return None;
-    }
     match format_named(format) {
         Some(format) => Some(Command::Check { format }),
         None => None,
     }
+}
+
+/// The replay that the word behind `replay` asks for.
+fn replay_by(scrapers: &str) -> Option<Command>
+    ensures found { IfSome result (IsCommand (codes "replay" ∷ scrapers.now ∷ [])) }
+    ensures none { IfNone result (FitNoForm (codes "replay" ∷ scrapers.now ∷ [])) }
+{
+    let count = match number(scrapers.as_bytes(), MOST_SCRAPERS) {
+        Some(count) => count,
+        None => return None,
+    };
+    if count == 0 {
+        return None;
+    }
+    Some(Command::Replay {
+        scrapers: Some(count as u32),
+    })
+}
+
+/// The command that two words ask for.
+fn two_words(verb: &str, word: &str) -> Option<Command>
+    ensures found { IfSome result (IsCommand (verb.now ∷ word.now ∷ [])) }
+    ensures none { IfNone result (FitNoForm (verb.now ∷ word.now ∷ [])) }
+{
+    if verb == "check" {
+        return check_of(word);
+    }
+    if verb == "replay" {
+        return replay_by(word);
+    }
+    None
 }
 
 /// The conversion that a format, a job, an instance and a time ask for.
@@ -95,7 +123,7 @@ pub(crate) fn command(alloc: Global, words: &[String]) -> Result<Option<Command>
 {
     match words {
         [word] => Ok(lone_word(word.as_str())),
-        [verb, format] => Ok(two_words(verb.as_str(), format.as_str())),
+        [verb, word] => Ok(two_words(verb.as_str(), word.as_str())),
         [verb, format, job, instance, time] => {
             if verb.as_str() != "convert" {
                 return Ok(None);

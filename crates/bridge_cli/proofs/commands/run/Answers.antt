@@ -25,9 +25,9 @@ returns-in_ok-convert-in-Convert-clause-text g c =
     whole_printed (Convert c.in-Convert.format c.in-Convert.target c.in-Convert.nanos) _ _ tt
     (λ text e. same_text (Answers (Convert c.in-Convert.format c.in-Convert.target c.in-Convert.nanos)) _ _ _ text c.in_ok-convert-in-Convert.ensures.text e))
 
-pub returns-in_ok-whole_script-in-Replay-clause-text : goal.returns-in_ok-whole_script-in-Replay-clause-text
-returns-in_ok-whole_script-in-Replay-clause-text g c = rw c.in-Replay.is (bodies_printed _ c.in_ok-whole_script-in-Replay.field-0 c.in_ok-whole_script-in-Replay.ensures.script)
+pub returns-in_ok-script-in-Replay-clause-text : goal.returns-in_ok-script-in-Replay-clause-text
+returns-in_ok-script-in-Replay-clause-text g c = rw c.in-Replay.is (bodies_printed c.in-Replay.scrapers _ c.in_ok-script-in-Replay.script c.scrapers_of-scrapers.result c.in_ok-script-in-Replay.ensures.script)
 
-pub returns-in_err-whole_script-in-Replay-clause-stop : goal.returns-in_err-whole_script-in-Replay-clause-stop
-returns-in_err-whole_script-in-Replay-clause-stop g c =
-    rw c.in-Replay.is (stop_has (StopsAs (IsScriptAnswer IsReplay) _) _ _ c.from_residual-in_err-whole_script-in-Replay.ensures.1 c.in_err-whole_script-in-Replay.ensures.stop)
+pub returns-in_err-script-in-Replay-clause-stop : goal.returns-in_err-script-in-Replay-clause-stop
+returns-in_err-script-in-Replay-clause-stop g c =
+    rw c.in-Replay.is (stop_has (StopsAs (IsScriptAnswer IsReplay) _) _ _ c.from_residual-in_err-script-in-Replay.ensures.1 c.in_err-script-in-Replay.ensures.stop)

@@ -9,9 +9,9 @@ use Rattle.bridge_cli.proofs.words.forms.command.Goals.{After-conversion}
 five_words : (c : After-conversion)
     → codes "convert" ∷ format_word c.in-Some.format ∷ c.as_str-in-len5-3.result.now ∷ c.as_str-in-len5-4.result.now ∷ c.as_str-in-len5-5.result.now ∷ [] ≡ map string_bytes c.args.words.now
 five_words c =
-    conversion_words string_bytes c.args.words.now c.verb-item-then-words-lt6.result c.format-item-then-words-lt6.result c.job-item.result c.instance-item.result c.time-item.result
+    conversion_words string_bytes c.args.words.now c.verb-item-then-words-lt6.result c.format-item.result c.job-item.result c.instance-item.result c.time-item.result
     c.as_str-in-len5.result.now c.as_str-in-len5-2.result.now c.as_str-in-len5-3.result.now c.as_str-in-len5-4.result.now c.as_str-in-len5-5.result.now c.in-len5.len_at_least
-    c.in-len5.len_below c.verb-item-then-words-lt6.is c.format-item-then-words-lt6.is c.job-item.is c.instance-item.is c.time-item.is c.as_str-in-len5.ensures.value c.as_str-in-len5-2.ensures.value
+    c.in-len5.len_below c.verb-item-then-words-lt6.is c.format-item.is c.job-item.is c.instance-item.is c.time-item.is c.as_str-in-len5.ensures.value c.as_str-in-len5-2.ensures.value
     c.as_str-in-len5-3.ensures.value c.as_str-in-len5-4.ensures.value c.as_str-in-len5-5.ensures.value (alike _ _ _ c.ne.ensures c.if-ne.false)
     c.in-Some.format c.in-Some.ensures.found
 
@@ -26,6 +26,6 @@ returns-in-Some-clause-memory c = rw (← five_words c) c.conversion.ensures.mem
 
 pub returns-in-None-clause-none : goal.returns-in-None-clause-none
 returns-in-None-clause-none c =
-    no_format string_bytes c.args.words.now c.verb-item-then-words-lt6.result c.format-item-then-words-lt6.result c.job-item.result c.instance-item.result c.time-item.result
-    c.as_str-in-len5-2.result.now c.in-len5.len_at_least c.in-len5.len_below c.verb-item-then-words-lt6.is c.format-item-then-words-lt6.is c.job-item.is c.instance-item.is c.time-item.is
+    no_format string_bytes c.args.words.now c.verb-item-then-words-lt6.result c.format-item.result c.job-item.result c.instance-item.result c.time-item.result
+    c.as_str-in-len5-2.result.now c.in-len5.len_at_least c.in-len5.len_below c.verb-item-then-words-lt6.is c.format-item.is c.job-item.is c.instance-item.is c.time-item.is
     c.as_str-in-len5-2.ensures.value c.in-None.ensures.none
