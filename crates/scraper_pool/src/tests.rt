@@ -153,7 +153,9 @@ fn target(alloc: Global, place: u32) -> Result<Target, Memory>
         return Err(AllocError);
     };
     let instance = Text::from_str(alloc, "h:1")?;
-    Ok(Target::new(job, instance, address(alloc)?, false))
+    let target = Target::new(job, instance, address(alloc)?, false);
+    let (_job, _instance, _address) = (target.job(), target.instance(), target.address());
+    Ok(target)
 }
 
 /// A track over these wires.
