@@ -17,6 +17,8 @@ mod conflicts;
 mod names;
 mod pages;
 mod targets;
+#[cfg(test)]
+mod tests;
 
 use label_sets::Memory;
 use page_model::{Page, Shown};
