@@ -310,6 +310,9 @@ for name in close new_tracks; do
     sed -e 's/Rattle\.scraper_pool\.proofs\.tests\./Rattle.time_pool.proofs./' -e 's/Rattle\.scraper_pool\.proofs\./Rattle.time_pool.proofs./' \
         -e 's/l\.plan\.targets/8/' "$pool/tests/$name/Invariants.antt" >"$proofs/$name/Invariants.antt"
 done
+sed -e 's/Rattle\.scraper_pool\.proofs\.tests\./Rattle.time_pool.proofs./' -e 's/Rattle\.scraper_pool\.proofs\./Rattle.time_pool.proofs./' \
+    -e 's/c\.args\.plan\.rounds/c.args.rounds/' -e 's/, c\.requires\.some\.[01]//g' -e 's/c\.requires\.rounds/c.requires/' \
+    "$pool/tests/new_tracks/Answers.antt" >"$proofs/new_tracks/Answers.antt"
 mkdir -p "$proofs/posted"
 sed 's/proofs\.close\./proofs.posted./' "$proofs/close/Invariants.antt" >"$proofs/posted/Invariants.antt"
 
