@@ -35,7 +35,8 @@ use label_sets::{Bytes, List, Memory, Text};
 use scraper_pool::{Ended, TableFault, Track, run_targets};
 use series_table::TrackFault;
 use std::alloc::{AllocError, Global};
-use std::thread;
+use std::sync::Wait;
+use std::thread::{self, Threads};
 use std::time::{Clock, Duration, Instant};
 use std::{env, io};
 
@@ -257,24 +258,30 @@ fn posted<R: Clock + Sync>(tracks: Vec<Track<SlowWire<'_, R>>>) -> (u64, u64) {
     (sum, taken)
 }
 
-/// Makes a run, and prints what it came to.
-fn timed(
-    rt: &HostRuntime,
+/// Makes a run: the nanoseconds that it took, a sum over what was posted, and how many bodies were taken.
+fn timed<R: Threads + Wait + Clock + Sync>(
+    rt: &R,
+    alloc: Global,
     reply: &[u8],
     scrapers: u32,
     rounds: u32,
     pause: Duration,
-) -> io::Result<()>
+) -> io::Result<(u128, u64, u64)>
     requires { (1 ≤ rounds) × (rounds ≤ most_visits) }
 {
-    let alloc = rt.alloc();
     let tracks = new_tracks(rt, alloc, reply, pause, rounds)?;
-    let start = Instant::now(rt)?;
+    let start = match Instant::now(rt) {
+        Ok(start) => start,
+        Err(error) => {
+            close(tracks);
+            return Err(error);
+        }
+    };
     match run_targets(rt, alloc, tracks, rounds, scrapers) {
         Ok(Ended { tracks }) => {
             let took = start.elapsed(rt);
             let (sum, taken) = posted(tracks);
-            println!(rt; "{} {sum} {taken}", took?.as_nanos())
+            Ok((took?.as_nanos(), sum, taken))
         }
         Err(TableFault::Memory(tracks)) => {
             close(tracks);
@@ -297,7 +304,8 @@ fn main(rt: HostRuntime) -> io::Result<()> {
     let scrapers = number(words.next());
     let rounds = number(words.next()).clamp(1, 1_000);
     let pause = Duration::from_millis(u64::from(number(words.next())));
-    timed(&rt, reply.as_slice(), scrapers, rounds, pause)
+    let (took, sum, taken) = timed(&rt, rt.alloc(), reply.as_slice(), scrapers, rounds, pause)?;
+    println!(rt; "{took} {sum} {taken}")
 }
 MAIN
 
