@@ -1,0 +1,5 @@
+pub mod Machine
+pub mod DoorCounts
+pub mod Pairs
+pub mod KeptPairs
+pub mod World

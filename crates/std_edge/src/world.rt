@@ -1,0 +1,216 @@
+//! The world of the machine.
+ghost use Rattle.std.specs.Prelude.{◌≡◌, ◌≤◌, ◌<◌, length, Some, None, IsSome, IfOk, OnOk, OnErr};
+ghost use Rattle.std.specs.Io.{ReadsAtMost};
+ghost use Rattle.bridge_ports.specs.Causes.{HasCause};
+ghost use Rattle.bridge_ports.specs.InMemory.{one_more};
+
+use crate::door::{DoorCounts, NetDoor};
+use crate::pairs::NetPairs;
+use crate::peer::host_of;
+use crate::wire::NetWire;
+use bridge_ports::std_edge::StdSource;
+use bridge_ports::{Address, Failed, MemoryWire, Source, World};
+use label_sets::{Memory, Text};
+use std::alloc::Global;
+use std::fs::{File, Files};
+use std::marker::Model;
+use std::net::{Net, TcpListener, TcpStream};
+use std::time::Clock;
+
+/// Files by path, wires to the addresses that are asked for, and a door at an address of the machine.
+#[derive(Drop)]
+pub struct StdWorld<R> {
+    machine: R,
+    pairs: NetPairs<R>,
+    file: Option<File>,
+    file_faults: u64,
+    asked: Option<Text>,
+    door_faults: u64,
+    door_at: Option<Address>,
+    back_door: DoorCounts,
+}
+
+impl<R> Model for StdWorld<R> {
+    ghost use Rattle.std_edge.specs.World.{MachineState, open_seen};
+    ghost use Rattle.std_edge.specs.DoorCounts.{back_seen};
+
+    ghost Value = { MachineState };
+
+    ghost view = { λ w. record {
+      file_faults = w.file_faults;
+      door_faults = w.door_faults;
+      asked = w.asked;
+      file = open_seen w.file;
+      door_at = w.door_at;
+      back_door = back_seen w.back_door;
+      pairs = w.pairs;
+    } };
+}
+
+impl<R> StdWorld<R> {
+    ghost use Rattle.std_edge.specs.World.{new_machine};
+
+    /// The world of this machine, of which nothing was asked yet.
+    pub fn new(machine: R, alloc: Global) -> StdWorld<R>
+        ensures { result ≡ new_machine }
+    {
+        StdWorld {
+            machine,
+            pairs: NetPairs::new(alloc),
+            file: None,
+            file_faults: 0,
+            asked: None,
+            door_faults: 0,
+            door_at: None,
+            back_door: DoorCounts::none(),
+        }
+    }
+
+    // Counts a fault of a call on files.
+    fn fail_file(&mut self) -> Failed
+        ensures counted { self.new ≡ record self.old { file_faults = one_more self.old.file_faults } }
+        ensures later { self.old.file_faults ≤ self.new.file_faults }
+    {
+        self.file_faults = self.file_faults.saturating_add(1);
+        Failed
+    }
+
+    // Counts a fault of a call on doors.
+    fn fail_door(&mut self) -> Failed
+        ensures counted { self.new ≡ record self.old { door_faults = one_more self.old.door_faults } }
+        ensures later { self.old.door_faults ≤ self.new.door_faults }
+    {
+        self.door_faults = self.door_faults.saturating_add(1);
+        Failed
+    }
+}
+
+impl<R> World for StdWorld<R>
+where
+    R: Net<Listener = TcpListener, Stream = TcpStream>
+        + Clock
+        + Files<File = File>
+        + Copy
+        + Send
+        + Drop,
+{
+    ghost use Rattle.bridge_ports.specs.Worlds.{KeepsComing, FileReads, with_file_open, with_no_file_open};
+    ghost use Rattle.bridge_ports.specs.Doors.{new_door};
+    ghost use Rattle.std_edge.specs.World.{machine_world, machine_files, machine_home, machine_given, machine_coming};
+
+    type Wire = NetWire<R>;
+
+    type Door = NetDoor;
+
+    ghost world = { machine_world };
+
+    ghost files = { machine_files };
+
+    ghost home = { machine_home };
+
+    ghost given = { machine_given };
+
+    ghost coming = { machine_coming };
+
+    fn open_file(&mut self, path: Text) -> Result<(), Failed>
+        requires { self.old.asked ≡ None }
+        ensures cause { HasCause self.old.file_faults self.new.file_faults result }
+        ensures done { OnOk result (machine_world self.new ≡ with_file_open path (machine_files self.old path) (machine_world self.old)) }
+        ensures failed { OnErr result
+            (machine_world self.new ≡ with_no_file_open path self.new.file_faults (machine_world self.old)) }
+        ensures files { machine_files self.new ≡ machine_files self.old }
+        ensures home { machine_home self.new ≡ machine_home self.old }
+        ensures given { machine_given self.new ≡ machine_given self.old }
+        ensures coming { machine_coming self.new ≡ machine_coming self.old }
+
+        ensures fault { OnErr result (self.new.file_faults ≡ one_more self.old.file_faults) }
+    {
+        self.file = File::open(&self.machine, path.as_str()).ok();
+        self.asked = Some(path);
+        if self.file.is_some() {
+            return Ok(());
+        }
+        Err(self.fail_file())
+    }
+
+    fn read_file(&mut self, into: &mut [u8]) -> Result<u32, Failed>
+        requires opened { IsSome self.old.file }
+        requires some { 0 < length into.old }
+        ensures bound { ReadsAtMost result into.new }
+        ensures cause { HasCause self.old.file_faults self.new.file_faults result }
+        ensures bytes { FileReads (machine_world self.old) (machine_world self.new) result into.new }
+        ensures files { machine_files self.new ≡ machine_files self.old }
+        ensures home { machine_home self.new ≡ machine_home self.old }
+        ensures given { machine_given self.new ≡ machine_given self.old }
+        ensures coming { machine_coming self.new ≡ machine_coming self.old }
+
+        ensures fault { OnErr result (self.new.file_faults ≡ one_more self.old.file_faults) }
+    {
+        match StdSource::new(self.file.as_ref().unwrap()).read(into) {
+            Ok(count) => Ok(count),
+            Err(Failed) => Err(self.fail_file()),
+        }
+    }
+
+    fn wires(
+        &mut self,
+        _alloc: Global,
+        number: u32,
+        scrape: &Address,
+        post: &Address,
+    ) -> Result<(NetWire<R>, NetWire<R>), Memory> {
+        match self.pairs.hand_out(self.machine, number, scrape, post) {
+            Ok(pair) => Ok(pair),
+            Err(memory) => Err(memory),
+        }
+    }
+
+    fn back(&mut self, number: u32, scrape: NetWire<R>, post: NetWire<R>) {
+        self.pairs.take_back(number, scrape, post);
+    }
+
+    /// A door at the first address of the host that can be had.
+    fn door(&mut self, at: Address) -> Result<NetDoor, Failed>
+        requires { self.old.door_at ≡ None }
+        ensures cause { HasCause self.old.door_faults self.new.door_faults result }
+        ensures asked { machine_world self.new ≡ record (machine_world self.old)
+            { door_at = Some at; door_faults = self.new.door_faults } }
+        ensures fresh { IfOk result (λ door. door ≡ new_door (machine_coming self.old at)) }
+        ensures files { machine_files self.new ≡ machine_files self.old }
+        ensures home { machine_home self.new ≡ machine_home self.old }
+        ensures given { machine_given self.new ≡ machine_given self.old }
+        ensures coming { KeepsComing at (machine_coming self.old) (machine_coming self.new) }
+
+        ensures fault { OnErr result (self.new.door_faults ≡ one_more self.old.door_faults) }
+    {
+        let listener = listener_at(&self.machine, &at);
+        self.door_at = Some(at);
+        match listener {
+            Some(listener) => Ok(NetDoor::new(listener)),
+            None => Err(self.fail_door()),
+        }
+    }
+
+    /// No peer connects there from now on.
+    fn door_back(&mut self, door: NetDoor) {
+        self.back_door = door.counts();
+    }
+
+    /// The machine has no shelf: the pair is given up.
+    fn shelve(
+        &mut self,
+        _alloc: Global,
+        _scrape: MemoryWire,
+        _post: MemoryWire,
+    ) -> Result<(), Memory> {
+        Ok(())
+    }
+}
+
+/// Listens at an address, where that can be had.
+fn listener_at<R: Net<Listener = TcpListener, Stream = TcpStream>>(
+    net: &R,
+    at: &Address,
+) -> Option<TcpListener> {
+    TcpListener::bind(net, (host_of(at)?, at.port)).ok()
+}
