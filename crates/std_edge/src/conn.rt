@@ -1,5 +1,5 @@
 //! Connections over TCP.
-ghost use Rattle.std.specs.Prelude.{◌≡◌, ◌<◌, [], is_some, IfOk, OnErr, length};
+ghost use Rattle.std.specs.Prelude.{◌≡◌, ◌<◌, [], is_some, IfOk, OnErr, length, refl};
 ghost use Rattle.std.specs.Io.{ReadsAtMost, WritesAtMost};
 ghost use Rattle.std.specs.Io.KnownBytes.{ReadConsumes, WriteAppends};
 ghost use Rattle.bridge_ports.specs.Causes.{HasCause};
@@ -8,6 +8,7 @@ ghost use Rattle.bridge_ports.specs.InMemory.{one_more};
 
 use bridge_ports::std_edge::{StdSink, StdSource};
 use bridge_ports::{Failed, Sink, Source};
+use page_server::Conn;
 use std::io;
 use std::marker::Model;
 use std::net::TcpStream;
@@ -114,4 +115,20 @@ impl Sink for NetConn {
             }
         }
     }
+}
+
+impl Conn for NetConn {
+    ghost use Rattle.page_server.specs.Connections.{conn_with};
+
+    ghost seen = { λ c. conn_with untold untold c.reads c.writes };
+
+    fn hear(&mut self, into: &mut [u8]) -> Result<u32, Failed> {
+        self.read(into)
+    }
+
+    fn say(&mut self, piece: &[u8]) -> Result<u32, Failed> {
+        self.write(piece)
+    }
+
+    ghost is_both = { λ c. refl };
 }

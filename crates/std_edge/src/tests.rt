@@ -1,13 +1,14 @@
 //! Both ends of a connection over loopback, in one process; and the files of the machine.
-ghost use Rattle.std.specs.Prelude.{◌≡◌, ◌<◌, true, false, is_some, IfOk, OnOk};
+ghost use Rattle.std.specs.Prelude.{◌≡◌, ◌<◌, [], true, false, is_some, IfOk, OnOk};
 ghost use Rattle.bridge_ports.specs.declared.talk.Stage.TheVariants as stages;
 ghost use Rattle.bridge_ports.specs.Doors.{most_handed};
 
-use crate::conn::NetConn;
+use crate::conn::{MOST_WAIT, NetConn};
 use crate::peer::host_of;
 use crate::{NetDoor, NetWire, StdWorld};
 use bridge_ports::{Address, Door, Failed, Place, Sink, Source, Wire, World};
 use label_sets::{Bytes, Memory, Text};
+use page_server::{Conn, ReplyStatus, ShownPage, serve_one};
 use std::alloc::Global;
 use std::net::{Ipv4Addr, TcpListener, TcpStream};
 use std::test::Fail;
@@ -200,6 +201,38 @@ fn world_has_the_door_until_it_comes_back(rt: HostRuntime) -> Result<(), Fail> {
         Err(Failed) => assert!(rt; false),
     }
     assert_eq!(rt; ask(alloc, &mut wire, 0)?, None);
+    Ok(())
+}
+
+/// A page without bytes.
+#[derive(Drop)]
+struct NoBytes;
+
+impl ShownPage for NoBytes {
+    ghost may_show = { λ _ page. page ≡ [] };
+
+    fn page(&self, alloc: Global) -> Result<Vec<u8>, Memory> {
+        Ok(Vec::new(alloc))
+    }
+}
+
+#[test]
+fn page_is_served_over_loopback(rt: HostRuntime) -> Result<(), Fail> {
+    let alloc = rt.alloc();
+    let listener = TcpListener::bind(&rt, (Ipv4Addr::LOCALHOST, 0))?;
+    let stream = TcpStream::connect(&rt, listener.local_addr()?)?;
+    let mut peer = NetConn::over(stream, MOST_WAIT)?;
+    let request = b"GET /federate HTTP/1.1\r\nHost: a\r\n\r\n";
+    assert_eq!(rt; peer.say(request), Ok(35));
+    let (stream, _) = listener.accept()?;
+    let mut conn = NetConn::over(stream, MOST_WAIT)?;
+    assert_eq!(rt;
+        serve_one(alloc, &NoBytes, &mut conn),
+        Ok(ReplyStatus::Page)
+    );
+    let mut into = [0u8; 15];
+    assert!(rt; peer.hear(&mut into).is_ok());
+    assert_eq!(rt; &into, b"HTTP/1.1 200 OK");
     Ok(())
 }
 
