@@ -18,8 +18,9 @@ use Rattle.bridge_cli.specs.CheckTexts.{checked_text}
 use Rattle.bridge_cli.specs.ConvertTexts.{converted_text}
 use Rattle.bridge_cli.specs.Answers.{Answers, IsAnswer, no_form, answers}
 use Rattle.std.proofs.lemmas.Bool.{true≢false}
-use Rattle.bridge_cli.specs.Replays.{IsReplay}
-use Rattle.bridge_cli.proofs.ReplayLaws.{replay_once}
+use Rattle.bridge_cli.specs.Replays.{IsReplayWith}
+use Rattle.bridge_cli.proofs.WordLaws.{number_no_page}
+use Rattle.bridge_cli.proofs.ShownLaws.{replay_with_once}
 use Rattle.bridge_cli.proofs.ScriptAnswerLaws.{script_once_at, script_form}
 use Rattle.bridge_cli.proofs.PlaceLaws.{target_of, told_target}
 use Rattle.bridge_cli.proofs.PageAnswerLaws.{AreSame, fixed_once, fixed_form, page_once_at, page_form}
@@ -28,7 +29,7 @@ use Rattle.bridge_cli.proofs.PageAnswerLaws.{AreSame, fixed_once, fixed_form, pa
 
 -- the command of one word
 abbrev lone_command : List ℕ → Command
-lone_command word = cond (bytes_eq word (codes "--version")) Version (cond (bytes_eq word (codes "replay")) (Replay None) Help)
+lone_command word = cond (bytes_eq word (codes "--version")) Version (cond (bytes_eq word (codes "replay")) (Replay None false) Help)
 
 -- the format of a word
 abbrev told_format : List ℕ → Format
@@ -39,14 +40,19 @@ format_told : (format : Format) → told_format (format_word format) ≡ format
 format_told Text = refl
 format_told OpenMetrics = refl
 
+-- the replay of a word behind `replay`
+abbrev told_replay : List ℕ → Command
+told_replay word = cond (bytes_eq word (codes "page")) (Replay None true) (Replay (Some (digits_value 10 word)) false)
+
 -- the command of two words
 abbrev paired_command : List ℕ → List ℕ → Command
-paired_command verb word = cond (bytes_eq verb (codes "replay")) (Replay (Some (digits_value 10 word))) (Check (told_format word))
+paired_command verb word = cond (bytes_eq verb (codes "replay")) (told_replay word) (Check (told_format word))
 
 -- the command whose words these are, if they are those of one
 abbrev told_by : List (List ℕ) → Command
 told_by (word ∷ []) = lone_command word
 told_by (verb ∷ word ∷ []) = paired_command verb word
+told_by (verb ∷ word ∷ page ∷ []) = Replay (Some (digits_value 10 word)) true
 told_by (verb ∷ format ∷ job ∷ instance ∷ time ∷ []) = Convert (told_format format) (target_of job instance) (digits_value 10 time)
 told_by _ = Help
 
@@ -54,8 +60,12 @@ told_by _ = Help
 told : (command : Command) → IsInLimits command → told_by (words_of command) ≡ command
 told Help limits = refl
 told Version limits = refl
-told (Replay None) limits = refl
-told (Replay (Some n)) limits = ap (λ m. Replay (Some m)) (decimal_is_IsNumeral n (omega (arith, limits.1))).1
+told (Replay None false) limits = refl
+told (Replay None true) limits = refl
+told (Replay (Some n) false) limits =
+    ap (λ page. cond page (Replay None true) (Replay (Some (digits_value 10 (decimal n))) false)) (number_no_page n limits.1)
+    ∙ ap (λ m. Replay (Some m) false) (decimal_is_IsNumeral n (omega (arith, limits.1))).1
+told (Replay (Some n) true) limits = ap (λ m. Replay (Some m) true) (decimal_is_IsNumeral n (omega (arith, limits.1))).1
 told (Check format) limits = ap Check (format_told format)
 told (Convert format target nanos) limits =
     ap (λ f. Convert f (target_of target.job target.instance) (digits_value 10 (decimal nanos))) (format_told format)
@@ -68,7 +78,7 @@ command_once Help bytes others s r t u same a b = fixed_once _ s r t u a b
 command_once Version bytes others s r t u same a b = fixed_once _ s r t u a b
 command_once (Check format) bytes others s r t u same a b = page_once_at (page_setting format) checked_text bytes others s r t u (same refl) a b
 command_once (Convert format target nanos) bytes others s r t u same a b = page_once_at (page_setting format) (converted_text target nanos) bytes others s r t u (same refl) a b
-command_once (Replay scrapers) bytes others s r t u same a b = script_once_at IsReplay replay_once bytes others s r t u (same refl) a b
+command_once (Replay scrapers page) bytes others s r t u same a b = script_once_at (IsReplayWith page) (replay_with_once page) bytes others s r t u (same refl) a b
 
 -- a command doesn't answer that the words fit no form
 command_form : (command : Command) (bytes : List ℕ) (status : ℕ) (text : List ℕ) → Answers command bytes status text → status ≢ code_of NoForm
@@ -76,7 +86,7 @@ command_form Help bytes status text says e = fixed_form _ status text says e
 command_form Version bytes status text says e = fixed_form _ status text says e
 command_form (Check format) bytes status text says e = page_form _ _ bytes status text says e
 command_form (Convert format target nanos) bytes status text says e = page_form _ _ bytes status text says e
-command_form (Replay scrapers) bytes status text says e = script_form IsReplay bytes status text says e
+command_form (Replay scrapers page) bytes status text says e = script_form (IsReplayWith page) bytes status text says e
 
 -- what prints in pieces takes memory
 pub pieces_take : (command : Command) → takes_memory command ≡ false → prints_pieces command ≡ false
@@ -84,7 +94,7 @@ pieces_take Help e = refl
 pieces_take Version e = refl
 pieces_take (Check format) e = refl
 pieces_take (Convert format target nanos) e = refl
-pieces_take (Replay scrapers) e = absurd (true≢false e)
+pieces_take (Replay scrapers page) e = absurd (true≢false e)
 
 -- ---- what follows
 

@@ -5,6 +5,8 @@ mod PageLaws
 mod PageAnswerLaws
 mod ScriptAnswerLaws
 mod ReplayLaws
+mod SampleLaws
+mod ShownLaws
 mod VisitLaws
 mod ScriptLaws
 mod CommandLaws

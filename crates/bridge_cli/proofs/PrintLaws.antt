@@ -1,5 +1,6 @@
 -- From what is to be printed, and how printing ended, to what the program answers.
-use Rattle.std.proofs.Common.{◌≡◌, ◌≢◌, ℕ, true, List, [], Option, Err, refl, sym, subst, ◌∙◌, ◌⊎◌, inl, inr, arith}
+use Rattle.std.proofs.Common.{◌≡◌, ◌≢◌, ℕ, Bool, true, List, [], Option, Err, refl, sym, subst, ◌∙◌, ◌⊎◌, inl, inr, arith}
+use Rattle.std.specs.Prelude.{⊤}
 use Rattle.std.specs.Io.KnownBytes.{Appends}
 use Rattle.std.proofs.lemmas.Bool.{true≢false}
 use Rattle.replay_script.specs.declared.script.Script.{Script}
@@ -13,6 +14,7 @@ use Rattle.bridge_cli.specs.declared.stop.Stop.{Stop}
 use Rattle.bridge_cli.specs.declared.words.Command.{Command}
 use Rattle.bridge_cli.specs.declared.words.Command.TheVariants.{Replay}
 use Rattle.bridge_cli.specs.Statuses.{code_of, IsStatus, IsTold, IsUntold}
+use Rattle.bridge_cli.specs.Replays.{MayBeCut}
 use Rattle.bridge_cli.specs.CommandWords.{IsCommand, FitNoForm, AskForNo, WhereRead, reads_input, most_input, takes_memory}
 use Rattle.bridge_cli.specs.StopAnswers.{IsStopAnswer, StopsAs}
 use Rattle.bridge_cli.specs.Answers.{Answers, IsAnswer, no_form, answers, IsCutAnswer, whole, cut_off, script_done}
@@ -35,16 +37,20 @@ whole_printed command left (Whole t) is gives = record {
   printable = tt;
   whole = λ _. tt;
 }
-whole_printed command left (Bodies script scrapers) is gives = absurd is
+whole_printed command left (Bodies script scrapers page) is gives = absurd is
 
 -- the bodies of a script
-pub bodies_printed : (said : Option ℕ) (left : Option (List ℕ)) (script : Script) (scrapers : ℕ) → HoldsScript left script → IsPrintedOf (Replay said) left (Bodies script scrapers)
-bodies_printed said left script scrapers holds = record {
+pub bodies_printed : (said : Option ℕ) (page : Bool) (left : Option (List ℕ)) (script : Script) (scrapers : ℕ) → HoldsScript left script → IsPrintedOf (Replay said page) left (Bodies script scrapers page)
+bodies_printed said page left script scrapers holds = record {
   gives = λ text is. record { bytes = holds.bytes; on_input = holds.on_input; says = script_done script text holds.is is };
-  parts = λ text is. record { bytes = holds.bytes; on_input = holds.on_input; says = part_of_some text (script, holds.is, is) };
+  parts = λ text is. record { bytes = holds.bytes; on_input = holds.on_input; says = part text is };
   printable = (holds.right, refl);
   whole = λ e. absurd (true≢false e);
 }
+  where
+    part : (text : List ℕ) → MayBeCut page script text → IsPartOf (Replay said page) holds.bytes text
+    part text (inl some) = part_of_some text (script, holds.is, some)
+    part text (inr all) = part_of_whole (code_of statuses.Done) text (script_done script text holds.is all)
 
 -- what a command prints is what its words ask for
 pub words_printed : (words : List (List ℕ)) (command : Command) (left : Option (List ℕ)) (p : Printed) → IsCommand words command → IsPrintedOf command left p → IsPrintedFor words left statuses.Done p
@@ -61,7 +67,7 @@ words_printed words command left p is of = record {
 
 -- the answer to a stop
 pub stop_printed : (words : List (List ℕ)) (left : Option (List ℕ)) (stop : Stop) (status : Status) (p : Printed) → IsStopPrinted stop status p → StopsAs (IsAnswer words) left stop → IsPrintedFor words left status p
-stop_printed words left stop status (Bodies script scrapers) is stops = absurd is
+stop_printed words left stop status (Bodies script scrapers page) is stops = absurd is
 stop_printed words left stop status (Whole t) is stops = record {
   gives = says;
   parts = λ told text e. let has = says told text e in record { bytes = has.bytes; on_input = has.on_input; says = whole (code_of status) text has.says };
@@ -73,12 +79,12 @@ stop_printed words left stop status (Whole t) is stops = record {
     says told text e = same_text (IsAnswer words) left (code_of status) _ text (stop_told (IsAnswer words) left stop status _ is stops told) e
 
 pub stop_nothing : (stop : Stop) (status : Status) (p : Printed) → IsStopPrinted stop status p → IsUntold (code_of status) → IsNothing p
-stop_nothing stop status (Bodies script scrapers) is untold = absurd is
+stop_nothing stop status (Bodies script scrapers page) is untold = absurd is
 stop_nothing stop status (Whole t) is untold = stop_untold stop status _ is untold
 
 -- the answer of a stop as a text
 pub stop_whole : (stop : Stop) (status : Status) (p : Printed) → IsStopPrinted stop status p → (text : List ℕ) × IsStopAnswer stop status text
-stop_whole stop status (Bodies script scrapers) is = absurd is
+stop_whole stop status (Bodies script scrapers page) is = absurd is
 stop_whole stop status (Whole t) is = (_, is)
 
 -- ---- how printing ended
@@ -86,11 +92,11 @@ stop_whole stop status (Whole t) is = (_, is)
 -- nothing is left of nothing
 nothing_part : (p : Printed) (text : List ℕ) → IsNothing p → GivesPart p text → text ≡ []
 nothing_part (Whole t) text none e = e ∙ none
-nothing_part (Bodies script scrapers) text none e = absurd none
+nothing_part (Bodies script scrapers page) text none e = absurd none
 
 nothing_text : (p : Printed) (text : List ℕ) → IsNothing p → Gives p text → text ≡ []
 nothing_text (Whole t) text none e = e ∙ none
-nothing_text (Bodies script scrapers) text none e = absurd none
+nothing_text (Bodies script scrapers page) text none e = absurd none
 
 -- of nothing no front is written that leaves something
 no_front_of : (p : Printed) (text : List ℕ) (before after : Option (List ℕ)) → IsNothing p → GivesPart p text → WroteFront before after text → ⊥
@@ -99,7 +105,7 @@ no_front_of p text before after none gives front = no_front before after text fr
 -- what isn't whole is of a command that is done
 pieces_done : (status : Status) (p : Printed) → IsPrintable status p → ¬ IsWhole p → status ≡ statuses.Done
 pieces_done status (Whole t) right other = absurd (other tt)
-pieces_done status (Bodies script scrapers) right other = right.1
+pieces_done status (Bodies script scrapers page) right other = right.1
 
 done_told : (status : Status) → status ≡ statuses.Done → IsTold (code_of status)
 done_told status e = subst (λ s. IsTold (code_of s)) (sym e) (omega arith, omega arith, omega arith)
@@ -284,16 +290,17 @@ print_front status p q before after result text same gives front e =
     subst At (sym e) (stopped text (subst Given (sym same) gives) front)
 
 -- printing a script was cut off
-pub print_cut : (status : Status) (p : Printed) (script : Script) (scrapers : ℕ) (before after : Option (List ℕ)) (result : ℕ) (cut : Cut) → p ≡ Bodies script scrapers → PrintsScript script before after (Err cut)
+pub print_cut : (status : Status) (p : Printed) (script : Script) (scrapers : ℕ) (page : Bool) (before after : Option (List ℕ)) (result : ℕ) (cut : Cut) → p ≡ Bodies script scrapers page
+    → PrintsScript page script before after (Err cut)
     → result ≡ code_of (cut_status cut) → Ended status p before after result
-print_cut status p script scrapers before after result cuts.Write same next e = print_front status p (Bodies script scrapers) before after result next.0 same next.1 next.2 e
-print_cut status p script scrapers before after result cuts.Memory same next e =
+print_cut status p script scrapers page before after result cuts.Write same next e = print_front status p (Bodies script scrapers page) before after result next.0 same next.1 next.2 e
+print_cut status p script scrapers page before after result cuts.Memory same next e =
     let Given : Printed → Type 0 = λ x. GivesPart x next.0 in
     let At : ℕ → Type 0 = λ r. Ended status p before after r in
     let InPieces : Printed → Type 0 = λ x. ¬ IsWhole x in
-    subst At (sym e) (wanting next.0 (subst Given (sym same) next.1) next.2 (subst InPieces (sym same) (λ whole. whole)))
+    subst At (sym e) (wanting next.0 (subst Given (sym same) (inl next.1)) next.2 (subst InPieces (sym same) (λ whole. whole)))
 
 -- the count of writes that failed rose only where one cut off printing
-pub cut_fault : (before now result : ℕ) (cut : Cut) → CutCause before now (Err cut) → result ≡ code_of (cut_status cut) → TellsFault (code_of statuses.WriteFailed) result before now
+pub cut_fault : (before now result : ℕ) (cut : Cut) → CutCause {T = ⊤} before now (Err cut) → result ≡ code_of (cut_status cut) → TellsFault (code_of statuses.WriteFailed) result before now
 cut_fault before now result cuts.Write cause e = tells_fault _ _ before now (λ _. cause) (λ other. absurd (other e))
 cut_fault before now result cuts.Memory cause e = tells_fault _ _ before now (λ f. absurd (omega (arith, e, f))) (λ _. cause)

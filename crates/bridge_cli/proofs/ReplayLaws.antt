@@ -32,7 +32,7 @@ use Rattle.bridge_cli.specs.declared.replaying.Cut.{Cut}
 use Rattle.bridge_cli.specs.declared.replaying.Cut.TheVariants as cuts
 use Rattle.bridge_cli.specs.Limits.{most_rounds}
 use Rattle.bridge_cli.specs.Replays.{script_tracking, reply_talk, IsReplyEvent, IsEventAt, AreEvents, body_after, bodies_of, IsTextOfSome, IsTextOf, AreTexts, joined_texts, IsReplay, IsReplayOfSome}
-use Rattle.bridge_cli.specs.Printed.{MakesBody, PrintsNext, PrintsTarget, PrintsScript, PrintedSome, PrintedTargets}
+use Rattle.bridge_cli.specs.Printed.{MakesBody, PrintsNext, CutsTarget, CutsBodies, StandsForAll, PrintedSome, PrintedTargets}
 use Rattle.bridge_cli.specs.ProgramOutputs.{WroteFront}
 
 -- ---- one text
@@ -48,7 +48,7 @@ event_once h r s e f same a b =
     all
 
 -- replies come to one list of events, where there are as many
-events_once : (h : Header) (records : List MemoryReply) (xs ys : List Event) → length xs ≡ length ys → AreEvents h records xs → AreEvents h records ys → xs ≡ ys
+pub events_once : (h : Header) (records : List MemoryReply) (xs ys : List Event) → length xs ≡ length ys → AreEvents h records xs → AreEvents h records ys → xs ≡ ys
 events_once h records [] [] same a b = refl
 events_once h records [] (y ∷ ys) same a b = absurd (omega (arith, same))
 events_once h records (x ∷ xs) [] same a b = absurd (omega (arith, same))
@@ -81,41 +81,56 @@ replay_once s a b x y = x.says ∙ ap joined_texts (texts_once s x.texts y.texts
 
 -- ---- outcomes
 
+-- it holds of each failed scrape
+abbrev OfFailed : (Outcome → Type 0) → Type 0
+OfFailed P = (cause : Cause) → P (outcomes.Failed cause)
+
+-- it holds of what each body comes to
+abbrev OfBodies : ℕ → (Outcome → Type 0) → Type 0
+OfBodies limit P = (f : Format) (body : List ℕ) (o : Outcome) → IsPageOutcome limit f body o → P o
+
+failed_holds : (P : Outcome → Type 0) (o : Outcome) (cause : Cause) → OfFailed P → o ≡ outcomes.Failed cause → P o
+failed_holds P o cause failed e = subst P (sym e) (failed cause)
+
+verdict_holds : (P : Outcome → Type 0) (limit : ℕ) (v : Verdict) (o : Outcome) → OfFailed P → OfBodies limit P → IsVerdictOutcome limit v o → P o
+verdict_holds P limit (refused cause) o failed bodies is = failed_holds P o cause failed is
+verdict_holds P limit (whole f body) o failed bodies is = bodies f body o is
+
+end_holds : (P : Outcome → Type 0) (limit : ℕ) (known : Judged) (o : Outcome) → OfFailed P → OfBodies limit P → IsEndOutcome limit known o → P o
+end_holds P limit waits o failed bodies is = failed_holds P o causes.Truncated failed is
+end_holds P limit (goes_on f body) o failed bodies is = bodies f body o is
+end_holds P limit (decided v) o failed bodies is = verdict_holds P limit v o failed bodies is
+
+holds_by : (P : Outcome → Type 0) (end : End) (limit : ℕ) (known : Judged) (o : Outcome) → OfFailed P → OfBodies limit P → IsOutcomeBy end limit known o → P o
+holds_by P ends.ConnectFailed limit known o failed bodies is = failed_holds P o causes.Connect failed is
+holds_by P ends.WriteFailed limit known o failed bodies is = failed_holds P o causes.Write failed is
+holds_by P ends.ReadFailed limit known o failed bodies is = failed_holds P o causes.Read failed is
+holds_by P ends.Ended limit known o failed bodies is = end_holds P limit known o failed bodies is
+holds_by P ends.Left limit known o failed bodies is = absurd is
+
+holds_of : (P : Outcome → Type 0) (end : End) (limit : ℕ) (known : Judged) (o : Outcome) → OfFailed P → OfBodies limit P → IsOutcomeOf end limit known o → P o
+holds_of P end limit (decided v) o failed bodies is = verdict_holds P limit v o failed bodies is
+holds_of P end limit waits o failed bodies is = holds_by P end limit waits o failed bodies is
+holds_of P end limit (goes_on f body) o failed bodies is = holds_by P end limit (goes_on f body) o failed bodies is
+
+-- what holds of each failed scrape and of what each body comes to holds of what a reply comes to
+pub outcome_holds : (P : Outcome → Type 0) (h : Header) (r : MemoryReply) (o : Outcome) → OfFailed P → OfBodies h.limit P → HasOutcome h.limit h.max_page (reply_talk r) o → P o
+outcome_holds P h r o failed bodies has = holds_of P r.end h.limit has.known o failed bodies has.outcome_is
+
 -- the keys of a page that a body holds are distinct
-page_keys : (limit : ℕ) (f : Format) (body : List ℕ) (o : Outcome) → IsPageOutcome limit f body o → HasDistinctKeys (page_of_outcome o)
+page_keys : (limit : ℕ) → OfBodies limit (λ o. HasDistinctKeys (page_of_outcome o))
 unfolding Rattle.std.specs.List.IsDistinct
 page_keys limit f body (outcomes.Page page) is = page-distinct_keys (scraped_setting f limit) body page is
 page_keys limit f body (outcomes.Failed cause) is = tt
 
 -- a failed scrape has no keys
-failed_keys : (o : Outcome) (cause : Cause) → o ≡ outcomes.Failed cause → HasDistinctKeys (page_of_outcome o)
+failed_keys : OfFailed (λ o. HasDistinctKeys (page_of_outcome o))
 unfolding Rattle.std.specs.List.IsDistinct
-failed_keys o cause e = rw e tt
-
-verdict_keys : (limit : ℕ) (v : Verdict) (o : Outcome) → IsVerdictOutcome limit v o → HasDistinctKeys (page_of_outcome o)
-verdict_keys limit (refused cause) o is = failed_keys o cause is
-verdict_keys limit (whole f body) o is = page_keys limit f body o is
-
-end_keys : (limit : ℕ) (known : Judged) (o : Outcome) → IsEndOutcome limit known o → HasDistinctKeys (page_of_outcome o)
-end_keys limit waits o is = failed_keys o causes.Truncated is
-end_keys limit (goes_on f body) o is = page_keys limit f body o is
-end_keys limit (decided v) o is = verdict_keys limit v o is
-
-keys_by : (end : End) (limit : ℕ) (known : Judged) (o : Outcome) → IsOutcomeBy end limit known o → HasDistinctKeys (page_of_outcome o)
-keys_by ends.ConnectFailed limit known o is = failed_keys o causes.Connect is
-keys_by ends.WriteFailed limit known o is = failed_keys o causes.Write is
-keys_by ends.ReadFailed limit known o is = failed_keys o causes.Read is
-keys_by ends.Ended limit known o is = end_keys limit known o is
-keys_by ends.Left limit known o is = absurd is
-
-keys_of : (end : End) (limit : ℕ) (known : Judged) (o : Outcome) → IsOutcomeOf end limit known o → HasDistinctKeys (page_of_outcome o)
-keys_of end limit (decided v) o is = verdict_keys limit v o is
-keys_of end limit waits o is = keys_by end limit waits o is
-keys_of end limit (goes_on f body) o is = keys_by end limit (goes_on f body) o is
+failed_keys cause = tt
 
 -- the keys of what a reply comes to are distinct
 pub outcome_keys : (h : Header) (r : MemoryReply) (o : Outcome) → HasOutcome h.limit h.max_page (reply_talk r) o → HasDistinctKeys (page_of_outcome o)
-outcome_keys h r o has = keys_of r.end h.limit has.known o has.outcome_is
+outcome_keys h r o has = outcome_holds (λ o. HasDistinctKeys (page_of_outcome o)) h r o failed_keys (page_keys h.limit) has
 
 -- ---- moments
 
@@ -201,6 +216,10 @@ pub printed_all : (h : Header) (t : ScriptTarget) (at : ℕ) (state : Following)
 printed_all h t at state a b was all =
     (bodies_of h t.target was.events, record { events = was.events; are = was.are; all = was.count ∙ all; says = refl }, was.written)
 
+-- the state behind all bodies
+pub stands_for_all : (h : Header) (t : ScriptTarget) (at : ℕ) (state : Following) (a b : Option (List ℕ)) → PrintedSome h t at state a b → at ≡ length t.scrapes → StandsForAll h t state
+stands_for_all h t at state a b was all = record { events = was.events; are = was.are; all = was.count ∙ all; stands = was.stands }
+
 -- a front of the next body was written
 pub printed_front : (h : Header) (t : ScriptTarget) (at : ℕ) (state : Following) (a b c : Option (List ℕ)) (r : MemoryReply) (e : Event) → (was : PrintedSome h t at state a b) → slice_get t.scrapes at ≡ Some r
     → IsReplyEvent h r e → WroteFront b c (body_after h t.target was.events e) → (text : List ℕ) × IsTextOfSome h t text × WroteFront a c text
@@ -235,6 +254,10 @@ targets_more s at a b c t text was stands is more = record {
 
 pub targets_all : (s : Script) (at : ℕ) (a b : Option (List ℕ)) → PrintedTargets s at a b → at ≡ length s.targets → (text : List ℕ) × IsReplay s text × Appends a b text
 targets_all s at a b was all = (joined_texts was.texts, record { texts = was.texts; are = was.are; all = was.count ∙ all; says = refl }, was.written)
+
+-- the text of all events is that of some
+pub some_text : (h : Header) (t : ScriptTarget) (text : List ℕ) → IsTextOf h t text → IsTextOfSome h t text
+some_text h t text is = record { events = is.events; are = is.are; says = is.says }
 
 some_of : (s : Script) (at : ℕ) (a b : Option (List ℕ)) (t : ScriptTarget) (part : List ℕ) → (was : PrintedTargets s at a b) → slice_get s.targets at ≡ Some t → IsTextOfSome s.header t part
     → IsReplayOfSome s (joined_texts was.texts ++ part)
@@ -272,15 +295,20 @@ made_body h target r earlier new body before text (Err wanting) e is same stands
 
 -- printing a target was cut off at this reply
 pub target_cut : (h : Header) (t : ScriptTarget) (at : ℕ) (old new : Following) (a b c : Option (List ℕ)) (r : MemoryReply) (cut : Cut) → (was : PrintedSome h t at old a b) → slice_get t.scrapes at ≡ Some r
-    → PrintsNext h t.target r was.events new b c (Err cut) → PrintsTarget h t a c (Err cut)
+    → PrintsNext h t.target r was.events new b c (Err cut) → CutsTarget h t a c cut
 target_cut h t at old new a b c r cuts.Write was stands next = printed_front h t at old a b c r next.0 was stands next.1 next.2
 target_cut h t at old new a b c r cuts.Memory was stands next = printed_stop h t at old a b c was next
 
 -- printing a script was cut off at this target
-pub script_cut : (s : Script) (at : ℕ) (a b c : Option (List ℕ)) (t : ScriptTarget) (cut : Cut) → PrintedTargets s at a b → slice_get s.targets at ≡ Some t → PrintsTarget s.header t b c (Err cut)
-    → PrintsScript s a c (Err cut)
+pub script_cut : (s : Script) (at : ℕ) (a b c : Option (List ℕ)) (t : ScriptTarget) (cut : Cut) → PrintedTargets s at a b → slice_get s.targets at ≡ Some t → CutsTarget s.header t b c cut
+    → CutsBodies s a c cut
 script_cut s at a b c t cuts.Write was stands next = targets_front s at a b c t next.0 was stands next.1 next.2
 script_cut s at a b c t cuts.Memory was stands next = targets_stop s at a b c t next.0 was stands next.1 next.2
+
+-- the bodies of a target were printed, and memory was wanted for what it shows
+pub script_full : (s : Script) (at : ℕ) (a b c : Option (List ℕ)) (t : ScriptTarget) → PrintedTargets s at a b → slice_get s.targets at ≡ Some t → (text : List ℕ) × IsTextOf s.header t text × Appends b c text
+    → CutsBodies s a c cuts.Memory
+script_full s at a b c t was stands next = targets_stop s at a b c t next.0 was stands (some_text s.header t next.0 next.1) next.2
 
 -- a place in values that are the same
 pub place_in_same : {A : Type 0} (xs ys : List A) (i : ℕ) (x : A) → xs ≡ ys → i < length xs → x ≡ get_or xs i x → slice_get ys i ≡ Some x

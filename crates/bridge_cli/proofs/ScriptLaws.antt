@@ -1,5 +1,5 @@
 -- What an input comes to that holds a script.
-use Rattle.std.proofs.Common.{◌≡◌, ℕ, ◌+◌, ◌<◌, ◌≤◌, List, ◌++◌, length, take, Option, Some, None, refl, ap, subst, arith, length-append}
+use Rattle.std.proofs.Common.{◌≡◌, ℕ, Bool, ◌+◌, ◌<◌, ◌≤◌, List, ◌++◌, length, take, Option, Some, None, refl, ap, subst, arith, length-append}
 use Rattle.std.specs.Io.KnownBytes.{Consumes}
 use Rattle.std.proofs.lemmas.List.{length-take}
 use Rattle.replay_script.specs.declared.script.Script.{Script}
@@ -14,7 +14,7 @@ use Rattle.bridge_cli.specs.Statuses.{code_of}
 use Rattle.bridge_cli.specs.Stops.{too_long_text, script_stop}
 use Rattle.bridge_cli.specs.Inputs.{TookAtMost, IsOverlong}
 use Rattle.bridge_cli.specs.Answers.{IsScriptAnswer, script_refused, script_too_long}
-use Rattle.bridge_cli.specs.Replays.{IsReplay}
+use Rattle.bridge_cli.specs.Replays.{IsReplayWith}
 use Rattle.bridge_cli.specs.ProgramOutputs.{HasAnswer}
 use Rattle.bridge_cli.specs.StopAnswers.{StopsAs}
 use Rattle.bridge_cli.specs.Printed.{HoldsBytes, HoldsScript}
@@ -39,18 +39,18 @@ block_more most a b c bytes block count was more inside few = record {
 }
 
 -- the answer to an input that is too long
-pub too_long_script : (left after : Option (List ℕ)) → IsOverlong most_script left after → HasAnswer (IsScriptAnswer IsReplay) left (code_of TooLong) too_long_text
-too_long_script None after over = record { bytes = over.bytes; on_input = tt; says = script_too_long over.many }
-too_long_script (Some bytes) None over = absurd over.from
-too_long_script (Some bytes) (Some rest) over =
+pub too_long_script : (page : Bool) (left after : Option (List ℕ)) → IsOverlong most_script left after → HasAnswer (IsScriptAnswer (IsReplayWith page)) left (code_of TooLong) too_long_text
+too_long_script page None after over = record { bytes = over.bytes; on_input = tt; says = script_too_long over.many }
+too_long_script page (Some bytes) None over = absurd over.from
+too_long_script page (Some bytes) (Some rest) over =
     record { bytes = bytes; on_input = refl; says = script_too_long (omega (arith, over.many, ap (length {A = ℕ}) over.from, length-append over.bytes rest)) }
 
 -- the answer to a script with a fault
-pub script_fault : (left : Option (List ℕ)) (bytes read : List ℕ) (fault : ScriptFault) → HoldsBytes most_script left bytes → read ≡ bytes → IsFaultOf read fault → StopsAs (IsScriptAnswer IsReplay) left (script_stop fault)
-script_fault left bytes read (faults.Line line) holds same is =
+pub script_fault : (page : Bool) (left : Option (List ℕ)) (bytes read : List ℕ) (fault : ScriptFault) → HoldsBytes most_script left bytes → read ≡ bytes → IsFaultOf read fault → StopsAs (IsScriptAnswer (IsReplayWith page)) left (script_stop fault)
+script_fault page left bytes read (faults.Line line) holds same is =
     let has = subst (λ bs. IsFaultOf bs (faults.Line line)) same is in
     record { bytes = bytes; on_input = holds.on_input; says = script_refused line holds.short has }
-script_fault left bytes read faults.Memory holds same is = tt
+script_fault page left bytes read faults.Memory holds same is = tt
 
 -- the script that an input holds
 pub holds_script : (left : Option (List ℕ)) (bytes read : List ℕ) (script : Script) → HoldsBytes most_script left bytes → read ≡ bytes → IsScript read script → HoldsScript left script

@@ -1,16 +1,17 @@
 -- Words: what the words of a conversion hold.
-use Rattle.std.proofs.Common.{◌≡◌, ◌≢◌, ℕ, ◌<◌, ◌≤◌, Bool, false, not, eqb, List, [], ◌∷◌, map, length, get_or, Result, Ok, Err, Some, None, refl, sym, ap, subst, ◌∙◌, arith}
+use Rattle.std.proofs.Common.{◌≡◌, ◌≢◌, ℕ, ◌<◌, ◌≤◌, Bool, true, false, not, eqb, List, [], ◌∷◌, map, length, get_or, Result, Ok, Err, Some, None, refl, sym, ap, subst, ◌∙◌, arith}
 use Rattle.std.specs.Prelude.{codes, OnErr}
 use Rattle.std.specs.Fmt.{decimal}
 use Rattle.std.proofs.lemmas.Bool.{eqb-false, not-false}
-use Rattle.std.proofs.lemmas.Fmt.{decimal_injective}
+use Rattle.std.proofs.lemmas.Fmt.{decimal_injective, decimal_is_IsNumeral}
 use Rattle.std.proofs.lemmas.Slice.Eq.{bytes_eq-Decides}
 use Rattle.std.specs.Str.{bytes_eq}
+use Rattle.std.specs.Str.Parse.{digits_value}
 use Rattle.page_model.specs.declared.format.Format.{Format}
 use Rattle.plain_words.specs.Places.{IsHostAndPort}
 use Rattle.replay_script.specs.ScriptParts.{format_word}
 use Rattle.bridge_cli.specs.Limits.{most_host, most_job, most_nanos, most_scrapers}
-use Rattle.bridge_cli.specs.CommandWords.{IsCommand, IsInLimits, FitNoForm, place_target, words_of}
+use Rattle.bridge_cli.specs.CommandWords.{IsCommand, FitNoForm, SaysScrapers, place_target, words_of}
 use Rattle.bridge_cli.specs.declared.words.Command.{Command}
 use Rattle.bridge_cli.specs.declared.words.Command.TheVariants.{Help, Version, Check, Convert, Replay}
 
@@ -42,8 +43,10 @@ no_format bytes xs a b c d e format low high at0 at1 at2 at3 at4 is none command
     by : (command : Command) → bytes a ∷ bytes b ∷ bytes c ∷ bytes d ∷ bytes e ∷ [] ≡ words_of command → ⊥
     by Help spelled = absurd cc
     by Version spelled = absurd cc
-    by (Replay None) spelled = absurd cc
-    by (Replay (Some n)) spelled = absurd cc
+    by (Replay None false) spelled = absurd cc
+    by (Replay None true) spelled = absurd cc
+    by (Replay (Some n) false) spelled = absurd cc
+    by (Replay (Some n) true) spelled = absurd cc
     by (Check f) spelled = absurd cc
     by (Convert f target nanos) spelled = let named : bytes b ≡ format_word f = cc in none f (is ∙ named)
 
@@ -76,29 +79,30 @@ conversion_is format job instance time host port nanos some short place e small 
 pub alike : (a b : List ℕ) (different : Bool) → different ≡ not (bytes_eq a b) → different ≡ false → a ≡ b
 alike a b different e is = (bytes_eq-Decides a b).0 (not-false _ (sym e ∙ is))
 
+-- and those that differ compare as different
+not_alike : (a b : List ℕ) → a ≢ b → bytes_eq a b ≡ false
+not_alike a b other = by (bytes_eq a b) refl
+  where
+    by : (same : Bool) → bytes_eq a b ≡ same → bytes_eq a b ≡ false
+    by true e = absurd (other ((bytes_eq-Decides a b).0 e))
+    by false e = e
+
 -- ---- the words of a replay
 
--- a word behind `replay` that is no number of scrapers fits no form
-no_scrapers : (word : List ℕ) → ((n : ℕ) → 1 ≤ n → n ≤ most_scrapers → word ≢ decimal n) → FitNoForm (codes "replay" ∷ word ∷ [])
-no_scrapers word none command asked = by command asked.spelled asked.limits
-  where
-    by : (command : Command) → codes "replay" ∷ word ∷ [] ≡ words_of command → IsInLimits command → ⊥
-    by Help spelled limits = absurd cc
-    by Version spelled limits = absurd cc
-    by (Replay None) spelled limits = absurd cc
-    by (Replay (Some n)) spelled limits = let same : word ≡ decimal n = cc in none n limits.0 limits.1 same
-    by (Check f) spelled limits = absurd cc
-    by (Convert f target nanos) spelled limits = absurd cc
-
--- a word that writes no number of at most four asks for no scrapers
-pub no_number : (word bytes : List ℕ) → bytes ≡ word → ((n : ℕ) → n ≤ most_scrapers → bytes ≢ decimal n) → FitNoForm (codes "replay" ∷ word ∷ [])
-no_number word bytes same none = no_scrapers word (λ n some few e. none n few (same ∙ e))
+-- a word that writes no number of at most four says no number of scrapers
+pub no_number : (word bytes : List ℕ) → bytes ≡ word → ((n : ℕ) → n ≤ most_scrapers → bytes ≢ decimal n) → (n : ℕ) → ¬ SaysScrapers word n
+no_number word bytes same none n says = none n says.few (same ∙ says.spelled)
 
 -- and neither does one that writes 0
-pub not_one_scraper : (word bytes : List ℕ) (n : ℕ) → bytes ≡ word → (bytes ≡ decimal n) × (n ≤ most_scrapers) → n ≡ 0 → FitNoForm (codes "replay" ∷ word ∷ [])
-not_one_scraper word bytes n same is zero_is =
-    no_scrapers word (λ m some few e. let one : n ≡ m = decimal_injective n m (omega (arith, is.1)) (omega (arith, few)) (sym is.0 ∙ same ∙ e) in omega (arith, one, some, zero_is))
+pub not_one_scraper : (word bytes : List ℕ) (n : ℕ) → bytes ≡ word → (bytes ≡ decimal n) × (n ≤ most_scrapers) → n ≡ 0 → (m : ℕ) → ¬ SaysScrapers word m
+not_one_scraper word bytes n same is zero_is m says =
+    let one : n ≡ m = decimal_injective n m (omega (arith, is.1)) (omega (arith, says.few)) (sym is.0 ∙ same ∙ says.spelled) in
+    absurd (omega (arith, one, says.some, zero_is))
 
--- the words of a replay by so many scrapers
-pub replay_is : (word bytes : List ℕ) (n : ℕ) → bytes ≡ word → (bytes ≡ decimal n) × (n ≤ most_scrapers) → 1 ≤ n → IsCommand (codes "replay" ∷ word ∷ []) (Replay (Some n))
-replay_is word bytes n same is some = record { spelled = ap (λ w. codes "replay" ∷ w ∷ []) (sym same ∙ is.0); limits = (some, is.1) }
+-- a word that says how many scrapers there are
+pub says_scrapers : (word bytes : List ℕ) (n : ℕ) → bytes ≡ word → (bytes ≡ decimal n) × (n ≤ most_scrapers) → 1 ≤ n → SaysScrapers word n
+says_scrapers word bytes n same is some = record { spelled = sym same ∙ is.0; some = some; few = is.1 }
+
+-- a number of scrapers is not written `page`
+pub number_no_page : (n : ℕ) → n ≤ most_scrapers → bytes_eq (decimal n) (codes "page") ≡ false
+number_no_page n few = not_alike (decimal n) (codes "page") (λ e. let value = (decimal_is_IsNumeral n (omega (arith, few))).1 in absurd (omega (arith, few, value, ap (digits_value 10) e)))

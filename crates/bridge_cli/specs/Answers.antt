@@ -13,7 +13,7 @@ use Rattle.bridge_cli.specs.PageAnswers.{page_setting, IsPageAnswer}
 use Rattle.bridge_cli.specs.CheckTexts.{checked_text}
 use Rattle.bridge_cli.specs.ConvertTexts.{converted_text}
 use Rattle.bridge_cli.specs.Limits.{most_script}
-use Rattle.bridge_cli.specs.Replays.{IsReplay, IsReplayOfSome}
+use Rattle.bridge_cli.specs.Replays.{IsReplayWith, IsReplayOfSome}
 
 -- what a command that prints always the same answers
 pub record IsFixedAnswer (fixed : List ℕ) (status : ℕ) (text : List ℕ) : Type 0 where
@@ -37,16 +37,16 @@ Answers Help bytes = IsFixedAnswer help_text
 Answers Version bytes = IsFixedAnswer version_text
 Answers (Check format) bytes = IsPageAnswer (page_setting format) checked_text bytes
 Answers (Convert format target nanos) bytes = IsPageAnswer (page_setting format) (converted_text target nanos) bytes
-Answers (Replay scrapers) bytes = IsScriptAnswer IsReplay bytes
+Answers (Replay scrapers page) bytes = IsScriptAnswer (IsReplayWith page) bytes
 
 -- what the program answers: the words fit no form, or a command answers
 pub data IsAnswer (words : List (List ℕ)) (bytes : List ℕ) : ℕ → List ℕ → Type 0 where
   no_form : FitNoForm words → IsAnswer words bytes (code_of NoForm) no_form_text
   answers : (command : Command) (status : ℕ) (text : List ℕ) → IsCommand words command → Answers command bytes status text → IsAnswer words bytes status text
 
--- what a command that prints in pieces has printed where it is cut off: a text of some of the events
+-- what a command that prints in pieces has printed where it is cut off: a text of some of the events, without the page
 abbrev pub CutAnswers : Command → List ℕ → List ℕ → Type 0
-CutAnswers (Replay scrapers) bytes text = (script : Script) × IsScriptInput script bytes × IsReplayOfSome script text
+CutAnswers (Replay scrapers page) bytes text = (script : Script) × IsScriptInput script bytes × IsReplayOfSome script text
 CutAnswers _ bytes text = ⊥
 
 -- a text of which a front may be written: that of an answer, or of a command that is cut off

@@ -1,5 +1,5 @@
 -- The words of the command line. The bridge's own.
-use Rattle.std.specs.Prelude.{◌≡◌, ℕ, ◌≤◌, Bool, true, false, List, [], ◌∷◌, length, codes, Option, Some, None, ⊤}
+use Rattle.std.specs.Prelude.{◌≡◌, ℕ, ◌≤◌, Bool, true, false, List, [], ◌∷◌, ◌++◌, length, codes, Option, Some, None, ⊤}
 use Rattle.std.specs.Fmt.{decimal}
 use Rattle.bridge_ports.specs.Targets.{Scraped}
 use Rattle.plain_words.specs.Places.{IsHostAndPort}
@@ -25,10 +25,21 @@ abbrev pub word_if : Option ℕ → List (List ℕ)
 word_if None = []
 word_if (Some n) = decimal n ∷ []
 
+-- the word that asks for the federation page
+abbrev pub page_word : Bool → List (List ℕ)
+page_word false = []
+page_word true = codes "page" ∷ []
+
 -- 1 to 4 scrapers, where their number is said
 abbrev pub AreScrapers : Option ℕ → Type 0
 AreScrapers None = ⊤
 AreScrapers (Some n) = (1 ≤ n) × (n ≤ most_scrapers)
+
+-- the word says so many scrapers
+pub record SaysScrapers (word : List ℕ) (n : ℕ) : Type 0 where
+  pub spelled : word ≡ decimal n
+  pub some : 1 ≤ n
+  pub few : n ≤ most_scrapers
 
 -- how many scrapers there are: 1 where their number isn't said
 abbrev pub scrapers_asked : Option ℕ → ℕ
@@ -43,7 +54,7 @@ words_of Help = codes "--help" ∷ []
 words_of Version = codes "--version" ∷ []
 words_of (Check format) = codes "check" ∷ format_word format ∷ []
 words_of (Convert format target nanos) = codes "convert" ∷ format_word format ∷ target.job ∷ target.instance ∷ decimal nanos ∷ []
-words_of (Replay scrapers) = codes "replay" ∷ word_if scrapers
+words_of (Replay scrapers page) = (codes "replay" ∷ word_if scrapers) ++ page_word page
 
 -- the ranges of a command's arguments
 abbrev pub IsInLimits : Command → Type 0
@@ -51,7 +62,7 @@ IsInLimits Help = ⊤
 IsInLimits Version = ⊤
 IsInLimits (Check format) = ⊤
 IsInLimits (Convert format target nanos) = IsTarget target × (nanos ≤ most_nanos)
-IsInLimits (Replay scrapers) = AreScrapers scrapers
+IsInLimits (Replay scrapers page) = AreScrapers scrapers
 
 -- the command reads the input
 abbrev pub reads_input : Command → Bool
@@ -59,7 +70,7 @@ reads_input Help = false
 reads_input Version = false
 reads_input (Check format) = true
 reads_input (Convert format target nanos) = true
-reads_input (Replay scrapers) = true
+reads_input (Replay scrapers page) = true
 
 -- the most bytes of the input that the command reads
 abbrev pub most_input : Command → ℕ
@@ -67,7 +78,7 @@ most_input Help = 0
 most_input Version = 0
 most_input (Check format) = most_page
 most_input (Convert format target nanos) = most_page
-most_input (Replay scrapers) = most_script
+most_input (Replay scrapers page) = most_script
 
 -- the command prints its text in pieces, as they are made
 abbrev pub prints_pieces : Command → Bool
@@ -75,7 +86,7 @@ prints_pieces Help = false
 prints_pieces Version = false
 prints_pieces (Check format) = false
 prints_pieces (Convert format target nanos) = false
-prints_pieces (Replay scrapers) = true
+prints_pieces (Replay scrapers page) = true
 
 -- the command takes memory
 abbrev pub takes_memory : Command → Bool
@@ -83,7 +94,7 @@ takes_memory Help = false
 takes_memory Version = false
 takes_memory (Check format) = true
 takes_memory (Convert format target nanos) = true
-takes_memory (Replay scrapers) = true
+takes_memory (Replay scrapers page) = true
 
 -- ---- what words ask for
 

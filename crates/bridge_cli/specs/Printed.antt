@@ -1,13 +1,14 @@
 -- What is to be printed, and what was.
 -- The bridge's own.
-use Rattle.std.specs.Prelude.{◌≡◌, ℕ, ◌≤◌, false, ◌∷◌, List, [], length, Option, Result, Ok, Err, ⊤}
+use Rattle.std.specs.Prelude.{◌≡◌, ℕ, ◌≤◌, Bool, false, ◌∷◌, ◌++◌, List, [], length, Option, Result, Ok, Err, ⊤}
 use Rattle.std.specs.Cow.{cow_slice_items}
 use Rattle.std.specs.Io.KnownBytes.{Appends}
 use Rattle.page_model.specs.declared.event.Event.{Event}
+use Rattle.page_model.specs.declared.event.Shown.{Shown}
 use Rattle.bridge_ports.specs.Causes.{Rose}
 use Rattle.bridge_ports.specs.Targets.{Scraped}
 use Rattle.bridge_ports.specs.declared.talk.MemoryReply.{MemoryReply}
-use Rattle.target_core.specs.States.{Following, StandsFor}
+use Rattle.target_core.specs.States.{Following, StandsFor, ShowsLatest}
 use Rattle.replay_script.specs.declared.header.Header.{Header}
 use Rattle.replay_script.specs.declared.script.ScriptTarget.{ScriptTarget}
 use Rattle.replay_script.specs.declared.script.Script.{Script}
@@ -19,7 +20,7 @@ use Rattle.bridge_cli.specs.declared.replaying.Cut.TheVariants.{Write, Memory}
 use Rattle.bridge_cli.specs.declared.status.Status.{Status}
 use Rattle.bridge_cli.specs.declared.status.Status.TheVariants.{Done, WriteFailed, WantOfMemory}
 use Rattle.bridge_cli.specs.Statuses.{code_of, IsTold}
-use Rattle.bridge_cli.specs.Replays.{script_tracking, IsReplyEvent, AreEvents, body_after, bodies_of, IsTextOfSome, IsTextOf, AreTexts, joined_texts, IsReplay, IsReplayOfSome}
+use Rattle.bridge_cli.specs.Replays.{script_tracking, IsReplyEvent, AreEvents, body_after, bodies_of, IsTextOfSome, IsTextOf, AreTexts, joined_texts, IsReplay, IsReplayOfSome, IsReplayWith, MayBeCut}
 use Rattle.bridge_cli.specs.declared.stop.Stop.{Stop}
 use Rattle.bridge_cli.specs.declared.words.Command.{Command}
 use Rattle.bridge_cli.specs.CommandWords.{AskForNo, prints_pieces}
@@ -31,27 +32,27 @@ use Rattle.bridge_cli.specs.ProgramOutputs.{WroteFront, HasAnswer, HasCutAnswer}
 -- this is the text that is to be printed
 abbrev pub Gives : Printed → List ℕ → Type 0
 Gives (Whole t) text = text ≡ cow_slice_items t
-Gives (Bodies script scrapers) text = IsReplay script text
+Gives (Bodies script scrapers page) text = IsReplayWith page script text
 
 -- this is a text of which a front may be printed
 abbrev pub GivesPart : Printed → List ℕ → Type 0
 GivesPart (Whole t) text = text ≡ cow_slice_items t
-GivesPart (Bodies script scrapers) text = IsReplayOfSome script text
+GivesPart (Bodies script scrapers page) text = MayBeCut page script text
 
 -- nothing is to be printed
 abbrev pub IsNothing : Printed → Type 0
 IsNothing (Whole t) = cow_slice_items t ≡ []
-IsNothing (Bodies script scrapers) = ⊥
+IsNothing (Bodies script scrapers page) = ⊥
 
 -- what is printed in pieces is a right script, and the command is done
 abbrev pub IsPrintable : Status → Printed → Type 0
 IsPrintable status (Whole t) = ⊤
-IsPrintable status (Bodies script scrapers) = IsRightScript script × (status ≡ Done)
+IsPrintable status (Bodies script scrapers page) = IsRightScript script × (status ≡ Done)
 
 -- what is printed isn't made in pieces
 abbrev pub IsWhole : Printed → Type 0
 IsWhole (Whole t) = ⊤
-IsWhole (Bodies script scrapers) = ⊥
+IsWhole (Bodies script scrapers page) = ⊥
 
 -- the status where printing in pieces is cut off
 abbrev pub cut_status : Cut → Status
@@ -59,7 +60,7 @@ cut_status Write = WriteFailed
 cut_status Memory = WantOfMemory
 
 -- the count of writes that failed rose only where that cut off what is printed
-abbrev pub CutCause : ℕ → ℕ → Result ⊤ Cut → Type 0
+abbrev pub CutCause : {T : Type 0} → ℕ → ℕ → Result T Cut → Type 0
 CutCause before now (Ok done) = now ≡ before
 CutCause before now (Err Write) = Rose before now
 CutCause before now (Err Memory) = now ≡ before
@@ -85,11 +86,26 @@ pub record PrintedSome (h : Header) (t : ScriptTarget) (at : ℕ) (state : Follo
   pub stands : StandsFor t.target (script_tracking h) state events
   pub written : Appends before after (bodies_of h t.target events)
 
+-- the state stands for all events of a target
+pub record StandsForAll (h : Header) (t : ScriptTarget) (state : Following) : Type 0 where
+  pub events : List Event
+  pub are : AreEvents h t.scrapes events
+  pub all : length events ≡ length t.scrapes
+  pub stands : StandsFor t.target (script_tracking h) state events
+
+-- what a state shows stands behind what others show
+abbrev pub ShowsLast : Following → List Shown → List Shown → Type 0
+ShowsLast state before after = (shown : Shown) × ShowsLatest state shown × (after ≡ before ++ shown ∷ [])
+
+-- what was printed of a target where it was cut off: a front of the bodies that were made
+abbrev pub CutsTarget : Header → ScriptTarget → Option (List ℕ) → Option (List ℕ) → Cut → Type 0
+CutsTarget h t before after Write = (text : List ℕ) × IsTextOfSome h t text × WroteFront before after text
+CutsTarget h t before after Memory = (text : List ℕ) × IsTextOfSome h t text × Appends before after text
+
 -- what printing the bodies of a target came to: all are printed, or a front of those that were made
-abbrev pub PrintsTarget : Header → ScriptTarget → Option (List ℕ) → Option (List ℕ) → Result ⊤ Cut → Type 0
+abbrev pub PrintsTarget : {T : Type 0} → Header → ScriptTarget → Option (List ℕ) → Option (List ℕ) → Result T Cut → Type 0
 PrintsTarget h t before after (Ok done) = (text : List ℕ) × IsTextOf h t text × Appends before after text
-PrintsTarget h t before after (Err Write) = (text : List ℕ) × IsTextOfSome h t text × WroteFront before after text
-PrintsTarget h t before after (Err Memory) = (text : List ℕ) × IsTextOfSome h t text × Appends before after text
+PrintsTarget h t before after (Err cut) = CutsTarget h t before after cut
 
 -- the texts of so many targets were printed
 pub record PrintedTargets (s : Script) (at : ℕ) (before after : Option (List ℕ)) : Type 0 where
@@ -104,11 +120,27 @@ pub data Ended (status : Status) (p : Printed) (before after : Option (List ℕ)
   stopped : (text : List ℕ) → GivesPart p text → WroteFront before after text → Ended status p before after (code_of WriteFailed)
   wanting : (text : List ℕ) → GivesPart p text → Appends before after text → ¬ IsWhole p → Ended status p before after (code_of WantOfMemory)
 
+-- what was printed of the bodies of a script where they were cut off
+abbrev pub CutsBodies : Script → Option (List ℕ) → Option (List ℕ) → Cut → Type 0
+CutsBodies s before after Write = (text : List ℕ) × IsReplayOfSome s text × WroteFront before after text
+CutsBodies s before after Memory = (text : List ℕ) × IsReplayOfSome s text × Appends before after text
+
 -- what printing the bodies of a script came to
-abbrev pub PrintsScript : Script → Option (List ℕ) → Option (List ℕ) → Result ⊤ Cut → Type 0
-PrintsScript s before after (Ok done) = (text : List ℕ) × IsReplay s text × Appends before after text
-PrintsScript s before after (Err Write) = (text : List ℕ) × IsReplayOfSome s text × WroteFront before after text
-PrintsScript s before after (Err Memory) = (text : List ℕ) × IsReplayOfSome s text × Appends before after text
+abbrev pub PrintsBodies : {T : Type 0} → Script → Option (List ℕ) → Option (List ℕ) → Result T Cut → Type 0
+PrintsBodies s before after (Ok done) = (text : List ℕ) × IsReplay s text × Appends before after text
+PrintsBodies s before after (Err cut) = CutsBodies s before after cut
+
+-- what printing a text came to
+abbrev pub PrintsText : List ℕ → Option (List ℕ) → Option (List ℕ) → Result ⊤ Cut → Type 0
+PrintsText text before after (Ok done) = Appends before after text
+PrintsText text before after (Err Write) = WroteFront before after text
+PrintsText text before after (Err Memory) = Appends before after []
+
+-- what printing a script came to, with its page or without it: at want of memory no part of the page is printed
+abbrev pub PrintsScript : Bool → Script → Option (List ℕ) → Option (List ℕ) → Result ⊤ Cut → Type 0
+PrintsScript page s before after (Ok done) = (text : List ℕ) × IsReplayWith page s text × Appends before after text
+PrintsScript page s before after (Err Write) = (text : List ℕ) × MayBeCut page s text × WroteFront before after text
+PrintsScript page s before after (Err Memory) = (text : List ℕ) × IsReplayOfSome s text × Appends before after text
 
 -- ---- what a command and words have printed
 
@@ -140,7 +172,7 @@ pub record IsPrintedFor (words : List (List ℕ)) (left : Option (List ℕ)) (st
 -- the answer to a stop is printed whole
 abbrev pub IsStopPrinted : Stop → Status → Printed → Type 0
 IsStopPrinted stop status (Whole t) = IsStopAnswer stop status (cow_slice_items t)
-IsStopPrinted stop status (Bodies script scrapers) = ⊥
+IsStopPrinted stop status (Bodies script scrapers page) = ⊥
 
 -- the bytes on the input are these, and no more than so many
 pub record HoldsBytes (most : ℕ) (left : Option (List ℕ)) (bytes : List ℕ) : Type 0 where

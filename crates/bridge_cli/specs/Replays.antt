@@ -1,14 +1,17 @@
--- What `replay` prints: what the replies of a script come to, and the texts of these events.
--- OTLP/HTTP, JSON; the line feeds and the rest are the bridge's own.
-use Rattle.std.specs.Prelude.{◌≡◌, ℕ, List, [], ◌∷◌, ◌++◌, length, codes, slice_get, Some, ⊤}
+-- What `replay` prints: what the replies of a script come to, the texts of these events, and the federation page behind them.
+-- OTLP/HTTP, JSON; Prometheus, "Federation"; the line feeds and the rest are the bridge's own.
+use Rattle.std.specs.Prelude.{◌≡◌, ◌⊎◌, ℕ, Bool, true, false, List, [], ◌∷◌, ◌++◌, length, codes, slice_get, Some, ⊤}
+use Rattle.std.specs.List.{AllZip}
 use Rattle.page_model.specs.declared.event.Event.{Event}
+use Rattle.page_model.specs.declared.event.Shown.{Shown}
 use Rattle.bridge_ports.specs.Targets.{Scraped}
 use Rattle.bridge_ports.specs.declared.talk.MemoryReply.{MemoryReply}
 use Rattle.bridge_ports.specs.declared.talk.Talk.{Talk}
 use Rattle.http_talk.specs.Replies.{HasOutcome}
 use Rattle.start_times.specs.Starts.{Tracking}
-use Rattle.target_core.specs.Events.{request_after}
+use Rattle.target_core.specs.Events.{request_after, latest_shown}
 use Rattle.otlp_json.specs.Texts.{request_text}
+use Rattle.target_table.specs.Paging.{federated_text}
 use Rattle.replay_script.specs.declared.header.Header.{Header}
 use Rattle.replay_script.specs.declared.script.ScriptTarget.{ScriptTarget}
 use Rattle.replay_script.specs.declared.script.Script.{Script}
@@ -79,7 +82,7 @@ abbrev pub joined_texts : List (List ℕ) → List ℕ
 joined_texts [] = []
 joined_texts (text ∷ earlier) = joined_texts earlier ++ text
 
--- a text is what `replay` prints of a script: the texts of all events of each target, in order
+-- a text is what `replay` prints of a script without its page: the texts of all events of each target, in order
 pub record IsReplay (s : Script) (text : List ℕ) : Type 0 where
   pub texts : List (List ℕ)
   pub are : AreTexts s texts
@@ -95,3 +98,39 @@ pub record IsReplayOfSome (s : Script) (text : List ℕ) : Type 0 where
   pub part : List ℕ
   pub is_part : IsTextOfSome s.header target part
   pub says : text ≡ joined_texts texts ++ part
+
+-- ---- the page
+
+-- this is what a target shows behind its last event
+pub record IsLastShown (h : Header) (t : ScriptTarget) (shown : Shown) : Type 0 where
+  pub events : List Event
+  pub are : AreEvents h t.scrapes events
+  pub all : length events ≡ length t.scrapes
+  pub shows : shown ≡ latest_shown t.target events
+
+-- each of these is what the target at its place shows behind its last event
+abbrev pub AreLastShown : Header → List ScriptTarget → List Shown → Type 0
+AreLastShown h targets shown = AllZip (IsLastShown h) targets shown
+
+-- a text is that of the federation page of what the targets of a script show behind their last events, in order
+pub record IsReplayPage (s : Script) (text : List ℕ) : Type 0 where
+  pub shown : List Shown
+  pub are : AreLastShown s.header s.targets shown
+  pub says : text ≡ federated_text shown
+
+-- a text is what `replay page` prints of a script: the texts of all events, and behind them that of the page
+pub record IsReplayAndPage (s : Script) (text : List ℕ) : Type 0 where
+  pub bodies : List ℕ
+  pub page : List ℕ
+  pub are_bodies : IsReplay s bodies
+  pub is_page : IsReplayPage s page
+  pub says : text ≡ bodies ++ page
+
+-- a text is what `replay` prints of a script, with its page or without it
+abbrev pub IsReplayWith : Bool → Script → List ℕ → Type 0
+IsReplayWith false = IsReplay
+IsReplayWith true = IsReplayAndPage
+
+-- a text is one of which `replay` may print a front: that up to some event of a target, or all
+abbrev pub MayBeCut : Bool → Script → List ℕ → Type 0
+MayBeCut page s text = IsReplayOfSome s text ⊎ IsReplayWith page s text

@@ -19,8 +19,12 @@ pub(crate) enum Printed {
     /// A text.
     Whole(CowSlice<'static, u8>),
     /// The bodies of a script, whose targets are visited by so many scrapers at once. Each body is made when the one
-    /// before it is printed.
-    Bodies { script: Script, scrapers: u32 },
+    /// before it is printed. Behind them, where it is asked for, the federation page of what the targets show.
+    Bodies {
+        script: Script,
+        scrapers: u32,
+        page: bool,
+    },
 }
 
 /// What the program prints, and the status that it ends with.

@@ -54,10 +54,14 @@ pub(crate) fn run<I: Source>(
         } => Ok(Printed::Whole(CowSlice::Owned(convert::convert(
             alloc, format, &target, nanos, input,
         )?))),
-        Command::Replay { scrapers } => {
+        Command::Replay { scrapers, page } => {
             let scrapers = scrapers_of(scrapers);
             let script = whole_script(alloc, input)?;
-            Ok(Printed::Bodies { script, scrapers })
+            Ok(Printed::Bodies {
+                script,
+                scrapers,
+                page,
+            })
         }
     }
 }

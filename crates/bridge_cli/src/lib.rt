@@ -7,6 +7,7 @@ mod digits;
 mod limits;
 mod output;
 mod pages;
+mod printing;
 mod program;
 mod replaying;
 mod scripts;

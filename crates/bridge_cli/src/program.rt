@@ -14,7 +14,7 @@ ghost use Rattle.bridge_cli.specs.Stops.{ReadCause, IsUnread, TakesMemory};
 use crate::answer::{Answer, Printed, stop_answer};
 use crate::commands::run;
 use crate::output::write_all;
-use crate::replaying::print_script;
+use crate::printing::print_script;
 use crate::status::Status;
 use crate::stop::Stop;
 use crate::words::command;
@@ -82,12 +82,14 @@ fn print<R: Threads + Wait + Sync, O: Sink>(
             Ok(()) => answer.status.code(),
             Err(Failed) => Status::WriteFailed.code(),
         },
-        Printed::Bodies { script, scrapers } => {
-            match print_script(rt, alloc, script, *scrapers, output) {
-                Ok(()) => answer.status.code(),
-                Err(cut) => cut.status().code(),
-            }
-        }
+        Printed::Bodies {
+            script,
+            scrapers,
+            page,
+        } => match print_script(rt, alloc, script, *scrapers, *page, output) {
+            Ok(()) => answer.status.code(),
+            Err(cut) => cut.status().code(),
+        },
     }
 }
 
@@ -99,8 +101,8 @@ fn print<R: Threads + Wait + Sync, O: Sink>(
 /// - 2, exactly where the words fit no form: the output has the line `words`, and nothing was read;
 /// - 3, exactly where the input's count of faults rose: nothing was written, and no more was taken than the limit;
 /// - 4, exactly where the output's count of faults rose: a front of the text was written, and not all of it;
-/// - 6, want of memory: nothing was written, or of `replay` the bodies that were made before, and no more was
-///   taken than the limit. `--help`, `--version` and words that fit no form take none;
+/// - 6, want of memory: nothing was written, or of `replay` the bodies that were made before, without its page, and
+///   no more was taken than the limit. `--help`, `--version` and words that fit no form take none;
 /// - 7, exactly where the script on the input has a fault: the output has its line, with the number of the fault's;
 /// - 8, exactly where more than the limit was taken of the input: the output has the line `input too long`.
 ///
@@ -109,7 +111,8 @@ fn print<R: Threads + Wait + Sync, O: Sink>(
 /// A source that does not tell its bytes has some bytes, and the answer is to those.
 ///
 /// `replay` starts threads and waits for them, so what is said here holds where the call returns. Its answer is the
-/// same for every number of scrapers.
+/// same for every number of scrapers. With the word `page` the federation page of what the targets show behind their
+/// last scrapes follows the bodies.
 pub fn bridge<R: Threads + Wait + Sync, I: Source, O: Sink>(
     rt: &R,
     alloc: Global,

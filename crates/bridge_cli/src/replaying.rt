@@ -1,23 +1,29 @@
-//! The bodies of a script's events, which are printed one after the other as they are made.
-ghost use Rattle.std.specs.Prelude.{◌≡◌, ◌≤◌, [], List as Seq, IfOk, OnOk, length, EachIndex, slice_index};
+//! The bodies of a script's events, which are printed one after the other as they are made, and what targets show
+//! behind them.
+ghost use Rattle.std.specs.Prelude.{◌≡◌, ◌≤◌, ◌∷◌, ◌++◌, [], true, List as Seq, IfOk, OnOk, length, EachIndex, slice_index};
 ghost use Rattle.bridge_ports.specs.Targets.{Scraped};
 ghost use Rattle.page_model.specs.declared.event.Event.{Event as AnyEvent};
 ghost use Rattle.target_core.specs.States.{StandsFor, HasNextMoment};
 ghost use Rattle.replay_script.specs.RightScripts.{IsOver, IsRightHeader, IsRightTarget, IsRightScript};
-ghost use Rattle.bridge_cli.specs.Replays.{script_tracking};
-ghost use Rattle.bridge_cli.specs.Rounds.{IsVisitedThrough};
-ghost use Rattle.bridge_cli.specs.Printed.{cut_status, CutCause, MakesBody, PrintsNext, PrintsTarget, PrintsScript};
+ghost use Rattle.bridge_cli.specs.Replays.{script_tracking, AreLastShown};
+ghost use Rattle.bridge_cli.specs.Printed.{
+  cut_status,
+  CutCause,
+  MakesBody,
+  PrintsNext,
+  PrintsTarget,
+  PrintsBodies,
+  StandsForAll,
+  ShowsLast,
+};
 
 use crate::output::write_all;
 use crate::status::Status;
-use crate::turns::visits_made;
 use bridge_ports::{Failed, MemoryReply, Sink};
-use page_model::Event;
+use page_model::{Event, Shown};
 use replay_script::{Header, Script, ScriptTarget};
 use scrape_client::outcome;
 use std::alloc::{AllocError, Global};
-use std::sync::Wait;
-use std::thread::Threads;
 use target_core::TargetState;
 
 /// Why printing in pieces was cut off.
@@ -97,8 +103,8 @@ fn print_next<O: Sink>(
     }
 }
 
-/// Prints the bodies of the visits of a target that were counted, over a state that stands for no event. Where
-/// fewer than all were, memory was wanted.
+/// Prints the bodies of the visits of a target that were counted, over a state that stands for no event, and gives
+/// the state behind them. Where fewer than all were, memory was wanted.
 fn print_replies<O: Sink>(
     alloc: Global,
     header: &Header,
@@ -106,13 +112,14 @@ fn print_replies<O: Sink>(
     visits: u64,
     start: TargetState,
     output: &mut O,
-) -> Result<(), Cut>
+) -> Result<TargetState, Cut>
     requires right { IsRightHeader header.now }
     requires target { IsRightTarget header.now target.now }
     requires fresh { StandsFor target.now.target (script_tracking header.now) start [] }
     ensures printed { PrintsTarget header.now target.now (O.held output.old) (O.held output.new) result }
     ensures cause { CutCause (O.write_faults output.old) (O.write_faults output.new) result }
     ensures visited { OnOk result (length target.now.scrapes ≤ visits) }
+    ensures stands { IfOk result (StandsForAll header.now target.now) }
 {
     let mut state = start;
     let mut body = Vec::new(alloc);
@@ -127,22 +134,23 @@ fn print_replies<O: Sink>(
             Err(cut) => return Err(cut),
         }
     }
-    Ok(())
+    Ok(state)
 }
 
-/// Prints the bodies of the visits of a target that were counted.
+/// Prints the bodies of the visits of a target that were counted, and gives its state behind them.
 fn print_target<O: Sink>(
     alloc: Global,
     header: &Header,
     target: &ScriptTarget,
     visits: u64,
     output: &mut O,
-) -> Result<(), Cut>
+) -> Result<TargetState, Cut>
     requires right { IsRightHeader header.now }
     requires target { IsRightTarget header.now target.now }
     ensures printed { PrintsTarget header.now target.now (O.held output.old) (O.held output.new) result }
     ensures cause { CutCause (O.write_faults output.old) (O.write_faults output.new) result }
     ensures visited { OnOk result (length target.now.scrapes ≤ visits) }
+    ensures stands { IfOk result (StandsForAll header.now target.now) }
 {
     match new_state(alloc, header, target) {
         Ok(state) => print_replies(alloc, header, target, visits, state, output),
@@ -163,45 +171,46 @@ fn new_state(
     TargetState::new(alloc, copied, header.keep)
 }
 
-/// Prints the bodies of a script's targets in order, so many of each as visits of it were counted.
-fn print_targets<O: Sink>(
-    alloc: Global,
-    script: &Script,
-    visits: &[u64],
-    output: &mut O,
-) -> Result<(), Cut>
-    requires right { IsRightScript script.now }
-    requires each { length visits.now ≡ length script.now.targets }
-    ensures printed { PrintsScript script.now (O.held output.old) (O.held output.new) result }
-    ensures cause { CutCause (O.write_faults output.old) (O.write_faults output.new) result }
-    ensures visited { OnOk result (EachIndex visits.now (λ k. script.now.header.rounds ≤ slice_index visits.now k)) }
+/// Puts what a target shows behind the others, where the page is asked for.
+fn keep_shown(page: bool, state: TargetState, shown: &mut Vec<Shown>) -> Result<(), AllocError>
+    ensures { page ≡ true → OnOk result (ShowsLast state shown.old.items shown.new.items) }
 {
-    let targets = script.targets.as_slice();
-    let mut at = 0usize;
-    while at < targets.len() {
-        match print_target(alloc, &script.header, &targets[at], visits[at], output) {
-            Ok(()) => at += 1,
-            Err(cut) => return Err(cut),
-        }
+    if !page {
+        return Ok(());
     }
+    let last = state.latest()?;
+    shown.push(last)?;
     Ok(())
 }
 
-/// Visits the targets of a script by so many scrapers, and prints the bodies of their visits.
-pub(crate) fn print_script<R: Threads + Wait + Sync, O: Sink>(
-    rt: &R,
+/// Prints the bodies of a script's targets in order, so many of each as visits of it were counted. Gives what each
+/// target shows behind its last event, where the page is asked for.
+pub(crate) fn print_targets<O: Sink>(
     alloc: Global,
     script: &Script,
-    scrapers: u32,
+    visits: &[u64],
+    page: bool,
     output: &mut O,
-) -> Result<(), Cut>
-    requires { IsRightScript script.now }
-    ensures printed { PrintsScript script.now (O.held output.old) (O.held output.new) result }
+) -> Result<Vec<Shown>, Cut>
+    requires right { IsRightScript script.now }
+    requires each { length visits.now ≡ length script.now.targets }
+    ensures printed { PrintsBodies script.now (O.held output.old) (O.held output.new) result }
     ensures cause { CutCause (O.write_faults output.old) (O.write_faults output.new) result }
-    ensures visited { OnOk result (IsVisitedThrough script.now) }
+    ensures visited { OnOk result (EachIndex visits.now (λ k. script.now.header.rounds ≤ slice_index visits.now k)) }
+    ensures shown { page ≡ true → IfOk result (λ shown. AreLastShown script.now.header script.now.targets shown.items) }
 {
-    match visits_made(rt, alloc, script, scrapers) {
-        Ok(visits) => print_targets(alloc, script, visits.as_slice(), output),
-        Err(AllocError) => Err(Cut::Memory),
+    let targets = script.targets.as_slice();
+    let mut shown = Vec::new(alloc);
+    let mut at = 0usize;
+    while at < targets.len() {
+        let state = match print_target(alloc, &script.header, &targets[at], visits[at], output) {
+            Ok(state) => state,
+            Err(cut) => return Err(cut),
+        };
+        match keep_shown(page, state, &mut shown) {
+            Ok(()) => at += 1,
+            Err(AllocError) => return Err(Cut::Memory),
+        }
     }
+    Ok(shown)
 }

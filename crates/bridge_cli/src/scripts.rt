@@ -1,10 +1,10 @@
 //! The script on an input.
-ghost use Rattle.std.specs.Prelude.{◌≡◌, IfOk, IfErr};
+ghost use Rattle.std.specs.Prelude.{◌≡◌, Bool, IfOk, IfErr};
 ghost use Rattle.bridge_cli.specs.Limits.{most_script};
 ghost use Rattle.bridge_cli.specs.Answers.{IsScriptAnswer};
 ghost use Rattle.bridge_cli.specs.PageInputs.{Leaves};
 ghost use Rattle.bridge_cli.specs.Printed.{HoldsBytes, HoldsScript};
-ghost use Rattle.bridge_cli.specs.Replays.{IsReplay};
+ghost use Rattle.bridge_cli.specs.Replays.{IsReplayWith};
 ghost use Rattle.bridge_cli.specs.StopAnswers.{StopsAs};
 
 use crate::limits::{BLOCK_BYTES, MOST_SCRIPT_BYTES};
@@ -16,7 +16,7 @@ use std::alloc::Global;
 /// The bytes of a script on an input.
 fn script_bytes<I: Source>(alloc: Global, input: &mut I) -> Result<Vec<u8>, Stop>
     ensures bytes { IfOk result (λ bytes. HoldsBytes most_script (I.left input.old) bytes.items) }
-    ensures stop { IfErr result (StopsAs (IsScriptAnswer IsReplay) (I.left input.old)) }
+    ensures stop { (page : Bool) → IfErr result (StopsAs (IsScriptAnswer (IsReplayWith page)) (I.left input.old)) }
     ensures input { Leaves most_script (I.left input.old) (I.left input.new)
         (I.read_faults input.old) (I.read_faults input.new) result }
 {
@@ -37,7 +37,7 @@ fn script_bytes<I: Source>(alloc: Global, input: &mut I) -> Result<Vec<u8>, Stop
 /// The script on an input.
 pub(crate) fn whole_script<I: Source>(alloc: Global, input: &mut I) -> Result<Script, Stop>
     ensures script { IfOk result (HoldsScript (I.left input.old)) }
-    ensures stop { IfErr result (StopsAs (IsScriptAnswer IsReplay) (I.left input.old)) }
+    ensures stop { (page : Bool) → IfErr result (StopsAs (IsScriptAnswer (IsReplayWith page)) (I.left input.old)) }
     ensures input { Leaves most_script (I.left input.old) (I.left input.new)
         (I.read_faults input.old) (I.read_faults input.new) result }
 {

@@ -314,13 +314,17 @@ fn checked_pages(rt: HostRuntime) {
     }
 }
 
-const FAULTY_WORDS: [&[&str]; 18] = [
+const FAULTY_WORDS: [&[&str]; 22] = [
     &[],
     &["replay", "5"],
     &["replay", "0"],
     &["replay", "01"],
     &["replay", "all"],
     &["replay", "1", "2"],
+    &["replay", "page", "2"],
+    &["replay", "page", "page"],
+    &["replay", "0", "page"],
+    &["replay", "2", "page", "x"],
     &["load", "1", "64", "313"],
     &["check", "json"],
     &["check", "--help"],

@@ -31,5 +31,7 @@ pub enum Command {
     Replay {
         /// How many scrapers visit the targets at once, from 1 to 4, where the words say it.
         scrapers: Option<u32>,
+        /// Whether the federation page is printed behind the bodies.
+        page: bool,
     },
 }

@@ -11,10 +11,11 @@ bridge check FORMAT
 bridge convert FORMAT JOB INSTANCE NANOS
     reads a page on the input and prints the OTLP JSON text of one event
     bridge convert openmetrics app localhost:8000 1700000000000000000
-bridge replay [SCRAPERS]
+bridge replay [SCRAPERS] [page]
     reads a script on the input and prints the OTLP JSON text of each of its scrapes;
-    SCRAPERS, 1 to 4, is how many targets are visited at once, 1 where it is left out
-    bridge replay 4
+    SCRAPERS, 1 to 4, is how many targets are visited at once, 1 where it is left out;
+    with page, the federation page of what the targets show at the end follows
+    bridge replay 4 page
 bridge --help
     prints these lines
 bridge --version

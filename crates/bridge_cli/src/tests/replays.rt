@@ -1,5 +1,9 @@
 //! What `replay` prints of scripts.
 use super::{ROOM, joined, run};
+use label_sets::Memory;
+use std::alloc::Global;
+use std::sync::Wait;
+use std::thread::Threads;
 
 // A counter that falls between its second and its third scrape.
 const FALLS: &[u8] =
@@ -219,4 +223,71 @@ fn replayed_targets(rt: HostRuntime) {
         assert_eq!(rt; ended.status, 0);
         assert!(rt; ended.output.held() == alone.as_slice(), "{scrapers}");
     }
+}
+
+// A gauge of one target, and of another a histogram of its name; their labels have the name of one of the target.
+const TWO_KINDS: &[u8] =
+    b"bridge-script 1\nrounds 1\ntarget a h1:80 /metrics\npage 1 text 28\n# TYPE x gauge\nx{job=\"z\"} 1\n\ntarget b h2:80 /metrics\npage 1 text 81\n# TYPE x histogram\nx_bucket{job=\"z\",le=\"+Inf\"} 2\nx_count{job=\"z\"} 2\ny{job=\"z\"} 3\n\n";
+
+const TWO_KINDS_PAGE: &str =
+    "# TYPE x gauge\nx{exported_job=\"z\",instance=\"h1:80\",job=\"a\"} 1\n# TYPE y unknown\ny{exported_job=\"z\",instance=\"h2:80\",job=\"b\"} 3\n# EOF\n";
+
+// Of the last scrapes one gives a page, the other none.
+const LAST_FAILED: &[u8] =
+    b"bridge-script 1\nrounds 2\ntarget b h:1 /metrics\npage 1 text 4\nx 1\n\nscrape 2 connect 0\n\ntarget a h:1 /metrics\nscrape 1 connect 0\n\npage 2 text 4\nx 2\n\n";
+
+// Scripts, and the page behind their bodies.
+const PAGES: [(&[u8], &str); 3] = [
+    (TWO_KINDS, TWO_KINDS_PAGE),
+    (
+        FALLS,
+        "# TYPE c unknown\nc{instance=\"h:1\",job=\"j\"} 4\n# EOF\n",
+    ),
+    (
+        LAST_FAILED,
+        "# TYPE x unknown\nx{instance=\"h:1\",job=\"a\"} 2\n# EOF\n",
+    ),
+];
+
+const PAGED: [&[&str]; 3] = [
+    &["replay", "page"],
+    &["replay", "2", "page"],
+    &["replay", "4", "page"],
+];
+
+/// The bodies of a script, and a page behind them.
+fn with_page<R: Threads + Wait + Sync>(
+    rt: &R,
+    alloc: Global,
+    script: &[u8],
+    page: &str,
+) -> Result<Vec<u8>, Memory> {
+    let bodies = run(rt, alloc, &["replay"], script, None, ROOM)?;
+    let mut text = Vec::from_slice(alloc, bodies.output.held())?;
+    text.extend_from_slice(page.as_bytes())?;
+    Ok(text)
+}
+
+#[test]
+fn replayed_pages(rt: HostRuntime) {
+    let alloc = rt.alloc();
+    for (script, page) in &PAGES {
+        let text = with_page(&rt, alloc, script, page).expect(&rt, "memory");
+        for words in &PAGED {
+            let ended = run(&rt, alloc, words, script, None, ROOM).expect(&rt, "memory");
+            assert_eq!(rt; ended.status, 0);
+            assert!(rt; ended.output.held() == text.as_slice(), "{page}");
+        }
+    }
+}
+
+// An output with room for the bodies and some of the page.
+#[test]
+fn page_cut_off(rt: HostRuntime) {
+    let alloc = rt.alloc();
+    let text = with_page(&rt, alloc, FALLS, "# TYPE c unk").expect(&rt, "memory");
+    let room = text.len() as u64;
+    let ended = run(&rt, alloc, &["replay", "page"], FALLS, None, room).expect(&rt, "memory");
+    assert_eq!(rt; ended.status, 4);
+    assert!(rt; ended.output.held() == text.as_slice());
 }

@@ -1,7 +1,7 @@
 //! The forms of the command line.
 ghost use Rattle.std.specs.Prelude.{◌≡◌, ◌≢◌, List, ℕ, [], ◌∷◌, map, codes, string_bytes, IfOk, IfSome, IfNone, OnErr};
 ghost use Rattle.page_model.specs.declared.format.Format.{Format as AnyFormat};
-ghost use Rattle.bridge_cli.specs.CommandWords.{IsCommand, FitNoForm, AskFor, takes_memory};
+ghost use Rattle.bridge_cli.specs.CommandWords.{IsCommand, FitNoForm, AskFor, SaysScrapers, takes_memory};
 ghost use Rattle.replay_script.specs.ScriptParts.{format_word};
 
 use super::Command;
@@ -23,7 +23,10 @@ fn lone_word(word: &str) -> Option<Command>
         return Some(Command::Version);
     }
     if word == "replay" {
-        return Some(Command::Replay { scrapers: None });
+        return Some(Command::Replay {
+            scrapers: None,
+            page: false,
+        });
     }
     None
 }
@@ -47,21 +50,53 @@ fn check_of(format: &str) -> Option<Command>
     }
 }
 
-/// The replay that the word behind `replay` asks for.
-fn replay_by(scrapers: &str) -> Option<Command>
-    ensures found { IfSome result (IsCommand (codes "replay" ∷ scrapers.now ∷ [])) }
-    ensures none { IfNone result (FitNoForm (codes "replay" ∷ scrapers.now ∷ [])) }
+/// The number of scrapers that a word says.
+fn scrapers_in(word: &str) -> Option<u32>
+    ensures found { IfSome result (SaysScrapers word.now) }
+    ensures none { IfNone result ((n : ℕ) → ¬ SaysScrapers word.now n) }
 {
-    let count = match number(scrapers.as_bytes(), MOST_SCRAPERS) {
+    let count = match number(word.as_bytes(), MOST_SCRAPERS) {
         Some(count) => count,
         None => return None,
     };
     if count == 0 {
         return None;
     }
-    Some(Command::Replay {
-        scrapers: Some(count as u32),
-    })
+    Some(count as u32)
+}
+
+/// The replay that the word behind `replay` asks for.
+fn replay_by(word: &str) -> Option<Command>
+    ensures found { IfSome result (IsCommand (codes "replay" ∷ word.now ∷ [])) }
+    ensures none { IfNone result (FitNoForm (codes "replay" ∷ word.now ∷ [])) }
+{
+    if word == "page" {
+        return Some(Command::Replay {
+            scrapers: None,
+            page: true,
+        });
+    }
+    match scrapers_in(word) {
+        Some(count) => Some(Command::Replay {
+            scrapers: Some(count),
+            page: false,
+        }),
+        None => None,
+    }
+}
+
+/// The replay with its page that a number of scrapers asks for.
+fn replay_page_by(scrapers: &str) -> Option<Command>
+    ensures found { IfSome result (IsCommand (codes "replay" ∷ scrapers.now ∷ codes "page" ∷ [])) }
+    ensures none { IfNone result (FitNoForm (codes "replay" ∷ scrapers.now ∷ codes "page" ∷ [])) }
+{
+    match scrapers_in(scrapers) {
+        Some(count) => Some(Command::Replay {
+            scrapers: Some(count),
+            page: true,
+        }),
+        None => None,
+    }
 }
 
 /// The command that two words ask for.
@@ -76,6 +111,20 @@ fn two_words(verb: &str, word: &str) -> Option<Command>
         return replay_by(word);
     }
     None
+}
+
+/// The command that three words ask for.
+fn three_words(verb: &str, scrapers: &str, page: &str) -> Option<Command>
+    ensures found { IfSome result (IsCommand (verb.now ∷ scrapers.now ∷ page.now ∷ [])) }
+    ensures none { IfNone result (FitNoForm (verb.now ∷ scrapers.now ∷ page.now ∷ [])) }
+{
+    if verb != "replay" {
+        return None;
+    }
+    if page != "page" {
+        return None;
+    }
+    replay_page_by(scrapers)
 }
 
 /// The conversion that a format, a job, an instance and a time ask for.
@@ -124,6 +173,7 @@ pub(crate) fn command(alloc: Global, words: &[String]) -> Result<Option<Command>
     match words {
         [word] => Ok(lone_word(word.as_str())),
         [verb, word] => Ok(two_words(verb.as_str(), word.as_str())),
+        [verb, scrapers, page] => Ok(three_words(verb.as_str(), scrapers.as_str(), page.as_str())),
         [verb, format, job, instance, time] => {
             if verb.as_str() != "convert" {
                 return Ok(None);

@@ -2,7 +2,7 @@ use Rattle.std.proofs.Common.{◌∙◌}
 use Rattle.bridge_cli.specs.declared.words.Command.TheVariants.{Help, Version, Check, Convert}
 use Rattle.bridge_cli.specs.HelpTexts.{help_text, version_text}
 use Rattle.bridge_cli.specs.Answers.{Answers, IsScriptAnswer}
-use Rattle.bridge_cli.specs.Replays.{IsReplay}
+use Rattle.bridge_cli.specs.Replays.{IsReplayWith}
 use Rattle.bridge_cli.specs.StopAnswers.{StopsAs}
 use Rattle.bridge_cli.proofs.AnswerLaws.{fixed_answer}
 use Rattle.bridge_cli.proofs.PageLaws.{stop_has}
@@ -26,8 +26,8 @@ returns-in_ok-convert-in-Convert-clause-text g c =
     (λ text e. same_text (Answers (Convert c.in-Convert.format c.in-Convert.target c.in-Convert.nanos)) _ _ _ text c.in_ok-convert-in-Convert.ensures.text e))
 
 pub returns-in_ok-script-in-Replay-clause-text : goal.returns-in_ok-script-in-Replay-clause-text
-returns-in_ok-script-in-Replay-clause-text g c = rw c.in-Replay.is (bodies_printed c.in-Replay.scrapers _ c.in_ok-script-in-Replay.script c.scrapers_of-scrapers.result c.in_ok-script-in-Replay.ensures.script)
+returns-in_ok-script-in-Replay-clause-text g c = rw c.in-Replay.is (bodies_printed c.in-Replay.scrapers c.in-Replay.page _ c.in_ok-script-in-Replay.script c.scrapers_of-scrapers.result c.in_ok-script-in-Replay.ensures.script)
 
 pub returns-in_err-script-in-Replay-clause-stop : goal.returns-in_err-script-in-Replay-clause-stop
 returns-in_err-script-in-Replay-clause-stop g c =
-    rw c.in-Replay.is (stop_has (StopsAs (IsScriptAnswer IsReplay) _) _ _ c.from_residual-in_err-script-in-Replay.ensures.1 c.in_err-script-in-Replay.ensures.stop)
+    rw c.in-Replay.is (stop_has (StopsAs (IsScriptAnswer (IsReplayWith c.in-Replay.page)) _) _ _ c.from_residual-in_err-script-in-Replay.ensures.1 (c.in_err-script-in-Replay.ensures.stop c.in-Replay.page))

@@ -15,7 +15,7 @@ returns-in-Ok-print_script-clause-ended g c =
 
 pub returns-in-Err-print_script-clause-ended : goal.returns-in-Err-print_script-clause-ended
 returns-in-Err-print_script-clause-ended g c =
-    print_cut _ _ c.in-Bodies.script c.in-Bodies.scrapers _ _ _ c.in-Err-print_script.cut c.in-Bodies.is c.in-Err-print_script.ensures.printed (c.code-in-Err-print_script.ensures ∙ ap code_of c.status.ensures)
+    print_cut _ _ c.in-Bodies.script c.in-Bodies.scrapers c.in-Bodies.page _ _ _ c.in-Err-print_script.cut c.in-Bodies.is c.in-Err-print_script.ensures.printed (c.code-in-Err-print_script.ensures ∙ ap code_of c.status.ensures)
 
 pub returns-in-Err-print_script-clause-faults : goal.returns-in-Err-print_script-clause-faults
 returns-in-Err-print_script-clause-faults g c = cut_fault _ _ _ c.in-Err-print_script.cut c.in-Err-print_script.ensures.cause (c.code-in-Err-print_script.ensures ∙ ap code_of c.status.ensures)

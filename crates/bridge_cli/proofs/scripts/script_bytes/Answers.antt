@@ -13,7 +13,7 @@ returns-then-count-len-clause-input g c = (
 )
 
 pub returns-then-count-len-clause-stop : goal.returns-then-count-len-clause-stop
-returns-then-count-len-clause-stop g c = too_long_script _ _ (returns-then-count-len-clause-input g c).0
+returns-then-count-len-clause-stop g c = λ page. too_long_script page _ _ (returns-then-count-len-clause-input g c).0
 
 pub returns-in_err-extend_from_slice-clause-input : goal.returns-in_err-extend_from_slice-clause-input
 returns-in_err-extend_from_slice-clause-input g c =
