@@ -115,13 +115,13 @@ fn address(alloc: Global) -> Result<Address, Memory>
     })
 }
 
-/// A target whose job is a letter, from `a` on.
+/// A target whose job is a letter, from `j` on.
 fn target(alloc: Global, place: u32) -> Result<Target, Memory>
     requires { place < 8 }
     ensures scraped { IfOk result (λ target. IsScraped target) }
-    ensures job { IfOk result (λ target. target.job ≡ (97 + place) ∷ []) }
+    ensures job { IfOk result (λ target. target.job ≡ (106 + place) ∷ []) }
 {
-    let Some(job) = Text::from_bytes(alloc, &[b'a' + place as u8])? else {
+    let Some(job) = Text::from_bytes(alloc, &[b'j' + place as u8])? else {
         return Err(AllocError);
     };
     let instance = Text::from_str(alloc, "h:1")?;
@@ -167,7 +167,7 @@ fn new_track<'a, R: Clock + Sync>(
     ensures post { IfOk result (λ k. k.post.place ≡ record { number = place + 1; post = true }) }
     ensures unvisited { IfOk result (λ k. (k.counts.visits ≡ 0) × (k.halted ≡ false)) }
     ensures scraped { IfOk result (λ k. IsScraped k.followed.target) }
-    ensures job { IfOk result (λ k. k.followed.target.job ≡ (97 + place) ∷ []) }
+    ensures job { IfOk result (λ k. k.followed.target.job ≡ (106 + place) ∷ []) }
     ensures track { IfOk result (λ k. IsTrack talking k) }
 {
     let number = place + 1;

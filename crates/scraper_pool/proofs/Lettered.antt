@@ -1,4 +1,4 @@
--- Tracks whose jobs are letters, from `a` on: such as the tests make are those of a right run.
+-- Tracks whose jobs are letters, from `j` on: such as the tests make are those of a right run.
 use Rattle.std.proofs.Common.{◌≡◌, ◌≢◌, ℕ, suc, ◌+◌, ◌≤◌, ◌<◌, Bool, true, false, List, [], ◌∷◌, ◌++◌, ◌&&◌, bytes_eq, length, map, All, refl, sym, ap, subst, ◌∙◌, arith}
 use Rattle.std.specs.Bool.{⊤}
 use Rattle.std.specs.List.{AllByRecursion, IsDistinct}
@@ -17,10 +17,10 @@ pub record IsLettered (w : Talking) (place : ℕ) (k : Kept) : Type 0 where
   pub at : IsTrackAt w k.followed place k
   pub unvisited : (k.counts.visits ≡ 0) × (k.halted ≡ false)
   pub scraped : IsScraped k.followed.target
-  pub job : k.followed.target.job ≡ (97 + place) ∷ []
+  pub job : k.followed.target.job ≡ (106 + place) ∷ []
 
 pub lettered : (w : Talking) (place : ℕ) (k : Kept) → k.scrape.place ≡ record { number = place + 1; post = false } → k.post.place ≡ record { number = place + 1; post = true }
-    → (k.counts.visits ≡ 0) × (k.halted ≡ false) → IsScraped k.followed.target → k.followed.target.job ≡ (97 + place) ∷ [] → IsTrack w k → IsLettered w place k
+    → (k.counts.visits ≡ 0) × (k.halted ≡ false) → IsScraped k.followed.target → k.followed.target.job ≡ (106 + place) ∷ [] → IsTrack w k → IsLettered w place k
 lettered w place k scrape post unvisited scraped job track = record {
   at = record { followed = refl; scrape_place = scrape; post_place = post; track = track };
   unvisited = unvisited;
@@ -63,13 +63,13 @@ not_true true never = absurd (never refl)
 not_true false never = refl
 
 -- two letters are not one job
-letters_differ : (f g : Followed) (n m : ℕ) → n < m → f.target.job ≡ (97 + n) ∷ [] → g.target.job ≡ (97 + m) ∷ [] → is_same_target f g ≡ false
+letters_differ : (f g : Followed) (n m : ℕ) → n < m → f.target.job ≡ (106 + n) ∷ [] → g.target.job ≡ (106 + m) ∷ [] → is_same_target f g ≡ false
 letters_differ f g n m less a b =
-    let other : bytes_eq f.target.job g.target.job ≡ true → ⊥ = λ same. let e : 97 + n ≡ 97 + m = ap head_of (sym a ∙ (bytes_eq-Decides f.target.job g.target.job).0 same ∙ b) in omega arith in
+    let other : bytes_eq f.target.job g.target.job ≡ true → ⊥ = λ same. let e : 106 + n ≡ 106 + m = ap head_of (sym a ∙ (bytes_eq-Decides f.target.job g.target.job).0 same ∙ b) in omega arith in
     let e : bytes_eq f.target.job g.target.job ≡ false = not_true (bytes_eq f.target.job g.target.job) other in
     rw e refl
 
-apart : (w : Talking) (f : Followed) (n place : ℕ) (ks : List Kept) → f.target.job ≡ (97 + n) ∷ [] → n < place → AreLettered w place ks → AllByRecursion (λ g. is_same_target f g ≡ false) (map (λ (k : Kept). k.followed) ks)
+apart : (w : Talking) (f : Followed) (n place : ℕ) (ks : List Kept) → f.target.job ≡ (106 + n) ∷ [] → n < place → AreLettered w place ks → AllByRecursion (λ g. is_same_target f g ≡ false) (map (λ (k : Kept). k.followed) ks)
 apart w f n place [] job less all = tt
 apart w f n place (k ∷ ks) job less all = (letters_differ f k.followed n place less job all.0.job, apart w f n (place + 1) ks job (omega arith) all.1)
 

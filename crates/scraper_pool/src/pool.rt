@@ -1,17 +1,22 @@
 //! The table behind a lock, and a worker's turn.
-ghost use Rattle.std.specs.Prelude.{◌≡◌, ◌+◌, None, IfSome, IfNone, IfOk, IfErr};
+ghost use Rattle.std.specs.Prelude.{◌≡◌, ◌+◌, None, IfSome, IfNone, IfOk, IfErr, OnOk, OnErr};
 ghost use Rattle.series_table.specs.Counting.{as_count};
 ghost use Rattle.series_table.specs.HttpTalks.{talking};
 ghost use Rattle.target_table.specs.declared.table.TableFault.TheVariants as faults;
 ghost use Rattle.target_table.specs.Runs.{IsRightRun};
 ghost use Rattle.target_table.specs.Tables.{AreTracks, AreUnvisited};
+ghost use Rattle.scraper_pool.specs.Federating.{AreSeen, HasPage};
 ghost use Rattle.scraper_pool.specs.Turns.{IsTurn, seated};
 
 use crate::turn::Turn;
 use bridge_ports::Wire;
-use std::alloc::Global;
+use label_sets::Memory;
+use page_model::Shown;
+use std::alloc::{AllocError, Global};
 use std::sync::{Mutex, Wait};
-use target_table::{Blanks, Lane, Lease, RunName, Seat, Shares, Table, TableFault, Track};
+use target_table::{
+    Blanks, Lane, Lease, RunName, Seat, Shares, Table, TableFault, Track, write_page,
+};
 
 /// A table of targets that several workers share.
 pub struct Pool<N: RunName, A: Lane, B: Lane, C: Lane, D: Lane, W: Wire> {
@@ -78,5 +83,23 @@ impl<N: RunName, A: Lane, B: Lane, C: Lane, D: Lane, W: Wire> Pool<N, A, B, C, D
         let _visited = lease.track.visit(alloc);
         self.table.lock(rt).put(seat, lease);
         Turn::Visited
+    }
+    // What readers see of each target, in order.
+    fn shown<R: Wait>(&self, rt: &R, alloc: Global) -> Result<Vec<Shown>, Memory>
+        ensures { IfOk result (λ shown. AreSeen talking N.run shown.items) }
+    {
+        self.table.lock(rt).shown(alloc)
+    }
+
+    /// Puts the text of the federation page of what readers see behind what `out` holds. The lock is held while that is
+    /// copied, and not while the text is made. Where there is no memory, `out` holds what it held.
+    pub fn federate<R: Wait>(&self, rt: &R, out: &mut Vec<u8>) -> Result<(), Memory>
+        ensures ok { OnOk result (HasPage talking N.run out.old.items out.new.items) }
+        ensures err { OnErr result (out.new.items ≡ out.old.items) }
+    {
+        match self.shown(rt, *out.allocator()) {
+            Ok(shown) => write_page(shown.as_slice(), out),
+            Err(AllocError) => Err(AllocError),
+        }
     }
 }

@@ -8,6 +8,8 @@ ghost use Rattle.target_table.specs.Runs.{IsRightRun};
 ghost use Rattle.target_table.specs.Tables.{AreTracks, AreUnvisited};
 ghost use Rattle.scraper_pool.specs.Turns.{run_of};
 
+mod pages;
+
 use crate::{Ended, TableFault, Track, run_targets};
 use bridge_ports::{Address, End, Failed, MemoryReply, MemoryWire, Place, Settings, Target, Wire};
 use label_sets::{Bytes, List, Memory, Text};
@@ -143,13 +145,13 @@ fn address(alloc: Global) -> Result<Address, Memory>
     })
 }
 
-/// A target whose job is a letter, from `a` on.
+/// A target whose job is a letter, from `j` on.
 fn target(alloc: Global, place: u32) -> Result<Target, Memory>
     requires { place < 8 }
     ensures scraped { IfOk result (λ target. IsScraped target) }
-    ensures job { IfOk result (λ target. target.job ≡ (97 + place) ∷ []) }
+    ensures job { IfOk result (λ target. target.job ≡ (106 + place) ∷ []) }
 {
-    let Some(job) = Text::from_bytes(alloc, &[b'a' + place as u8])? else {
+    let Some(job) = Text::from_bytes(alloc, &[b'j' + place as u8])? else {
         return Err(AllocError);
     };
     let instance = Text::from_str(alloc, "h:1")?;
@@ -194,7 +196,7 @@ fn new_track<R: Clock + Sync>(
     ensures post { IfOk result (λ k. k.post.place ≡ record { number = place + 1; post = true }) }
     ensures unvisited { IfOk result (λ k. (k.counts.visits ≡ 0) × (k.halted ≡ false)) }
     ensures scraped { IfOk result (λ k. IsScraped k.followed.target) }
-    ensures job { IfOk result (λ k. k.followed.target.job ≡ (97 + place) ∷ []) }
+    ensures job { IfOk result (λ k. k.followed.target.job ≡ (106 + place) ∷ []) }
     ensures track { IfOk result (λ k. IsTrack talking k) }
 {
     let target = target(alloc, place)?;
@@ -358,7 +360,7 @@ fn two_scrapes_overlap(rt: HostRuntime) -> Result<(), Fail> {
     };
     let came = run_plan(&rt, rt.alloc(), &gates, &is_late, plan)?;
     assert!(rt; !is_late.load(Ordering::SeqCst), "a gate stayed shut");
-    let wanted = [all_visits(b'a', 1), all_visits(b'b', 1)];
+    let wanted = [all_visits(b'j', 1), all_visits(b'k', 1)];
     assert_eq!(rt; came.as_slice(), wanted.as_slice());
     Ok(())
 }
@@ -376,7 +378,7 @@ fn all_visits_are_made(rt: HostRuntime) -> Result<(), Fail> {
         };
         let came = run_plan(&rt, rt.alloc(), &[], &is_late, plan)?;
         assert_eq!(rt; came.len(), 6);
-        for (job, one) in (b'a'..).zip(came.as_slice()) {
+        for (job, one) in (b'j'..).zip(came.as_slice()) {
             assert_eq!(rt; *one, all_visits(job, 3));
         }
     }
@@ -395,9 +397,9 @@ fn a_halted_track_is_given_back(rt: HostRuntime) -> Result<(), Fail> {
             lean: 2,
         };
         let came = run_plan(&rt, rt.alloc(), &[], &is_late, plan)?;
-        let mut halted = all_visits(b'b', 1);
+        let mut halted = all_visits(b'k', 1);
         halted.is_halted = true;
-        let wanted = [all_visits(b'a', 3), halted, all_visits(b'c', 3)];
+        let wanted = [all_visits(b'j', 3), halted, all_visits(b'l', 3)];
         assert_eq!(rt; came.as_slice(), wanted.as_slice());
     }
     Ok(())
