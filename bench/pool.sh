@@ -32,7 +32,7 @@ ghost use Rattle.scraper_pool.specs.Turns.{run_of};
 
 use bridge_ports::{Address, End, Failed, MemoryReply, MemoryWire, Place, Settings, Target, Wire};
 use label_sets::{Bytes, List, Memory, Text};
-use scraper_pool::{Ended, TableFault, Track, run_targets};
+use scraper_pool::{TableFault, Track, run_targets};
 use series_table::TrackFault;
 use std::alloc::{AllocError, Global};
 use std::sync::Wait;
@@ -278,7 +278,7 @@ fn timed<R: Threads + Wait + Clock + Sync>(
         }
     };
     match run_targets(rt, alloc, tracks, rounds, scrapers) {
-        Ok(Ended { tracks }) => {
+        Ok(tracks) => {
             let took = start.elapsed(rt);
             let (sum, taken) = posted(tracks);
             Ok((took?.as_nanos(), sum, taken))

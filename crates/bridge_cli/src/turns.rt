@@ -9,7 +9,7 @@ use crate::visiting::{counted_visits, give_up, new_tracks};
 use bridge_ports::MemoryWire;
 use label_sets::Memory;
 use replay_script::Script;
-use scraper_pool::{Ended, TableFault, Track, run_targets};
+use scraper_pool::{TableFault, Track, run_targets};
 use std::alloc::{AllocError, Global};
 use std::sync::Wait;
 use std::thread::Threads;
@@ -26,10 +26,7 @@ fn tracks_over<R: Threads + Wait + Sync>(
 {
     let tracks = new_tracks(alloc, script)?;
     match run_targets(rt, alloc, tracks, script.header.rounds, scrapers) {
-        Ok(ended) => {
-            let Ended { tracks } = ended;
-            Ok(tracks)
-        }
+        Ok(tracks) => Ok(tracks),
         Err(TableFault::Memory(tracks)) => {
             give_up(tracks);
             Err(AllocError)

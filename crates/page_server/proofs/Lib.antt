@@ -1,6 +1,7 @@
 mod ConnSteps
 mod RequestFronts
 mod RequestTrees
-mod ServeSteps
+pub mod ServeSteps
 mod ServingCases
 mod StatusLaws
+pub mod Laws

@@ -12,6 +12,8 @@ mod status;
 mod tests;
 
 pub use conn::Conn;
+pub use reply::{reply_head, say_both};
+pub use request::asked_status;
 pub use served::serve_one;
 pub use shown_page::ShownPage;
 pub use status::{ReplyStatus, ServeFault};

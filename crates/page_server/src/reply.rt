@@ -73,7 +73,7 @@ impl Emit for ReplyHead {
 }
 
 /// The head of a reply that carries so many bytes.
-pub(crate) fn reply_head(alloc: Global, status: ReplyStatus, count: u64) -> Result<Vec<u8>, Memory>
+pub fn reply_head(alloc: Global, status: ReplyStatus, count: u64) -> Result<Vec<u8>, Memory>
     ensures { IfOk result (λ text. text.items ≡ reply_head status count) }
 {
     let mut text = Vec::new(alloc);
@@ -97,7 +97,7 @@ fn say_all<K: Conn>(conn: &mut K, text: &[u8]) -> Result<(), Failed>
 }
 
 /// Writes the head of a reply and what it carries.
-pub(crate) fn say_both<K: Conn>(conn: &mut K, head: &[u8], page: &[u8]) -> Result<(), Failed>
+pub fn say_both<K: Conn>(conn: &mut K, head: &[u8], page: &[u8]) -> Result<(), Failed>
     ensures whole { OnOk result (WereWritten (K.seen conn.old) (K.seen conn.new) (head.now ++ page.now)) }
     ensures front { OnErr result (WereCutOff (K.seen conn.old) (K.seen conn.new) (head.now ++ page.now)) }
 {

@@ -1,9 +1,7 @@
 -- That the counts of a share tell a turn.
-use Rattle.std.proofs.Common.{◌≡◌, ◌+◌, ◌-◌, ◌^◌, ◌<◌, ◌↔◌, refl, arith}
-use Rattle.scraper_pool.specs.declared.turn.Turn.{Turn}
+use Rattle.std.proofs.Common.{refl, arith}
 use Rattle.scraper_pool.specs.declared.turn.Turn.TheVariants.{Visited, Nothing}
-use Rattle.scraper_pool.specs.Turns.{Seated, IsTurn}
-use Rattle.scraper_pool.specs.Laws.{TurnsAreTold, IsToldByCounts}
+use Rattle.scraper_pool.specs.Laws.{TurnsAreTold}
 
 pub turns_told : TurnsAreTold
 turns_told before after Visited few rare is = record {

@@ -1,5 +1,5 @@
 -- Tracks whose jobs are letters, from `j` on: such as the tests make are those of a right run.
-use Rattle.std.proofs.Common.{◌≡◌, ◌≢◌, ℕ, suc, ◌+◌, ◌≤◌, ◌<◌, Bool, true, false, List, [], ◌∷◌, ◌++◌, ◌&&◌, bytes_eq, length, map, All, refl, sym, ap, subst, ◌∙◌, arith}
+use Rattle.std.proofs.Common.{◌≡◌, ℕ, suc, ◌+◌, ◌≤◌, ◌<◌, Bool, true, false, List, [], ◌∷◌, ◌++◌, bytes_eq, length, map, All, refl, sym, ap, subst, ◌∙◌, arith}
 use Rattle.std.specs.Bool.{⊤}
 use Rattle.std.specs.List.{AllByRecursion, IsDistinct}
 use Rattle.std.proofs.lemmas.List.{length-map}
@@ -8,7 +8,7 @@ use Rattle.std.proofs.lemmas.Slice.Eq.{bytes_eq-Decides}
 use Rattle.bridge_ports.specs.Targets.{IsScraped}
 use Rattle.series_table.specs.Talking.{Talking, Followed, AreInRange}
 use Rattle.series_table.specs.Records.{Kept, IsTrack, most_visits}
-use Rattle.target_table.specs.Runs.{Run, IsRightRun, is_same_target}
+use Rattle.target_table.specs.Runs.{IsRightRun, is_same_target}
 use Rattle.target_table.specs.Tables.{IsTrackAt, AreTracks, AreUnvisited}
 use Rattle.scraper_pool.specs.Turns.{run_of}
 

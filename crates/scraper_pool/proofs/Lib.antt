@@ -1,3 +1,4 @@
 mod Counted
 mod Lettered
 mod Federated
+mod Served

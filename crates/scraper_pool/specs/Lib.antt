@@ -1,3 +1,4 @@
 pub mod Turns
 pub mod Laws
 pub mod Federating
+pub mod Serving

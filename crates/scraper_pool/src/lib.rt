@@ -1,15 +1,19 @@
-//! Workers over one table of targets, behind a lock: up to four scrapes are made at once.
+//! Workers over one table of targets, behind a lock: up to four scrapes are made at once, and the page of what readers
+//! see is served beside them.
 #![tactic(auto)]
 
+mod doors;
 mod pool;
 pub mod pool_laws;
 mod run;
+mod serving;
 #[cfg(test)]
 mod tests;
 mod turn;
 mod workers;
 
+pub use page_server::{Conn, ReplyStatus, ServeFault};
 pub use pool::Pool;
-pub use run::{Ended, run_targets};
+pub use run::{Ended, RunFault, run_targets, run_with_door};
 pub use target_table::{Counts, Lane, RunName, Seat, Share, Shares, TableFault, Track};
 pub use turn::Turn;

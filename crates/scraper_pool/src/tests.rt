@@ -8,9 +8,10 @@ ghost use Rattle.target_table.specs.Runs.{IsRightRun};
 ghost use Rattle.target_table.specs.Tables.{AreTracks, AreUnvisited};
 ghost use Rattle.scraper_pool.specs.Turns.{run_of};
 
+mod doors;
 mod pages;
 
-use crate::{Ended, TableFault, Track, run_targets};
+use crate::{TableFault, Track, run_targets};
 use bridge_ports::{Address, End, Failed, MemoryReply, MemoryWire, Place, Settings, Target, Wire};
 use label_sets::{Bytes, List, Memory, Text};
 use series_table::TrackFault;
@@ -323,7 +324,7 @@ fn run_plan<R: Threads + Wait + Clock + Sync>(
 {
     let tracks = new_tracks(rt, alloc, gates, is_late, plan)?;
     match run_targets(rt, alloc, tracks, plan.rounds, plan.scrapers) {
-        Ok(Ended { tracks }) => {
+        Ok(tracks) => {
             let came = came_to(alloc, tracks.as_slice());
             close(tracks);
             came

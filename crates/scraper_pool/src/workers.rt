@@ -1,11 +1,13 @@
-//! The workers: one for each lane, each in a thread of its own where one can be made.
-ghost use Rattle.std.specs.Prelude.{◌≡◌, nat_lt};
+//! The workers: one for each lane and one for a door, each in a thread of its own where one can be made.
+ghost use Rattle.std.specs.Prelude.{◌≡◌, nat_lt, IfSome, option_map};
 ghost use Rattle.std.specs.Thread.{IsSync};
+ghost use Rattle.scraper_pool.specs.Serving.{IsUnopened, ServesAt};
 ghost use Rattle.scraper_pool.specs.Turns.{IsFreeLane, IsWork, seated};
 
 use crate::pool::Pool;
 use crate::turn::Turn;
-use bridge_ports::Wire;
+use bridge_ports::{Door, Wire};
+use page_server::Conn;
 use std::alloc::Global;
 use std::sync::Wait;
 use std::thread::{Threads, join};
@@ -129,5 +131,39 @@ impl<
             { self.work_later(rt, alloc, b, c, d, scrapers) },
         );
         Shares { a, b, c, d }
+    }
+
+    /// The work of all lanes, and beside it that of a door, where one is given: so many of its connections are served.
+    /// The door is given back, with how many were answered.
+    pub(crate) fn work_beside<K: Conn, E: Door<Conn = K>, R: Threads + Wait + Sync>(
+        &self,
+        rt: &R,
+        alloc: Global,
+        shares: Shares<A, B, C, D>,
+        scrapers: u32,
+        door: Option<E>,
+        pages: u32,
+    ) -> (Shares<A, B, C, D>, Option<E>, u32)
+        requires a { IsFreeLane A.all A.parts shares.a.held }
+        requires b { IsFreeLane B.all B.parts shares.b.held }
+        requires c { IsFreeLane C.all C.parts shares.c.held }
+        requires d { IsFreeLane D.all D.parts shares.d.held }
+        requires fresh { IfSome door (λ d. IsUnopened (E.door d)) }
+        ensures home { (result.0.a.held ≡ 0) × (result.0.b.held ≡ 0) × (result.0.c.held ≡ 0) × (result.0.d.held ≡ 0) }
+        ensures served { ServesAt pages (option_map E.door door) (option_map E.door result.1) result.2 }
+    {
+        let Some(door) = door else {
+            return (self.work_all(rt, alloc, shares, scrapers), None, 0);
+        };
+        let (shares, (door, served)) = join(
+            rt,
+            || -> Shares<A, B, C, D>
+                requires { IsSync R.row × IsFreeLane A.all A.parts shares.a.held × IsFreeLane B.all B.parts shares.b.held × IsFreeLane C.all C.parts shares.c.held × IsFreeLane D.all D.parts shares.d.held }
+            { self.work_all(rt, alloc, shares, scrapers) },
+            || -> (E, u32)
+                requires { IsSync R.row × IsUnopened (E.door door) }
+            { self.serve_door(rt, alloc, door, pages) },
+        );
+        (shares, Some(door), served)
     }
 }

@@ -1,4 +1,4 @@
-//! What readers of a pool see before a visit that another thread makes, and behind it.
+//! What readers of a pool see before a visit that another thread makes, and behind it; and what its peers are replied.
 ghost use Rattle.std.specs.Prelude.{◌≡◌, ◌<◌};
 ghost use Rattle.std.specs.Thread.{IsSync};
 ghost use Rattle.series_table.specs.HttpTalks.{talking};
@@ -7,10 +7,12 @@ ghost use Rattle.target_table.specs.Tables.{AreTracks, AreUnvisited};
 ghost use Rattle.scraper_pool.specs.Turns.{IsFreeLane, run_of};
 
 use super::{LOOKS, Plan, close, new_tracks};
-use crate::{Ended, Lane, Pool, RunName, Share, Shares, TableFault, Track};
-use bridge_ports::Wire;
-use label_sets::Memory;
-use std::alloc::Global;
+use crate::{
+    Ended, Lane, Pool, ReplyStatus, RunName, ServeFault, Share, Shares, TableFault, Track,
+};
+use bridge_ports::{MemoryConn, MemoryDoor, MemorySink, MemorySource, Wire};
+use label_sets::{Bytes, List, Memory};
+use std::alloc::{AllocError, Global};
 use std::marker::Brand;
 use std::sync::Wait;
 use std::sync::atomic::{AtomicBool, Ordering};
@@ -31,6 +33,44 @@ fn page_now<N: RunName, A: Lane, B: Lane, C: Lane, D: Lane, W: Wire, R: Wait>(
     Ok(page)
 }
 
+/// What a peer was replied.
+#[derive(Drop)]
+struct Replied {
+    answer: Result<ReplyStatus, ServeFault>,
+    text: Bytes,
+}
+
+/// What a peer with such a request is replied.
+fn reply_to<N: RunName, A: Lane, B: Lane, C: Lane, D: Lane, W: Wire, R: Wait>(
+    rt: &R,
+    alloc: Global,
+    pool: &Pool<N, A, B, C, D, W>,
+    request: &[u8],
+) -> Result<Replied, Memory> {
+    let source = MemorySource::new(Bytes::from_slice(alloc, request)?, List::new(alloc));
+    let sink = MemorySink::new(alloc, 1_000, List::new(alloc))?;
+    let mut conn = MemoryConn::new(source, sink);
+    let answer = pool.serve_one(rt, alloc, &mut conn);
+    let text = Bytes::from_slice(alloc, conn.held())?;
+    Ok(Replied { answer, text })
+}
+
+/// What peers are replied.
+fn all_replies<N: RunName, A: Lane, B: Lane, C: Lane, D: Lane, W: Wire, R: Wait>(
+    rt: &R,
+    alloc: Global,
+    pool: &Pool<N, A, B, C, D, W>,
+) -> Result<Vec<Replied>, Memory> {
+    let mut all = Vec::new(alloc);
+    for (request, _, _) in ROWS {
+        let one = reply_to(rt, alloc, pool, request)?;
+        if all.push(one).is_err() {
+            return Err(AllocError);
+        }
+    }
+    Ok(all)
+}
+
 /// Makes a visit, and tells of it.
 fn visit_and_tell<N: RunName, A: Lane, B: Lane, C: Lane, D: Lane, W: Wire, R: Wait>(
     rt: &R,
@@ -48,27 +88,29 @@ fn visit_and_tell<N: RunName, A: Lane, B: Lane, C: Lane, D: Lane, W: Wire, R: Wa
     share
 }
 
-/// The page of what readers see once they were told of a visit.
+/// The page of what readers see once they were told of a visit, and what peers are replied then.
 fn page_told<N: RunName, A: Lane, B: Lane, C: Lane, D: Lane, W: Wire, R: Wait + Clock>(
     rt: &R,
     alloc: Global,
     pool: &Pool<N, A, B, C, D, W>,
     is_made: &AtomicBool,
-) -> Result<Vec<u8>, Memory> {
+) -> Result<(Vec<u8>, Vec<Replied>), Memory> {
     for _ in 0..LOOKS {
         if is_made.load(Ordering::SeqCst) {
-            return page_now(rt, alloc, pool);
+            break;
         }
         thread::sleep(rt, Duration::from_millis(1));
     }
-    page_now(rt, alloc, pool)
+    let page = page_now(rt, alloc, pool)?;
+    let replies = all_replies(rt, alloc, pool)?;
+    Ok((page, replies))
 }
 
 /// What readers saw before a visit, and what they see behind it.
 #[derive(Drop)]
 struct SeenPages {
     before: Result<Vec<u8>, Memory>,
-    behind: Result<Vec<u8>, Memory>,
+    behind: Result<(Vec<u8>, Vec<Replied>), Memory>,
 }
 
 /// Has one thread make a visit, and another read the page behind it.
@@ -96,7 +138,7 @@ fn seen_pages<
         || -> Share<First, A>
             requires { IsSync R.row × IsFreeLane A.all A.parts share.held }
         { visit_and_tell(rt, alloc, pool, share, &is_made) },
-        || -> Result<Vec<u8>, Memory>
+        || -> Result<(Vec<u8>, Vec<Replied>), Memory>
             requires { IsSync R.row }
         { page_told(rt, alloc, pool, &is_made) },
     );
@@ -131,7 +173,12 @@ fn watch_named<
         Ok((pool, shares)) => {
             let Shares { a, b, c, d } = shares;
             let (a, pages) = seen_pages(rt, alloc, &pool, a);
-            let Ended { tracks } = pool.run(rt, alloc, Shares { a, b, c, d }, 0);
+            let door: Option<MemoryDoor> = None;
+            let Ended {
+                tracks,
+                door: _,
+                served: _,
+            } = pool.run(rt, alloc, Shares { a, b, c, d }, 0, door, 0);
             (tracks, Some(pages))
         }
         Err(TableFault::Memory(tracks)) => (tracks, None),
@@ -159,7 +206,32 @@ fn watch<W: Wire, R: Threads + Wait + Clock + Sync>(
 
 const PAGE: &str = "# TYPE x unknown\nx{instance=\"h:1\",job=\"j\"} 1\n# EOF\n";
 
-// Readers see the opening page until a visit is made, and from then on its page, in whichever thread they are.
+/// Requests, and what each is answered.
+const ROWS: [(&[u8], ReplyStatus, &str); 4] = [
+    (
+        b"GET /federate HTTP/1.1\r\nHost: a\r\n\r\n",
+        ReplyStatus::Page,
+        "HTTP/1.1 200 OK\r\nContent-Type: application/openmetrics-text; version=1.0.0; charset=utf-8\r\nContent-Length: 51\r\nConnection: close\r\n\r\n# TYPE x unknown\nx{instance=\"h:1\",job=\"j\"} 1\n# EOF\n",
+    ),
+    (
+        b"POST /federate HTTP/1.1\r\nHost: a\r\n\r\n",
+        ReplyStatus::NotAllowed,
+        "HTTP/1.1 405 Method Not Allowed\r\nAllow: GET\r\nContent-Length: 0\r\nConnection: close\r\n\r\n",
+    ),
+    (
+        b"GET /x HTTP/1.1\r\nHost: a\r\n\r\n",
+        ReplyStatus::NotFound,
+        "HTTP/1.1 404 Not Found\r\nContent-Length: 0\r\nConnection: close\r\n\r\n",
+    ),
+    (
+        b"GET",
+        ReplyStatus::BadRequest,
+        "HTTP/1.1 400 Bad Request\r\nContent-Length: 0\r\nConnection: close\r\n\r\n",
+    ),
+];
+
+// Readers see the opening page until a visit is made, and from then on its page, in whichever thread they are. So does a
+// peer that asks for it.
 #[test]
 fn federate_sees_a_visit(rt: HostRuntime) -> Result<(), Fail> {
     let alloc = rt.alloc();
@@ -175,9 +247,14 @@ fn federate_sees_a_visit(rt: HostRuntime) -> Result<(), Fail> {
     close(tracks);
     let pages = pages.expect(&rt, "memory");
     let before = pages.before?;
-    let behind = pages.behind?;
+    let (behind, replies) = pages.behind?;
     assert_eq!(rt; before.as_slice(), b"# EOF\n".as_slice());
     assert_eq!(rt; behind.as_slice(), PAGE.as_bytes());
     assert_eq!(rt; behind.len(), 51);
+    assert_eq!(rt; replies.len(), ROWS.len());
+    for ((_, status, text), one) in ROWS.iter().zip(replies.as_slice()) {
+        assert_eq!(rt; one.answer, Ok(*status));
+        assert_eq!(rt; one.text.as_slice(), text.as_bytes());
+    }
     Ok(())
 }

@@ -16,5 +16,5 @@ run_targets-requires-clause-tracks g c = λ _ _.
 
 pub returns-in-Ok : goal.returns-in-Ok
 returns-in-Ok g c =
-    subst (λ (r : Run). IsRunOver talking r c.in-Ok.ended.tracks.items) (sym (same_run c.args.script.now c.in_ok-tracks.tracks.items c.args.script.now.header.rounds c.in_ok-tracks.ensures.are refl))
+    subst (λ (r : Run). IsRunOver talking r c.in-Ok.tracks.items) (sym (same_run c.args.script.now c.in_ok-tracks.tracks.items c.args.script.now.header.rounds c.in_ok-tracks.ensures.are refl))
     c.in-Ok.ensures.over

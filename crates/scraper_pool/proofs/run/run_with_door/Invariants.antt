@@ -1,6 +1,6 @@
 -- The run and its four lanes are named.
 use Rattle.scraper_pool.specs.Turns.{run_of}
-use Rattle.scraper_pool.proofs.run.run_targets.Given as goal
+use Rattle.scraper_pool.proofs.run.run_with_door.Given as goal
 
 abbrev pub ghosts-run_named-N-RunName : goal.ghosts-run_named-N-RunName
 ghosts-run_named-N-RunName g a = record { run = run_of a.rounds a.tracks.items }

@@ -1,0 +1,69 @@
+//! The connections of a door, one after the other.
+ghost use Rattle.std.specs.Prelude.{◌≡◌, ◌<◌, false, IfOk, OnErr};
+ghost use Rattle.bridge_ports.specs.Doors.{most_handed};
+ghost use Rattle.scraper_pool.specs.Serving.{served_count, ServedSome, HasRefused, IsUnopened, HasServed};
+
+use crate::pool::Pool;
+use bridge_ports::{Door, Failed, Wire};
+use page_server::{Conn, ReplyStatus, ServeFault};
+use std::alloc::Global;
+use std::sync::Wait;
+use target_table::{Lane, RunName};
+
+/// How many connections such an answer counts.
+fn served_count(answer: Result<ReplyStatus, ServeFault>) -> u32
+    ensures { result ≡ served_count answer }
+{
+    match answer {
+        Ok(_) => 1,
+        Err(_) => 0,
+    }
+}
+
+impl<N: RunName, A: Lane, B: Lane, C: Lane, D: Lane, W: Wire> Pool<N, A, B, C, D, W> {
+    // Serves the next connection of a door and gives it back: how many were answered, one or none.
+    fn serve_next<K: Conn, E: Door<Conn = K>, R: Wait>(
+        &self,
+        rt: &R,
+        alloc: Global,
+        door: &mut E,
+    ) -> Result<u32, Failed>
+        requires home { (E.door door.old).out ≡ false }
+        requires few { (E.door door.old).handed < most_handed }
+        ensures served { IfOk result (λ count. ServedSome (E.door door.old) (E.door door.new) 1 count) }
+        ensures refused { OnErr result (HasRefused (E.door door.old) (E.door door.new)) }
+    {
+        match door.accept() {
+            Ok(conn) => {
+                let mut conn = conn;
+                let answer = self.serve_one(rt, alloc, &mut conn);
+                door.close(conn);
+                Ok(served_count(answer))
+            }
+            Err(Failed) => Err(Failed),
+        }
+    }
+
+    /// Serves so many connections of a door, and ends at the first that it can't hand out. It gives the door back, and
+    /// how many connections were answered.
+    pub(crate) fn serve_door<K: Conn, E: Door<Conn = K>, R: Wait>(
+        &self,
+        rt: &R,
+        alloc: Global,
+        door: E,
+        pages: u32,
+    ) -> (E, u32)
+        requires { IsUnopened (E.door door) }
+        ensures { HasServed pages (E.door door) (E.door result.0) result.1 }
+    {
+        let mut door = door;
+        let mut served = 0;
+        for _ in 0..pages {
+            match self.serve_next(rt, alloc, &mut door) {
+                Ok(count) => served += count,
+                Err(Failed) => return (door, served),
+            }
+        }
+        (door, served)
+    }
+}
