@@ -1,0 +1,11 @@
+//! The report of a run: for each target and for all of them, how many visits were made and what came of them.
+#![tactic(auto)]
+
+mod numbers;
+mod report;
+mod target_end;
+#[cfg(test)]
+mod tests;
+
+pub use report::{push_report, push_served};
+pub use target_end::TargetEnd;

@@ -1,0 +1,4 @@
+mod Tracks
+mod Homes
+mod Ended
+mod Worlds

@@ -1,0 +1,58 @@
+-- The pairs of a world in memory that was just made are unused.
+use Rattle.std.proofs.Common.{◌≡◌, ℕ, ◌≤◌, Bool, true, false, List, [], ◌∷◌, Option, Some, refl, arith}
+use Rattle.std.specs.Prelude.{◌==◌, option_map}
+use Rattle.std.specs.List.{AllByRecursion, IsDistinct}
+use Rattle.std.proofs.lemmas.Bool.{le-leb}
+use Rattle.std.proofs.lemmas.List.Elements.{All-from_recursion}
+use Rattle.bridge_ports.specs.declared.memory_world.MemoryPair.{MemoryPair}
+use Rattle.bridge_ports.specs.Plans.{MemoryState, seen_of}
+use Rattle.bridge_ports.specs.MemoryWorlds.{PairState, wires_of, pair_of}
+use Rattle.bridge_ports.specs.WorldMaking.{IsRightPair, MayBeMade}
+use Rattle.memory_world.specs.WorldParts.{fresh_pair}
+use Rattle.series_table.specs.Records.{IsFresh}
+use Rattle.world_run.specs.Outside.{SeenPair, seen_pair, seen_home, IsSilent, IsUnused}
+
+-- a pair that is at home and made no talk
+pub record IsReady (p : PairState) : Type 0 where
+  pub at_home : p.at_home ≡ true
+  pub scrape : IsFresh (seen_of p.scrape)
+  pub post : IsFresh (seen_of p.post)
+
+-- wires that are there and made no talk
+abbrev IsThere : Option (MemoryState × MemoryState) → Type 0
+IsThere wires = (pair : SeenPair) × (option_map (seen_pair seen_of) wires ≡ Some pair) × IsSilent pair
+
+ready_there : (p : PairState) (home : Bool) → p.at_home ≡ home → IsReady p → IsThere (wires_of p)
+ready_there p true e ready = rw e ((seen_of p.scrape, seen_of p.post), refl, (ready.scrape.untold, ready.post.untold))
+ready_there p false e ready = absurd (cc (e, ready.at_home))
+
+first_there : (p : PairState) (ps : List PairState) (n : ℕ) (same : Bool) → (p.number == n) ≡ same → IsReady p → IsThere (pair_of ps n) → IsThere (pair_of (p ∷ ps) n)
+first_there p ps n true e ready rest = rw e (ready_there p p.at_home refl ready)
+first_there p ps n false e ready rest = rw e rest
+
+bare_there : (n : ℕ) → 1 ≤ n → n ≤ 256 → IsThere (pair_of [] n)
+bare_there n low high = rw (le-leb 1 n low, le-leb n 256 high) (_, refl, (refl, refl))
+
+pub unused_pairs : (ps : List PairState) (n : ℕ) → AllByRecursion IsReady ps → 1 ≤ n → n ≤ 256 → IsUnused (seen_home seen_of (pair_of ps)) n
+unused_pairs [] n ready low high = bare_there n low high
+unused_pairs (p ∷ ps) n ready low high = first_there p ps n (p.number == n) refl ready.0 (unused_pairs ps n ready.1 low high)
+
+-- a pair that was given is ready
+given_ready : (p : MemoryPair) → IsFresh (seen_of p.wires.scrape) → IsFresh (seen_of p.wires.post) → IsReady (fresh_pair p)
+given_ready p scrape post = record { at_home = refl; scrape = scrape; post = post }
+
+-- a world may be made of the pairs of two numbers
+pub two_may_be_made : (p q : MemoryPair) → p.number ≡ 1 → q.number ≡ 2 → IsRightPair (fresh_pair p) → IsRightPair (fresh_pair q) → MayBeMade [] (fresh_pair p ∷ fresh_pair q ∷ []) []
+unfolding IsDistinct
+two_may_be_made p q one two p_right q_right = record {
+  paths = tt;
+  numbers = ((rw (one, two) refl, tt), (tt, tt));
+  addresses = tt;
+  right_pairs = All-from_recursion IsRightPair (fresh_pair p ∷ fresh_pair q ∷ []) (p_right, (q_right, tt));
+  right_doors = λ i d within. absurd (omega (arith, within));
+}
+
+-- the pairs of two numbers are unused
+pub two_unused : (p q : MemoryPair) (n : ℕ) → IsFresh (seen_of p.wires.scrape) → IsFresh (seen_of p.wires.post) → IsFresh (seen_of q.wires.scrape) → IsFresh (seen_of q.wires.post) → 1 ≤ n → n ≤ 256
+    → IsUnused (seen_home seen_of (pair_of (fresh_pair p ∷ fresh_pair q ∷ []))) n
+two_unused p q n a b c d low high = unused_pairs (fresh_pair p ∷ fresh_pair q ∷ []) n (given_ready p a b, (given_ready q c d, tt)) low high

@@ -1,0 +1,94 @@
+//! The tracks of a configuration's targets, over the wires of a world.
+ghost use Rattle.std.specs.Prelude.{◌≡◌, ◌+◌, ◌<◌, ℕ, length, map, IfOk, OnErr};
+ghost use Rattle.series_table.specs.Records.{Kept};
+ghost use Rattle.bridge_config.specs.RightConfigs.{IsRightConfig};
+ghost use Rattle.world_run.specs.Outside.{seen_home, outside_of, most_pairs, IsUnused, AreUnused};
+ghost use Rattle.world_run.specs.Ends.{KeepsRest};
+ghost use Rattle.world_run.specs.Taken.{EachTrack, IsFirstTrack, IsPairOf, IsOut, KeepsOtherPairs};
+
+use crate::home::bring_home;
+use bridge_config::Config;
+use bridge_ports::{Target, World};
+use label_sets::Memory;
+use scraper_pool::Track;
+use series_table::TrackFault;
+use std::alloc::{AllocError, Global};
+
+/// The track of a target at a place, counted from 0, over the pair of wires of its number. Without memory the pair is
+/// at home again.
+fn new_track<W: World>(
+    alloc: Global,
+    config: &Config,
+    target: &Target,
+    place: u32,
+    world: &mut W,
+) -> Result<Track<W::Wire>, Memory>
+    requires right { IsRightConfig config.now }
+    requires few { place < most_pairs }
+    requires unused { IsUnused (seen_home W.Wire.state (W.home world.old)) (place + 1) }
+    ensures first { IfOk result (IsFirstTrack config.now place) }
+    ensures target { IfOk result (λ track. track.followed.target ≡ target.now) }
+    ensures was { IfOk result (IsPairOf (seen_home W.Wire.state (W.home world.old)) place) }
+    ensures out { IfOk result (IsOut (seen_home W.Wire.state (W.home world.new)) (W.given world.new) place) }
+    ensures kept { OnErr result (seen_home W.Wire.state (W.home world.new) (place + 1) ≡ seen_home W.Wire.state (W.home world.old) (place + 1)) }
+    ensures rest { KeepsOtherPairs (place + 1)
+        (outside_of W.Wire.state (W.world world.old) (W.files world.old) (W.home world.old) (W.given world.old))
+        (outside_of W.Wire.state (W.world world.new) (W.files world.new) (W.home world.new) (W.given world.new)) }
+    ensures coming { W.coming world.new ≡ W.coming world.old }
+{
+    let number = place + 1;
+    let scraped = target.copy()?;
+    let to = config.collector.copy()?;
+    let (_job, _instance) = (target.job(), target.instance());
+    let (scrape, post) = match world.wires(alloc, number, target.address(), &config.collector) {
+        Ok(pair) => pair,
+        Err(AllocError) => return Err(AllocError),
+    };
+    match Track::new(alloc, scraped, to, config.settings, scrape, post) {
+        Ok(track) => {
+            track.facts();
+            Ok(track)
+        }
+        Err(TrackFault::Memory(scrape, post)) => {
+            world.back(number, scrape, post);
+            Err(AllocError)
+        }
+    }
+}
+
+/// The tracks of a configuration's targets, in order, before their first visits. Without memory all pairs are at home
+/// again.
+pub(crate) fn new_tracks<W: World>(
+    alloc: Global,
+    config: &Config,
+    world: &mut W,
+) -> Result<Vec<Track<W::Wire>>, Memory>
+    requires right { IsRightConfig config.now }
+    requires unused { AreUnused (seen_home W.Wire.state (W.home world.old)) }
+    ensures first { IfOk result (λ tracks. EachTrack (IsFirstTrack config.now) tracks.items) }
+    ensures targets { IfOk result (λ tracks. map (λ (k : Kept). k.followed.target) tracks.items ≡ config.now.targets) }
+    ensures was { IfOk result (λ tracks. EachTrack (IsPairOf (seen_home W.Wire.state (W.home world.old))) tracks.items) }
+    ensures out { IfOk result (λ tracks. EachTrack (IsOut (seen_home W.Wire.state (W.home world.new)) (W.given world.new)) tracks.items) }
+    ensures kept { OnErr result ((n : ℕ) → seen_home W.Wire.state (W.home world.new) n ≡ seen_home W.Wire.state (W.home world.old) n) }
+    ensures rest { KeepsRest (length config.now.targets)
+        (outside_of W.Wire.state (W.world world.old) (W.files world.old) (W.home world.old) (W.given world.old))
+        (outside_of W.Wire.state (W.world world.new) (W.files world.new) (W.home world.new) (W.given world.new)) }
+    ensures coming { W.coming world.new ≡ W.coming world.old }
+{
+    let targets = config.targets.as_slice();
+    let mut tracks = Vec::with_capacity(alloc, targets.len())?;
+    let mut at = 0usize;
+    while at < targets.len() {
+        match new_track(alloc, config, &targets[at], at as u32, world) {
+            Ok(track) => {
+                tracks.push_reserved(track);
+                at += 1;
+            }
+            Err(AllocError) => {
+                bring_home(world, tracks);
+                return Err(AllocError);
+            }
+        }
+    }
+    Ok(tracks)
+}
