@@ -18,6 +18,7 @@ mod visiting;
 mod words;
 
 pub use commands::{HELP, VERSION};
+pub use output::write_all;
 pub use program::bridge;
 pub use status::Status;
 pub use words::Command;

@@ -6,8 +6,9 @@ ghost use Rattle.bridge_cli.specs.ProgramOutputs.{WroteFront};
 
 use bridge_ports::{Failed, Sink};
 
-/// Writes a text whole; where a write fails, a front of it was written. Nothing is written of an empty text.
-pub(crate) fn write_all<O: Sink>(output: &mut O, text: &[u8]) -> Result<(), Failed>
+/// Writes a text whole; where a write fails, the count of the output's faults rose, and a front of the text was
+/// written. Nothing is written of an empty text.
+pub fn write_all<O: Sink>(output: &mut O, text: &[u8]) -> Result<(), Failed>
     ensures whole { OnOk result (Appends (O.held output.old) (O.held output.new) text.now) }
     ensures front { OnErr result (WroteFront (O.held output.old) (O.held output.new) text.now) }
     ensures empty { text.now ≡ [] → output.new ≡ output.old }

@@ -16,7 +16,7 @@ use bridge_config::Config;
 use bridge_ports::{Wire, World};
 use label_sets::Memory;
 use run_report::TargetEnd;
-use scraper_pool::{Ended, TableFault, Track, run_targets};
+use scraper_pool::{TableFault, Track, run_targets};
 use std::alloc::{AllocError, Global};
 use std::sync::Wait;
 use std::thread::Threads;
@@ -49,8 +49,7 @@ fn visit_all<R: Threads + Wait + Sync, W: Wire>(
         Err(AllocError) => return Err(tracks),
     };
     match run_targets(rt, alloc, tracks, config.rounds, config.scrapers) {
-        Ok(ended) => {
-            let Ended { tracks } = ended;
+        Ok(tracks) => {
             renew_ends(&mut ends, tracks.as_slice());
             Ok((tracks, ends))
         }

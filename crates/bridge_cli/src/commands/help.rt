@@ -16,6 +16,10 @@ bridge replay [SCRAPERS] [page]
     SCRAPERS, 1 to 4, is how many targets are visited at once, 1 where it is left out;
     with page, the federation page of what the targets show at the end follows
     bridge replay 4 page
+bridge run CONFIG
+    scrapes the targets of the configuration in the file CONFIG, posts each scrape to its
+    collector, and prints a report when all rounds are made
+    bridge run examples/bridge.toml
 bridge --help
     prints these lines
 bridge --version

@@ -12,7 +12,7 @@ run_targets-requires-clause-tracks g c κs within = own_tracks c.args.config.now
 
 pub renew_ends-requires-after_bounds : goal.renew_ends-requires-after_bounds
 renew_ends-requires-after_bounds g c κs within =
-    let tracks = c.in-Ok-run_targets.ended.tracks.items in
+    let tracks = c.in-Ok-run_targets.tracks.items in
     ap (map end_names) c.deref_mut.ensures.value
     ∙ same_names c.args.tracks.items tracks c.in-Ok.ends.items (c.in-Ok.ensures ∙ ap (map track_end) c.as_slice.ensures.value) (same_followed (map (λ (k : Kept). k.followed) c.args.tracks.items) 0 tracks c.in-Ok-run_targets.ensures.over.tracks_are)
     ∙ ap (map track_names) (sym c.as_slice-in-Ok-run_targets.ensures.value)
