@@ -6,7 +6,7 @@ use Rattle.federation_page.specs.Gathering.{AreShowable}
 use Rattle.target_table.specs.Runs.{Run}
 use Rattle.target_table.specs.Tables.{Held, IsTable}
 use Rattle.target_table.specs.Paging.{federated_text}
-use Rattle.scraper_pool.specs.Federating.{AreSeen, IsSeenPage, HasPage}
+use Rattle.scraper_pool.specs.Federating.{AreSeen, HasPage}
 
 pub are_seen : {T E : Type 0} (items : T → List Shown) (w : Talking) (run : Run) (h : Held) (r : Result T E) → IfOk r (λ copies. items copies ≡ h.seen) → IsTable w run h → AreShowable h.seen
     → IfOk r (λ copies. AreSeen w run (items copies))

@@ -158,7 +158,11 @@ impl<
         let (shares, (door, served)) = join(
             rt,
             || -> Shares<A, B, C, D>
-                requires { IsSync R.row × IsFreeLane A.all A.parts shares.a.held × IsFreeLane B.all B.parts shares.b.held × IsFreeLane C.all C.parts shares.c.held × IsFreeLane D.all D.parts shares.d.held }
+                requires sync { IsSync R.row }
+                requires a { IsFreeLane A.all A.parts shares.a.held }
+                requires b { IsFreeLane B.all B.parts shares.b.held }
+                requires c { IsFreeLane C.all C.parts shares.c.held }
+                requires d { IsFreeLane D.all D.parts shares.d.held }
             { self.work_all(rt, alloc, shares, scrapers) },
             || -> (E, u32)
                 requires { IsSync R.row × IsUnopened (E.door door) }
