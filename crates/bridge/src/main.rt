@@ -1,13 +1,15 @@
-//! The program `bridge`: hands its words, standard input and standard output to the library, and
-//! ends with the status that comes back.
+//! The program `bridge`: hands its words, the world of the machine, standard input and standard output to the
+//! library, and ends with the status that comes back.
 #![tactic(auto)]
 
-use bridge_cli::{Status, bridge};
+use bridge_cli::Status;
 use bridge_ports::std_edge::{StdSink, StdSource};
+use bridge_program::bridge;
 use std::alloc::{AllocError, Global};
 use std::env::{self, Args};
 use std::io::ErrorKind;
 use std::process::ExitCode;
+use std_edge::StdWorld;
 
 /// The words behind the program's own name.
 fn words_of(alloc: Global, args: Args) -> Result<Vec<String>, AllocError> {
@@ -28,7 +30,15 @@ fn main(rt: HostRuntime) -> ExitCode {
     let Ok(words) = words else {
         return ExitCode::from(Status::WantOfMemory.code());
     };
+    let mut world = StdWorld::new(rt, rt.alloc());
     let mut input = StdSource::new(rt.stdin());
     let mut output = StdSink::new(rt.stdout());
-    ExitCode::from(bridge(&rt, rt.alloc(), words.as_slice(), &mut input, &mut output))
+    ExitCode::from(bridge(
+        &rt,
+        rt.alloc(),
+        words.as_slice(),
+        &mut world,
+        &mut input,
+        &mut output,
+    ))
 }

@@ -12,3 +12,4 @@ mod ScriptLaws
 mod CommandLaws
 mod AnswerLaws
 mod PrintLaws
+pub mod Laws

@@ -1,0 +1,97 @@
+-- What a run ends with, and what becomes of it once it is written.
+use Rattle.std.proofs.Common.{◌≡◌, ◌≢◌, ◌⊎◌, inl, inr, ℕ, ◌<◌, Bool, true, false, List, [], ◌∷◌, ◌++◌, Option, refl, sym, ap, subst, ◌∙◌, arith}
+use Rattle.std.specs.Io.KnownBytes.{Appends}
+use Rattle.bridge_ports.specs.Causes.{Rose}
+use Rattle.bridge_ports.specs.Worlds.{WorldState}
+use Rattle.config_file.specs.declared.file_stop.FileStop.{FileStop}
+use Rattle.config_file.specs.declared.file_stop.FileStop.TheVariants.{Read}
+use Rattle.config_file.specs.ConfigFiles.{StopsAtFile, StopsReadingFile}
+use Rattle.world_run.specs.Outside.{Outside}
+use Rattle.run_command.specs.RunReports.{LeavesPairs}
+use Rattle.bridge_cli.specs.declared.status.Status.TheVariants.{Done, ReadFailed, WantOfMemory, TooLong, WriteFailed}
+use Rattle.bridge_cli.specs.Statuses.{code_of, IsStatus}
+use Rattle.bridge_cli.specs.ProgramOutputs.{WroteFront, TellsFault}
+use Rattle.bridge_program.specs.RunAnswers.{config_refused, run_status, IsRunAnswer, run_over, run_refused, run_too_long, run_unread, run_wanting, IsStopEnd, end_refused, end_unsaid, end_too_long, end_unread, end_wanting, IsWritten, written_whole, written_part}
+
+-- ---- what is written
+
+-- a text was written whole
+pub is_written : (status : ℕ) (text written : List ℕ) (held after : Option (List ℕ)) → written ≡ text → Appends held after written → IsWritten status text held after status
+is_written status text written held after same grown = written_whole (subst (Appends held after) same grown)
+
+-- a front of it was, and then a write failed
+pub is_cut_off : (status code : ℕ) (text written : List ℕ) (held after : Option (List ℕ)) → written ≡ text → code ≡ code_of WriteFailed → WroteFront held after written → IsWritten status text held after code
+is_cut_off status code text written held after same is front =
+    let Cut : ℕ → Type 0 = IsWritten status text held after in subst Cut (sym is) (written_part (subst (WroteFront held after) same front))
+
+-- no write failed
+pub none_failed : (status before now : ℕ) → status ≢ code_of WriteFailed → now ≡ before → TellsFault (code_of WriteFailed) status before now
+none_failed status before now other same = record { rose = λ e. absurd (other e); only = λ less. absurd (omega (arith, same, less)); kept = λ no. same }
+
+no_rest : (front rest : List ℕ) → [] ≡ front ++ rest → rest ≡ []
+no_rest [] rest e = sym e
+no_rest (x ∷ front) rest e = absurd cc
+
+-- of nothing no front leaves something
+nothing_left : (held after : Option (List ℕ)) (text : List ℕ) → text ≡ [] → WroteFront held after text → ⊥
+nothing_left held after text none front = front.some_left (no_rest front.front front.rest (sym none ∙ front.text))
+
+-- ---- what `run` answers
+
+-- a failed read says nothing
+unread_empty : (path : List ℕ) (before after : Outside) (status : ℕ) (text : List ℕ) → IsRunAnswer path before after status text → status ≡ code_of ReadFailed → text ≡ []
+unread_empty path before after status text (run_over t false report) e = absurd cc
+unread_empty path before after status text (run_over t true report) e = absurd cc
+unread_empty path before after status text (run_refused fault holds pairs) e = absurd cc
+unread_empty path before after status text (run_too_long long pairs) e = absurd cc
+unread_empty path before after status text (run_unread rose pairs) e = refl
+unread_empty path before after status text (run_wanting left) e = absurd cc
+
+-- its status is never that of a failed write
+pub no_write : (path : List ℕ) (before after : Outside) (status : ℕ) (text : List ℕ) → IsRunAnswer path before after status text → status ≢ code_of WriteFailed
+no_write path before after status text (run_over t false report) e = absurd cc
+no_write path before after status text (run_over t true report) e = absurd cc
+no_write path before after status text (run_refused fault holds pairs) e = absurd cc
+no_write path before after status text (run_too_long long pairs) e = absurd cc
+no_write path before after status text (run_unread rose pairs) e = absurd cc
+no_write path before after status text (run_wanting left) e = absurd cc
+
+answer_status : (path : List ℕ) (before after : Outside) (status : ℕ) (text : List ℕ) → IsRunAnswer path before after status text → IsStatus status ⊎ (status ≡ config_refused)
+answer_status path before after status text (run_over t false report) = inl (Done, refl)
+answer_status path before after status text (run_over t true report) = inl (WantOfMemory, refl)
+answer_status path before after status text (run_refused fault holds pairs) = inr refl
+answer_status path before after status text (run_too_long long pairs) = inl (TooLong, refl)
+answer_status path before after status text (run_unread rose pairs) = inl (ReadFailed, refl)
+answer_status path before after status text (run_wanting left) = inl (WantOfMemory, refl)
+
+-- the status of the process is one that the program has
+pub run_statuses : (path : List ℕ) (before after : Outside) (status code : ℕ) (text : List ℕ) (held written : Option (List ℕ)) → IsRunAnswer path before after status text → IsWritten status text held written code
+    → IsStatus code ⊎ (code ≡ config_refused)
+run_statuses path before after status code text held written answer (written_whole grown) = answer_status path before after status text answer
+run_statuses path before after status code text held written answer (written_part front) = inl (WriteFailed, refl)
+
+-- the process tells a failed read as `run` did
+pub read_told : (path : List ℕ) (before after : Outside) (status code : ℕ) (text : List ℕ) (held written : Option (List ℕ)) (old new : ℕ) → IsRunAnswer path before after status text → IsWritten status text held written code
+    → TellsFault (code_of ReadFailed) status old new → TellsFault (code_of ReadFailed) code old new
+read_told path before after status code text held written old new answer (written_whole grown) told = told
+read_told path before after status code text held written old new answer (written_part front) told =
+    let some : status ≢ code_of ReadFailed = λ e. nothing_left held written text (unread_empty path before after status text answer e) front in record {
+      rose = λ e. absurd cc;
+      only = λ less. absurd (some (told.only less));
+      kept = λ no. told.kept some;
+    }
+
+-- ---- stops
+
+-- a read failed, so the count of faults rose
+pub rose_at_read : (told : Option (List ℕ)) (old new : WorldState) (stop : FileStop) → StopsReadingFile told old new stop → stop ≡ Read → Rose old.file_faults new.file_faults
+rose_at_read told old new stop leaves is = let At : FileStop → Type 0 = StopsReadingFile told old new in let l : StopsReadingFile told old new Read = subst At is leaves in l.0
+
+-- where no report comes of a file, this is what `run` answers
+pub stop_answers : (path : List ℕ) (before after : Outside) (stop : FileStop) (status : ℕ) (text : List ℕ) → IsStopEnd stop status text → StopsAtFile (before.files path) stop → LeavesPairs path before after stop
+    → (stop ≡ Read → Rose before.world.file_faults after.world.file_faults) → IsRunAnswer path before after status text
+stop_answers path before after stop status text (end_refused fault) stops pairs rose = run_refused fault stops pairs
+stop_answers path before after stop status text (end_unsaid fault) stops pairs rose = run_wanting (inl pairs)
+stop_answers path before after stop status text end_too_long stops pairs rose = run_too_long stops pairs
+stop_answers path before after stop status text end_unread stops pairs rose = run_unread (rose refl) pairs
+stop_answers path before after stop status text end_wanting stops pairs rose = run_wanting pairs

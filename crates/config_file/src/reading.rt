@@ -1,0 +1,78 @@
+//! The bytes of a file, and the configuration that they are.
+ghost use Rattle.std.specs.Prelude.{◌≡◌, Some, None, IsSome, IfOk, IfErr};
+ghost use Rattle.bridge_config.specs.ConfigFaults.{IsConfiguration};
+ghost use Rattle.config_file.specs.ConfigFiles.{HoldsWhole, HoldsConfig, StopsAtFile, IsFileAsked, LeavesFile, left_of};
+
+use crate::file_stop::FileStop;
+use bridge_config::{Config, read};
+use bridge_ports::World;
+use label_sets::Text;
+use std::alloc::Global;
+
+/// The most bytes of a configuration: 1 MiB.
+const MOST_CONFIG_BYTES: usize = 1 << 20;
+
+/// The most bytes that one read takes.
+const BLOCK_BYTES: usize = 1 << 16;
+
+/// The bytes of the file that is open.
+fn file_bytes<W: World>(alloc: Global, world: &mut W) -> Result<Vec<u8>, FileStop>
+    requires { IsSome (W.world world.old).file }
+    ensures bytes { IfOk result (λ bytes. HoldsWhole (left_of (W.world world.old).file) bytes.items) }
+    ensures stop { IfErr result (StopsAtFile (left_of (W.world world.old).file)) }
+    ensures leaves { LeavesFile (left_of (W.world world.old).file) (W.world world.old) (W.world world.new) result }
+    ensures rest { W.world world.new ≡ record (W.world world.old) { file = (W.world world.new).file; file_faults = (W.world world.new).file_faults } }
+    ensures files { W.files world.new ≡ W.files world.old }
+    ensures home { W.home world.new ≡ W.home world.old }
+    ensures given { W.given world.new ≡ W.given world.old }
+    ensures coming { W.coming world.new ≡ W.coming world.old }
+{
+    let mut bytes = Vec::new(alloc);
+    let mut block = [0u8; BLOCK_BYTES];
+    loop {
+        let count = world.read_file(&mut block)? as usize;
+        if count == 0 {
+            return Ok(bytes);
+        }
+        if count > MOST_CONFIG_BYTES - bytes.len() {
+            return Err(FileStop::TooLong);
+        }
+        bytes.extend_from_slice(&block[..count])?;
+    }
+}
+
+/// Opens the file of a path, and gives its bytes.
+fn bytes_in<W: World>(alloc: Global, path: Text, world: &mut W) -> Result<Vec<u8>, FileStop>
+    requires { (W.world world.old).asked ≡ None }
+    ensures bytes { IfOk result (λ bytes. HoldsWhole (W.files world.old path) bytes.items) }
+    ensures stop { IfErr result (StopsAtFile (W.files world.old path)) }
+    ensures leaves { LeavesFile (W.files world.old path) (W.world world.old) (W.world world.new) result }
+    ensures asked { IsFileAsked path (W.world world.old) (W.world world.new) }
+    ensures files { W.files world.new ≡ W.files world.old }
+    ensures home { W.home world.new ≡ W.home world.old }
+    ensures given { W.given world.new ≡ W.given world.old }
+    ensures coming { W.coming world.new ≡ W.coming world.old }
+{
+    match world.open_file(path) {
+        Ok(()) => file_bytes(alloc, world),
+        Err(failed) => Err(FileStop::from(failed)),
+    }
+}
+
+/// The configuration in the file of a path. The file is read to its end, or up to a read that takes more than 1 MiB.
+/// It answers [`FileStop::Read`] exactly where the world's count of faults of files rose; nothing else of the world
+/// changes.
+pub fn config_in<W: World>(alloc: Global, path: Text, world: &mut W) -> Result<Config, FileStop>
+    requires { (W.world world.old).asked ≡ None }
+    ensures config { IfOk result (HoldsConfig (W.files world.old path)) }
+    ensures stop { IfErr result (StopsAtFile (W.files world.old path)) }
+    ensures leaves { LeavesFile (W.files world.old path) (W.world world.old) (W.world world.new) result }
+    ensures asked { IsFileAsked path (W.world world.old) (W.world world.new) }
+    ensures files { W.files world.new ≡ W.files world.old }
+    ensures home { W.home world.new ≡ W.home world.old }
+    ensures given { W.given world.new ≡ W.given world.old }
+    ensures coming { W.coming world.new ≡ W.coming world.old }
+{
+    let bytes = bytes_in(alloc, path, world)?;
+    Ok(read(alloc, bytes.as_slice())?)
+}
