@@ -1,5 +1,5 @@
 -- Keys that are taken away from two lists, one more and one more.
-use Rattle.std.proofs.Common.{◌≡◌, ℕ, ◌+◌, ◌-◌, ◌≤◌, ◌<◌, Bool, true, false, not, ◌&&◌, ◌||◌, List, [], ◌∷◌, ◌++◌, take, drop, get_or, length, filter, cond, Some, refl, sym, ap, subst, ◌∙◌, arith, append_assoc}
+use Rattle.std.proofs.Common.{◌≡◌, ℕ, ◌+◌, ◌-◌, ◌≤◌, ◌<◌, Bool, true, false, not, ◌&&◌, ◌||◌, List, [], ◌∷◌, ◌++◌, take, drop, get_or, length, filter, cond, Some, refl, sym, ap, subst, ◌∙◌, arith, append_assoc, zero, suc, Bor}
 use Rattle.std.specs.Prelude.{slice_get}
 use Rattle.std.specs.List.{IsDistinct, AllByRecursion}
 use Rattle.std.proofs.lemmas.List.{append-nil, take_more, take-append-drop, take-take, drop-take, take_rest}
@@ -9,7 +9,7 @@ use Rattle.std.proofs.lemmas.Option.{slice_get_within, get_or_from_slice_get}
 use Rattle.label_sets.specs.declared.series_key.SeriesKey.{SeriesKey}
 use Rattle.label_sets.specs.Keys.{key_eq}
 use Rattle.label_sets.proofs.Laws.{key_decides, same_tests}
-use Rattle.packed_keys.specs.Partings.{IsParted, is_among}
+use Rattle.packed_keys.specs.Partings.{IsParted, is_among, keys_behind}
 use Rattle.packed_keys.proofs.Series.{front_once}
 
 -- ---- tests
@@ -169,6 +169,16 @@ near_step asked keys all strays left more from at key le is e m p = rw (m, e, cu
 pub one_passed : (asked keys strays left : List SeriesKey) (at place : ℕ) (key : SeriesKey) → at < length asked → key ≡ get_or asked at key → IsParted (take at asked ++ key ∷ []) (take place keys) strays left → IsParted (take (at + 1) asked) (take place keys) strays left
 one_passed asked keys strays left at place key within is p =
     subst (λ (ks : List SeriesKey). IsParted ks (take place keys) strays left) (sym (take_more asked at key within ∙ ap (λ (k : SeriesKey). take at asked ++ k ∷ []) (sym is))) p
+
+-- the key behind a reference, at its place
+pub behind_at : (refs : List (Bor SeriesKey)) (at : ℕ) (r : Bor SeriesKey) → r ≡ get_or refs at r → r.now ≡ get_or (keys_behind refs) at r.now
+behind_at [] at r e = refl
+behind_at (x ∷ refs) zero r e = ap (λ (y : Bor SeriesKey). y.now) e
+behind_at (x ∷ refs) (suc at) r e = behind_at refs at r e
+
+pub length-behind : (refs : List (Bor SeriesKey)) → length (keys_behind refs) ≡ length refs
+length-behind [] = refl
+length-behind (x ∷ refs) = ap suc (length-behind refs)
 
 -- the keys behind the last place are left too
 pub parted_whole : (asked asks keys all strays list left more lefts : List SeriesKey) (from : ℕ) → asks ≡ asked → all ≡ keys → IsParted asks (take from keys) strays left → more ≡ left ++ take (length all - from) (drop from all)

@@ -1,8 +1,13 @@
 -- Two lists of keys without those that stand in both (the bridge's own).
-use Rattle.std.specs.Prelude.{◌≡◌, Bool, false, ◌||◌, List, filter}
+use Rattle.std.specs.Prelude.{◌≡◌, Bool, false, ◌||◌, List, filter, map}
+use denote.Ref.{Bor}
 use Rattle.std.specs.List.{IsDistinct, AllByRecursion, list_any}
 use Rattle.label_sets.specs.declared.series_key.SeriesKey.{SeriesKey}
 use Rattle.label_sets.specs.Keys.{key_eq}
+
+-- the keys that are referred to
+abbrev pub keys_behind : List (Bor SeriesKey) → List SeriesKey
+keys_behind refs = map (λ r. r.now) refs
 
 -- the key is one of these
 abbrev pub is_among : List SeriesKey → SeriesKey → Bool

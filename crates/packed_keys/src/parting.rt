@@ -1,7 +1,7 @@
 //! Two lists of keys without those that stand in both at like places.
 ghost use Rattle.std.specs.Prelude.{◌≡◌, ◌≤◌, ◌<◌, ◌++◌, ◌∷◌, [], length, take, drop, IfOk, IfSome, OnOk, Some, List as Seq, slice_get};
 ghost use Rattle.label_sets.specs.declared.series_key.SeriesKey.{SeriesKey as Key};
-ghost use Rattle.packed_keys.specs.Partings.{IsParted};
+ghost use Rattle.packed_keys.specs.Partings.{IsParted, keys_behind};
 
 use crate::series_places::is_at;
 use label_sets::{List, Memory, SeriesKey};
@@ -72,18 +72,18 @@ fn take_away(
 /// Takes away the keys that are asked for, as far as they are near.
 fn take_near(
     keys: &List<SeriesKey>,
-    asked: &[SeriesKey],
+    asked: &[&SeriesKey],
     strays: &mut Vec<SeriesKey>,
     left: &mut Vec<SeriesKey>,
 ) -> Result<usize, Memory>
     requires strays { strays.old.items ≡ [] }
     requires left { left.old.items ≡ [] }
     ensures next { IfOk result (λ place. place ≤ length keys.now) }
-    ensures parted { IfOk result (λ place. IsParted asked.now (take place keys.now) strays.new.items left.new.items) }
+    ensures parted { IfOk result (λ place. IsParted (keys_behind asked.now) (take place keys.now) strays.new.items left.new.items) }
 {
     let mut next = 0usize;
-    for key in asked {
-        let place = take_away(keys, next, key, strays, left)?;
+    for at in 0..asked.len() {
+        let place = take_away(keys, next, asked[at], strays, left)?;
         next = place;
     }
     Ok(next)
@@ -91,17 +91,13 @@ fn take_near(
 
 /// Two lists of keys without pairs of equal ones: a key that is asked for is looked for among the few behind the
 /// one found last, so lists that have the same series in one order lose all but those that one of them lacks. No
-/// key is hashed. Want of memory is the only error.
-pub fn part(
-    alloc: Global,
-    keys: &List<SeriesKey>,
-    asked: &List<SeriesKey>,
-) -> Result<Parted, Memory>
-    ensures { IfOk result (λ parted. IsParted asked.now keys.now parted.strays parted.left) }
+/// key is hashed, and of those that are asked for only the strays are copied. Want of memory is the only error.
+pub fn part(alloc: Global, keys: &List<SeriesKey>, asked: &[&SeriesKey]) -> Result<Parted, Memory>
+    ensures { IfOk result (λ parted. IsParted (keys_behind asked.now) keys.now parted.strays parted.left) }
 {
     let mut strays = Vec::new(alloc);
     let mut left = Vec::new(alloc);
-    let next = take_near(keys, asked.as_slice(), &mut strays, &mut left)?;
+    let next = take_near(keys, asked, &mut strays, &mut left)?;
     put_keys(&mut left, &keys.as_slice()[next..])?;
     let strays = List::from_vec(strays)?;
     let left = List::from_vec(left)?;

@@ -2,6 +2,7 @@
 ghost use Rattle.std.specs.Prelude.{◌≡◌, ◌++◌, map, IfOk, OnOk};
 ghost use Rattle.std.specs.List.{IsDistinct};
 ghost use Rattle.label_sets.specs.Keys.{key_eq};
+ghost use Rattle.packed_keys.specs.Partings.{keys_behind};
 ghost use Rattle.page_model.specs.declared.page.Reading.{Reading as OneReading};
 ghost use Rattle.page_model.specs.Presence as presence;
 
@@ -9,24 +10,43 @@ use label_sets::{List, Memory, SeriesKey};
 use page_model::{Page, Reading};
 use std::alloc::Global;
 
-/// Puts the keys of readings behind others.
-fn put_keys(keys: &mut Vec<SeriesKey>, readings: &[Reading]) -> Result<(), Memory>
-    ensures { OnOk result (keys.new.items ≡ keys.old.items ++ map (λ (r : OneReading). r.key) readings.now) }
+/// Puts references to the keys of readings behind others.
+fn put_keys<'a>(keys: &mut Vec<&'a SeriesKey>, readings: &'a [Reading]) -> Result<(), Memory>
+    ensures { OnOk result (keys_behind keys.new.items ≡ keys_behind keys.old.items ++ map (λ (r : OneReading). r.key) readings.entry.now) }
 {
     for reading in readings {
-        keys.push(reading.key.copy()?)?;
+        keys.push(&reading.key)?;
     }
     Ok(())
 }
 
-/// The keys of a page, in page order, with one owner more. No series has two readings in a page.
-pub(crate) fn keys_of(alloc: Global, page: &Page) -> Result<List<SeriesKey>, Memory>
-    ensures keys { IfOk result (λ keys. keys ≡ presence.keys_of page.now) }
+/// The keys of a page where they are, in page order. No series has two readings in a page.
+pub(crate) fn keys_of(alloc: Global, page: &Page) -> Result<Vec<&SeriesKey>, Memory>
+    ensures keys { IfOk result (λ keys. keys_behind keys.items ≡ presence.keys_of page.now) }
     ensures once { IsDistinct key_eq (presence.keys_of page.now) }
 {
     let mut keys = Vec::new(alloc);
     for family in page.families().as_slice() {
         put_keys(&mut keys, family.readings.as_slice())?;
     }
-    List::from_vec(keys)
+    Ok(keys)
+}
+
+/// The same keys, with one owner more.
+fn copies(alloc: Global, keys: &[&SeriesKey]) -> Result<List<SeriesKey>, Memory>
+    ensures { IfOk result (λ copies. copies ≡ keys_behind keys.now) }
+{
+    let mut copies = Vec::with_capacity(alloc, keys.len())?;
+    for at in 0..keys.len() {
+        copies.push(keys[at].copy()?)?;
+    }
+    List::from_vec(copies)
+}
+
+/// The keys of a page, in page order, with one owner more.
+pub(crate) fn copied_keys_of(alloc: Global, page: &Page) -> Result<List<SeriesKey>, Memory>
+    ensures { IfOk result (λ keys. keys ≡ presence.keys_of page.now) }
+{
+    let keys = keys_of(alloc, page)?;
+    copies(alloc, keys.as_slice())
 }
