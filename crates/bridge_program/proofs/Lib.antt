@@ -1,1 +1,2 @@
 pub mod RunEnds
+mod Worlds

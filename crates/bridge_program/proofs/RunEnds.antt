@@ -1,5 +1,5 @@
 -- What a run ends with, and what becomes of it once it is written.
-use Rattle.std.proofs.Common.{◌≡◌, ◌≢◌, ◌⊎◌, inl, inr, ℕ, ◌<◌, Bool, true, false, List, [], ◌∷◌, ◌++◌, Option, refl, sym, ap, subst, ◌∙◌, arith}
+use Rattle.std.proofs.Common.{◌≡◌, ◌≢◌, ◌⊎◌, inl, inr, ℕ, true, false, List, [], ◌∷◌, ◌++◌, Option, refl, sym, subst, ◌∙◌, arith}
 use Rattle.std.specs.Io.KnownBytes.{Appends}
 use Rattle.bridge_ports.specs.Causes.{Rose}
 use Rattle.bridge_ports.specs.Worlds.{WorldState}
@@ -7,11 +7,12 @@ use Rattle.config_file.specs.declared.file_stop.FileStop.{FileStop}
 use Rattle.config_file.specs.declared.file_stop.FileStop.TheVariants.{Read}
 use Rattle.config_file.specs.ConfigFiles.{StopsAtFile, StopsReadingFile}
 use Rattle.world_run.specs.Outside.{Outside}
+use Rattle.world_run.specs.Serving.{Coming}
 use Rattle.run_command.specs.RunReports.{LeavesPairs}
 use Rattle.bridge_cli.specs.declared.status.Status.TheVariants.{Done, ReadFailed, WantOfMemory, TooLong, WriteFailed}
 use Rattle.bridge_cli.specs.Statuses.{code_of, IsStatus}
 use Rattle.bridge_cli.specs.ProgramOutputs.{WroteFront, TellsFault}
-use Rattle.bridge_program.specs.RunAnswers.{config_refused, run_status, IsRunAnswer, run_over, run_refused, run_too_long, run_unread, run_wanting, IsStopEnd, end_refused, end_unsaid, end_too_long, end_unread, end_wanting, IsWritten, written_whole, written_part}
+use Rattle.bridge_program.specs.RunAnswers.{config_refused, IsRunAnswer, run_over, run_refused, run_too_long, run_unread, run_wanting, IsStopEnd, end_refused, end_unsaid, end_too_long, end_unread, end_wanting, IsWritten, written_whole, written_part}
 
 -- ---- what is written
 
@@ -24,9 +25,13 @@ pub is_cut_off : (status code : ℕ) (text written : List ℕ) (held after : Opt
 is_cut_off status code text written held after same is front =
     let Cut : ℕ → Type 0 = IsWritten status text held after in subst Cut (sym is) (written_part (subst (WroteFront held after) same front))
 
+-- no call failed
+none_failed_as : (code status before now : ℕ) → status ≢ code → now ≡ before → TellsFault code status before now
+none_failed_as code status before now other same = record { rose = λ e. absurd (other e); only = λ less. absurd (omega (arith, same, less)); kept = λ no. same }
+
 -- no write failed
 pub none_failed : (status before now : ℕ) → status ≢ code_of WriteFailed → now ≡ before → TellsFault (code_of WriteFailed) status before now
-none_failed status before now other same = record { rose = λ e. absurd (other e); only = λ less. absurd (omega (arith, same, less)); kept = λ no. same }
+none_failed status before now other same = none_failed_as (code_of WriteFailed) status before now other same
 
 no_rest : (front rest : List ℕ) → [] ≡ front ++ rest → rest ≡ []
 no_rest [] rest e = sym e
@@ -39,43 +44,43 @@ nothing_left held after text none front = front.some_left (no_rest front.front f
 -- ---- what `run` answers
 
 -- a failed read says nothing
-unread_empty : (path : List ℕ) (before after : Outside) (status : ℕ) (text : List ℕ) → IsRunAnswer path before after status text → status ≡ code_of ReadFailed → text ≡ []
-unread_empty path before after status text (run_over t false report) e = absurd cc
-unread_empty path before after status text (run_over t true report) e = absurd cc
-unread_empty path before after status text (run_refused fault holds pairs) e = absurd cc
-unread_empty path before after status text (run_too_long long pairs) e = absurd cc
-unread_empty path before after status text (run_unread rose pairs) e = refl
-unread_empty path before after status text (run_wanting left) e = absurd cc
+unread_empty : (path : List ℕ) (coming : Coming) (before after : Outside) (status : ℕ) (text : List ℕ) → IsRunAnswer path coming before after status text → status ≡ code_of ReadFailed → text ≡ []
+unread_empty path coming before after status text (run_over t false report) e = absurd cc
+unread_empty path coming before after status text (run_over t true report) e = absurd cc
+unread_empty path coming before after status text (run_refused fault holds pairs) e = absurd cc
+unread_empty path coming before after status text (run_too_long long pairs) e = absurd cc
+unread_empty path coming before after status text (run_unread rose pairs) e = refl
+unread_empty path coming before after status text (run_wanting left) e = absurd cc
 
 -- its status is never that of a failed write
-pub no_write : (path : List ℕ) (before after : Outside) (status : ℕ) (text : List ℕ) → IsRunAnswer path before after status text → status ≢ code_of WriteFailed
-no_write path before after status text (run_over t false report) e = absurd cc
-no_write path before after status text (run_over t true report) e = absurd cc
-no_write path before after status text (run_refused fault holds pairs) e = absurd cc
-no_write path before after status text (run_too_long long pairs) e = absurd cc
-no_write path before after status text (run_unread rose pairs) e = absurd cc
-no_write path before after status text (run_wanting left) e = absurd cc
+pub no_write : (path : List ℕ) (coming : Coming) (before after : Outside) (status : ℕ) (text : List ℕ) → IsRunAnswer path coming before after status text → status ≢ code_of WriteFailed
+no_write path coming before after status text (run_over t false report) e = absurd cc
+no_write path coming before after status text (run_over t true report) e = absurd cc
+no_write path coming before after status text (run_refused fault holds pairs) e = absurd cc
+no_write path coming before after status text (run_too_long long pairs) e = absurd cc
+no_write path coming before after status text (run_unread rose pairs) e = absurd cc
+no_write path coming before after status text (run_wanting left) e = absurd cc
 
-answer_status : (path : List ℕ) (before after : Outside) (status : ℕ) (text : List ℕ) → IsRunAnswer path before after status text → IsStatus status ⊎ (status ≡ config_refused)
-answer_status path before after status text (run_over t false report) = inl (Done, refl)
-answer_status path before after status text (run_over t true report) = inl (WantOfMemory, refl)
-answer_status path before after status text (run_refused fault holds pairs) = inr refl
-answer_status path before after status text (run_too_long long pairs) = inl (TooLong, refl)
-answer_status path before after status text (run_unread rose pairs) = inl (ReadFailed, refl)
-answer_status path before after status text (run_wanting left) = inl (WantOfMemory, refl)
+answer_status : (path : List ℕ) (coming : Coming) (before after : Outside) (status : ℕ) (text : List ℕ) → IsRunAnswer path coming before after status text → IsStatus status ⊎ (status ≡ config_refused)
+answer_status path coming before after status text (run_over t false report) = inl (Done, refl)
+answer_status path coming before after status text (run_over t true report) = inl (WantOfMemory, refl)
+answer_status path coming before after status text (run_refused fault holds pairs) = inr refl
+answer_status path coming before after status text (run_too_long long pairs) = inl (TooLong, refl)
+answer_status path coming before after status text (run_unread rose pairs) = inl (ReadFailed, refl)
+answer_status path coming before after status text (run_wanting left) = inl (WantOfMemory, refl)
 
 -- the status of the process is one that the program has
-pub run_statuses : (path : List ℕ) (before after : Outside) (status code : ℕ) (text : List ℕ) (held written : Option (List ℕ)) → IsRunAnswer path before after status text → IsWritten status text held written code
+pub run_statuses : (path : List ℕ) (coming : Coming) (before after : Outside) (status code : ℕ) (text : List ℕ) (held written : Option (List ℕ)) → IsRunAnswer path coming before after status text → IsWritten status text held written code
     → IsStatus code ⊎ (code ≡ config_refused)
-run_statuses path before after status code text held written answer (written_whole grown) = answer_status path before after status text answer
-run_statuses path before after status code text held written answer (written_part front) = inl (WriteFailed, refl)
+run_statuses path coming before after status code text held written answer (written_whole grown) = answer_status path coming before after status text answer
+run_statuses path coming before after status code text held written answer (written_part front) = inl (WriteFailed, refl)
 
 -- the process tells a failed read as `run` did
-pub read_told : (path : List ℕ) (before after : Outside) (status code : ℕ) (text : List ℕ) (held written : Option (List ℕ)) (old new : ℕ) → IsRunAnswer path before after status text → IsWritten status text held written code
+pub read_told : (path : List ℕ) (coming : Coming) (before after : Outside) (status code : ℕ) (text : List ℕ) (held written : Option (List ℕ)) (old new : ℕ) → IsRunAnswer path coming before after status text → IsWritten status text held written code
     → TellsFault (code_of ReadFailed) status old new → TellsFault (code_of ReadFailed) code old new
-read_told path before after status code text held written old new answer (written_whole grown) told = told
-read_told path before after status code text held written old new answer (written_part front) told =
-    let some : status ≢ code_of ReadFailed = λ e. nothing_left held written text (unread_empty path before after status text answer e) front in record {
+read_told path coming before after status code text held written old new answer (written_whole grown) told = told
+read_told path coming before after status code text held written old new answer (written_part front) told =
+    let some : status ≢ code_of ReadFailed = λ e. nothing_left held written text (unread_empty path coming before after status text answer e) front in record {
       rose = λ e. absurd cc;
       only = λ less. absurd (some (told.only less));
       kept = λ no. told.kept some;
@@ -87,11 +92,19 @@ read_told path before after status code text held written old new answer (writte
 pub rose_at_read : (told : Option (List ℕ)) (old new : WorldState) (stop : FileStop) → StopsReadingFile told old new stop → stop ≡ Read → Rose old.file_faults new.file_faults
 rose_at_read told old new stop leaves is = let At : FileStop → Type 0 = StopsReadingFile told old new in let l : StopsReadingFile told old new Read = subst At is leaves in l.0
 
+-- where no report comes of a file, the status tells a failed read
+pub stop_tells : (told : Option (List ℕ)) (old new : WorldState) (stop : FileStop) (status : ℕ) (text : List ℕ) → IsStopEnd stop status text → StopsReadingFile told old new stop → TellsFault (code_of ReadFailed) status old.file_faults new.file_faults
+stop_tells told old new stop status text (end_refused fault) leaves = none_failed_as (code_of ReadFailed) config_refused old.file_faults new.file_faults (λ e. absurd cc) leaves.1
+stop_tells told old new stop status text (end_unsaid fault) leaves = none_failed_as (code_of ReadFailed) (code_of WantOfMemory) old.file_faults new.file_faults (λ e. absurd cc) leaves.1
+stop_tells told old new stop status text end_too_long leaves = none_failed_as (code_of ReadFailed) (code_of TooLong) old.file_faults new.file_faults (λ e. absurd cc) leaves.1
+stop_tells told old new stop status text end_unread leaves = record { rose = λ e. leaves.0; only = λ less. refl; kept = λ no. absurd (no refl) }
+stop_tells told old new stop status text end_wanting leaves = none_failed_as (code_of ReadFailed) (code_of WantOfMemory) old.file_faults new.file_faults (λ e. absurd cc) leaves.1
+
 -- where no report comes of a file, this is what `run` answers
-pub stop_answers : (path : List ℕ) (before after : Outside) (stop : FileStop) (status : ℕ) (text : List ℕ) → IsStopEnd stop status text → StopsAtFile (before.files path) stop → LeavesPairs path before after stop
-    → (stop ≡ Read → Rose before.world.file_faults after.world.file_faults) → IsRunAnswer path before after status text
-stop_answers path before after stop status text (end_refused fault) stops pairs rose = run_refused fault stops pairs
-stop_answers path before after stop status text (end_unsaid fault) stops pairs rose = run_wanting (inl pairs)
-stop_answers path before after stop status text end_too_long stops pairs rose = run_too_long stops pairs
-stop_answers path before after stop status text end_unread stops pairs rose = run_unread (rose refl) pairs
-stop_answers path before after stop status text end_wanting stops pairs rose = run_wanting pairs
+pub stop_answers : (path : List ℕ) (coming : Coming) (before after : Outside) (stop : FileStop) (status : ℕ) (text : List ℕ) → IsStopEnd stop status text → StopsAtFile (before.files path) stop → LeavesPairs path coming before after stop
+    → (stop ≡ Read → Rose before.world.file_faults after.world.file_faults) → IsRunAnswer path coming before after status text
+stop_answers path coming before after stop status text (end_refused fault) stops pairs rose = run_refused fault stops pairs
+stop_answers path coming before after stop status text (end_unsaid fault) stops pairs rose = run_wanting (inl pairs)
+stop_answers path coming before after stop status text end_too_long stops pairs rose = run_too_long stops pairs
+stop_answers path coming before after stop status text end_unread stops pairs rose = run_unread (rose refl) pairs
+stop_answers path coming before after stop status text end_wanting stops pairs rose = run_wanting pairs

@@ -7,9 +7,10 @@ use Rattle.bridge_config.specs.declared.fault.ConfigFault.{ConfigFault}
 use Rattle.bridge_config.specs.ConfigLines.{config_line}
 use Rattle.config_file.specs.declared.file_stop.FileStop.{FileStop}
 use Rattle.config_file.specs.declared.file_stop.FileStop.TheVariants as stops
-use Rattle.config_file.specs.ConfigFiles.{HoldsFault, IsTooLong, IsFileAsked}
+use Rattle.config_file.specs.ConfigFiles.{HoldsFault, IsTooLong}
 use Rattle.world_run.specs.Outside.{Outside, AreUnused}
-use Rattle.run_command.specs.RunReports.{IsReportOfRun, KeepsPairs, MayHaveRun}
+use Rattle.world_run.specs.Serving.{Coming}
+use Rattle.run_command.specs.RunReports.{IsReportOfRun, KeepsPairs, MayHaveRun, IsRunAsked}
 use Rattle.bridge_cli.specs.declared.status.Status.TheVariants.{Done, ReadFailed, WriteFailed, WantOfMemory, TooLong}
 use Rattle.bridge_cli.specs.Statuses.{code_of}
 use Rattle.bridge_cli.specs.Stops.{too_long_text}
@@ -31,12 +32,12 @@ run_status false = code_of Done
 run_status true = code_of WantOfMemory
 
 -- a status and a text that `run` answers, of a world before and after it
-pub data IsRunAnswer (path : List ℕ) (before after : Outside) : ℕ → List ℕ → Type 0 where
-  run_over : (text : List ℕ) (halted : Bool) → IsReportOfRun path before after text halted → IsRunAnswer path before after (run_status halted) text
-  run_refused : (fault : ConfigFault) → HoldsFault (before.files path) fault → KeepsPairs before after → IsRunAnswer path before after config_refused (config_line fault)
-  run_too_long : IsTooLong (before.files path) → KeepsPairs before after → IsRunAnswer path before after (code_of TooLong) too_long_text
-  run_unread : Rose before.world.file_faults after.world.file_faults → KeepsPairs before after → IsRunAnswer path before after (code_of ReadFailed) []
-  run_wanting : KeepsPairs before after ⊎ MayHaveRun path before after → IsRunAnswer path before after (code_of WantOfMemory) []
+pub data IsRunAnswer (path : List ℕ) (coming : Coming) (before after : Outside) : ℕ → List ℕ → Type 0 where
+  run_over : (text : List ℕ) (halted : Bool) → IsReportOfRun path coming before after text halted → IsRunAnswer path coming before after (run_status halted) text
+  run_refused : (fault : ConfigFault) → HoldsFault (before.files path) fault → KeepsPairs before after → IsRunAnswer path coming before after config_refused (config_line fault)
+  run_too_long : IsTooLong (before.files path) → KeepsPairs before after → IsRunAnswer path coming before after (code_of TooLong) too_long_text
+  run_unread : Rose before.world.file_faults after.world.file_faults → KeepsPairs before after → IsRunAnswer path coming before after (code_of ReadFailed) []
+  run_wanting : KeepsPairs before after ⊎ MayHaveRun path coming before after → IsRunAnswer path coming before after (code_of WantOfMemory) []
 
 -- what is printed where no report comes of a file: a status and a text; want of memory where the line finds none
 pub data IsStopEnd : FileStop → ℕ → List ℕ → Type 0 where
@@ -52,12 +53,12 @@ pub data IsWritten (status : ℕ) (text : List ℕ) (held after : Option (List �
   written_part : WroteFront held after text → IsWritten status text held after (code_of WriteFailed)
 
 -- what `run` answers was written, whole or in part, and this is the status of the process
-pub record RunAnswered (path : List ℕ) (before after : Outside) (held written : Option (List ℕ)) (code : ℕ) : Type 0 where
+pub record RunAnswered (path : List ℕ) (coming : Coming) (before after : Outside) (held written : Option (List ℕ)) (code : ℕ) : Type 0 where
   pub status : ℕ
   pub text : List ℕ
-  pub answer : IsRunAnswer path before after status text
+  pub answer : IsRunAnswer path coming before after status text
   pub printed : IsWritten status text held written code
 
--- a world was asked for no other file than that of a path
+-- a world was asked for no other file than that of a path, and the shelf is as it was
 abbrev pub AsksAtMost : List ℕ → WorldState → WorldState → Type 0
-AsksAtMost path old new = (new ≡ old) ⊎ IsFileAsked path old new
+AsksAtMost path old new = (new ≡ old) ⊎ IsRunAsked path old new

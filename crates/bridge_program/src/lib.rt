@@ -4,5 +4,7 @@
 mod program;
 mod run_end;
 mod run_words;
+#[cfg(test)]
+mod tests;
 
 pub use program::bridge;

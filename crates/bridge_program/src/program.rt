@@ -7,16 +7,18 @@ ghost use Rattle.bridge_cli.specs.Inputs.{TookAtMost, IsReadThrough};
 ghost use Rattle.bridge_cli.specs.ProgramOutputs.{Answered, AnsweredInPart, AnsweredInPieces, IsOnlyAnswer, TellsFault};
 ghost use Rattle.bridge_cli.specs.Statuses.{code_of, IsStatus, IsTold, IsUntold};
 ghost use Rattle.world_run.specs.Outside.{outside_of};
+ghost use Rattle.run_command.specs.RunReports.{MayKeepComing};
 ghost use Rattle.bridge_program.specs.RunWords.{AskToRun, AskForNoRun};
 ghost use Rattle.bridge_program.specs.RunAnswers.{IsUnasked, IsWritten, RunAnswered, AsksAtMost, config_refused};
 
 use crate::run_end::{RunEnd, run_end};
 use crate::run_words::run_path;
 use bridge_cli::{Status, bridge as bridge_streams, write_all};
-use bridge_ports::{Failed, Sink, Source, World};
+use bridge_ports::{Door, Failed, Sink, Source, World};
 use std::alloc::Global;
 use std::sync::Wait;
 use std::thread::Threads;
+use world_run::Conn;
 
 /// Writes what a run prints, and gives the status of the process.
 fn print_end<O: Sink>(end: &RunEnd, output: &mut O) -> u8
@@ -32,7 +34,7 @@ fn print_end<O: Sink>(end: &RunEnd, output: &mut O) -> u8
 
 /// Runs the program on the words of its command line, without its own name, and answers the status that it ends with.
 /// `run CONFIG` reads the configuration in the file of the path CONFIG, scrapes its targets and posts what they show over
-/// the wires of the world, and prints a report; all other words are those of [`bridge_cli::bridge`], which leaves the
+/// the wires of the world, serves the page of what they show at the door that the configuration has, and prints a report; all other words are those of [`bridge_cli::bridge`], which leaves the
 /// world as it is. Of `run` the statuses are:
 ///
 /// - 0, done: the output has the report;
@@ -43,14 +45,14 @@ fn print_end<O: Sink>(end: &RunEnd, output: &mut O) -> u8
 /// - 8, the file has more than 1 MiB: the output has the line `input too long`.
 ///
 /// What is said of a run holds where the call returns.
-pub fn bridge<R: Threads + Wait + Sync, W: World, I: Source, O: Sink>(
-    rt: &R,
-    alloc: Global,
-    words: &[String],
-    world: &mut W,
-    input: &mut I,
-    output: &mut O,
-) -> u8
+pub fn bridge<
+    R: Threads + Wait + Sync,
+    K: Conn,
+    E: Door<Conn = K>,
+    W: World<Door = E>,
+    I: Source,
+    O: Sink,
+>(rt: &R, alloc: Global, words: &[String], world: &mut W, input: &mut I, output: &mut O) -> u8
     requires { IsUnasked (outside_of W.Wire.state (W.world world.old) (W.files world.old) (W.home world.old) (W.given world.old)) }
     ensures statuses { IsStatus result ⊎ (result ≡ config_refused) }
 
@@ -87,7 +89,7 @@ pub fn bridge<R: Threads + Wait + Sync, W: World, I: Source, O: Sink>(
     ensures write_faults { TellsFault (code_of WriteFailed) result (O.write_faults output.old) (O.write_faults output.new) }
 
     // A run: what was posted for each target is told by its own talks alone, and its report was written.
-    ensures run_answered { (path : Seq ℕ) → AskToRun (map string_bytes words.now) path → RunAnswered path
+    ensures run_answered { (path : Seq ℕ) → AskToRun (map string_bytes words.now) path → RunAnswered path (W.coming world.old)
         (outside_of W.Wire.state (W.world world.old) (W.files world.old) (W.home world.old) (W.given world.old))
         (outside_of W.Wire.state (W.world world.new) (W.files world.new) (W.home world.new) (W.given world.new))
         (O.held output.old) (O.held output.new) result }
@@ -95,6 +97,9 @@ pub fn bridge<R: Threads + Wait + Sync, W: World, I: Source, O: Sink>(
     ensures file_faults { (path : Seq ℕ) → AskToRun (map string_bytes words.now) path
         → TellsFault (code_of ReadFailed) result (W.world world.old).file_faults (W.world world.new).file_faults }
     ensures file_asked { (path : Seq ℕ) → AskToRun (map string_bytes words.now) path → AsksAtMost path (W.world world.old) (W.world world.new) }
+    ensures files_kept { W.files world.new ≡ W.files world.old }
+    ensures coming_kept { (path : Seq ℕ) → AskToRun (map string_bytes words.now) path
+        → MayKeepComing (W.files world.old path) (W.coming world.old) (W.coming world.new) }
     ensures world_kept { AskForNoRun (map string_bytes words.now) → world.new ≡ world.old }
 {
     match run_path(words) {

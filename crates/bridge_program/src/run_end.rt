@@ -2,7 +2,7 @@
 ghost use Rattle.std.specs.Prelude.{◌≡◌, None, IfOk};
 ghost use Rattle.std.specs.Cow.{cow_slice_items};
 ghost use Rattle.bridge_config.specs.ConfigLines.{config_line};
-ghost use Rattle.config_file.specs.ConfigFiles.{IsFileAsked};
+ghost use Rattle.run_command.specs.RunReports.{MayKeepComing};
 ghost use Rattle.world_run.specs.Outside.{seen_home, outside_of, AreUnused};
 ghost use Rattle.bridge_cli.specs.declared.status.Status.TheVariants.{ReadFailed};
 ghost use Rattle.bridge_cli.specs.ProgramOutputs.{TellsFault};
@@ -11,7 +11,7 @@ ghost use Rattle.bridge_program.specs.RunAnswers.{IsRunAnswer, IsStopEnd, AsksAt
 
 use bridge_cli::Status;
 use bridge_config::{ConfigFault, push_line};
-use bridge_ports::World;
+use bridge_ports::{Door, World};
 use config_file::FileStop;
 use label_sets::{Memory, Text};
 use run_command::{Report, run};
@@ -19,6 +19,7 @@ use std::alloc::{AllocError, Global};
 use std::borrow::CowSlice;
 use std::sync::Wait;
 use std::thread::Threads;
+use world_run::Conn;
 
 /// The status of a run whose configuration has a fault.
 const CONFIG_REFUSED: u8 = 5;
@@ -86,22 +87,23 @@ fn report_end(report: Report) -> RunEnd
 }
 
 /// Runs the configuration in the file of a path.
-pub(crate) fn run_end<R: Threads + Wait + Sync, W: World>(
+pub(crate) fn run_end<R: Threads + Wait + Sync, K: Conn, E: Door<Conn = K>, W: World<Door = E>>(
     rt: &R,
     alloc: Global,
     path: &str,
     world: &mut W,
 ) -> RunEnd
     requires asked { (W.world world.old).asked ≡ None }
+    requires no_door { (W.world world.old).door_at ≡ None }
     requires unused { AreUnused (seen_home W.Wire.state (W.home world.old)) }
-    ensures answer { IsRunAnswer path.now
+    ensures answer { IsRunAnswer path.now (W.coming world.old)
         (outside_of W.Wire.state (W.world world.old) (W.files world.old) (W.home world.old) (W.given world.old))
         (outside_of W.Wire.state (W.world world.new) (W.files world.new) (W.home world.new) (W.given world.new))
         result.status (cow_slice_items result.text) }
     ensures faults { TellsFault (code_of ReadFailed) result.status (W.world world.old).file_faults (W.world world.new).file_faults }
     ensures asked { AsksAtMost path.now (W.world world.old) (W.world world.new) }
     ensures files { W.files world.new ≡ W.files world.old }
-    ensures coming { W.coming world.new ≡ W.coming world.old }
+    ensures coming { MayKeepComing (W.files world.old path.now) (W.coming world.old) (W.coming world.new) }
 {
     let path = match Text::from_str(alloc, path) {
         Ok(path) => path,

@@ -1,29 +1,72 @@
--- What a run leaves of which no report comes.
-use Rattle.std.proofs.Common.{◌≡◌, ℕ, List, Option, Result, Ok, Err, sym, ap, subst, ◌∙◌, inr}
+-- What a run leaves.
+use Rattle.std.proofs.Common.{◌≡◌, ℕ, List, Option, Result, Ok, Err, sym, ap, subst, ◌∙◌, inl, inr}
 use Rattle.std.specs.Prelude.{IfErr, IsErrAnd}
-use Rattle.bridge_ports.specs.Worlds.{WorldState, Given}
+use Rattle.bridge_ports.specs.Worlds.{WorldState, OpenFile}
 use Rattle.bridge_config.specs.declared.config.Config.{Config}
+use Rattle.bridge_cli.specs.Inputs.{EndsWithin}
 use Rattle.config_file.specs.declared.file_stop.FileStop.{FileStop}
 use Rattle.config_file.specs.declared.file_stop.FileStop.TheVariants.{Memory}
-use Rattle.config_file.specs.ConfigFiles.{HoldsConfig}
+use Rattle.config_file.specs.ConfigFiles.{HoldsConfig, IsFileAsked, LeavesFile, StopsReadingFile, left_of, most_config}
 use Rattle.run_report.specs.declared.target_end.TargetEnd.{TargetEnd}
-use Rattle.world_run.specs.Outside.{SeenPair, Outside}
-use Rattle.world_run.specs.Ends.{IsRunEnd}
-use Rattle.run_command.specs.RunReports.{once_asked, LeavesPairs}
+use Rattle.world_run.specs.Outside.{Outside}
+use Rattle.world_run.specs.Serving.{Coming, IsServedRun, IsUnserved, ChangesDoorsAlone, with_world}
+use Rattle.world_run.proofs.Laws.{IsBeside, with_own}
+use Rattle.run_command.specs.RunReports.{MayHaveRun, LeavesPairs}
 
--- the world of which the file was asked
-once_is : (between before after : Outside) → between.files ≡ before.files → between.home ≡ before.home → between.given ≡ before.given → after.world ≡ between.world → between ≡ once_asked before after
-once_is between before after f h g w =
-    ap (λ (x : List ℕ → Option (List ℕ)). record between { files = x }) f
-    ∙ (ap (λ (x : ℕ → Option SeenPair). record between { files = before.files; home = x }) h
-    ∙ (ap (λ (x : ℕ → Option Given). record between { files = before.files; home = before.home; given = x }) g ∙ ap (λ (x : WorldState). record before { world = x }) (sym w)))
+-- the configuration was read, and nothing but files changed
+pub record IsRead (path : List ℕ) (config : Config) (coming now_coming : Coming) (before between : Outside) : Type 0 where
+  pub holds : HoldsConfig (before.files path) config
+  pub asked : IsFileAsked path before.world between.world
+  pub beside : IsBeside between before
+  pub same_coming : now_coming ≡ coming
+
+-- a run behind that
+pub run_behind : (path : List ℕ) (config : Config) (coming now_coming : Coming) (before between after : Outside) (ends : List TargetEnd) (served : ℕ) → IsRead path config coming now_coming before between → IsServedRun config now_coming between after ends served
+    → IsServedRun config coming (with_world between.world before) after ends served
+run_behind path config coming now_coming before between after ends served read run =
+    subst (λ (b : Outside). IsServedRun config coming b after ends served) (with_own between before read.beside) (subst (λ (k : Coming). IsServedRun config k between after ends served) read.same_coming run)
+
+not_begun_behind : (path : List ℕ) (config : Config) (coming now_coming : Coming) (before between after : Outside) → IsRead path config coming now_coming before between → IsUnserved config now_coming between after → IsUnserved config coming (with_world between.world before) after
+not_begun_behind path config coming now_coming before between after read run =
+    subst (λ (b : Outside). IsUnserved config coming b after) (with_own between before read.beside) (subst (λ (k : Coming). IsUnserved config k between after) read.same_coming run)
+
+wanting : {T : Type 0} (r : Result T FileStop) (path : List ℕ) (coming : Coming) (before after : Outside) → IsErrAnd r (λ s. s ≡ Memory) → MayHaveRun path coming before after → IfErr r (LeavesPairs path coming before after)
+wanting (Ok x) path coming before after is may = absurd is
+wanting (Err s) path coming before after is may = let Left : FileStop → Type 0 = LeavesPairs path coming before after in subst Left (sym is) (inr may)
 
 -- memory was wanted for the report of a run that is over
-pub report_wanting : {T : Type 0} (r : Result T FileStop) (path : List ℕ) (before between after : Outside) (config : Config) (ends : List TargetEnd) → IsErrAnd r (λ s. s ≡ Memory) → HoldsConfig (before.files path) config
-    → between.files ≡ before.files → between.home ≡ before.home → between.given ≡ before.given → IsRunEnd config between after ends → IfErr r (LeavesPairs path before after)
-report_wanting (Ok x) path before between after config ends is holds f h g run = absurd is
-report_wanting (Err s) path before between after config ends is holds f h g run =
-    let Over : Outside → Type 0 = λ b. IsRunEnd config b after ends in
-    let over : IsRunEnd config (once_asked before after) after ends = subst Over (once_is between before after f h g run.rest.world) run in
-    let Left : FileStop → Type 0 = LeavesPairs path before after in
-    subst Left (sym is) (inr (record { config = config; config_is = holds; left = inr (ends, over) }))
+pub report_wanting : {T : Type 0} (r : Result T FileStop) (path : List ℕ) (config : Config) (coming now_coming : Coming) (before between after : Outside) (ends : List TargetEnd) (served : ℕ) → IsErrAnd r (λ s. s ≡ Memory) → IsRead path config coming now_coming before between
+    → IsServedRun config now_coming between after ends served → IfErr r (LeavesPairs path coming before after)
+report_wanting r path config coming now_coming before between after ends served is read run = wanting r path coming before after is (record {
+  config = config;
+  asked = between.world;
+  read = record { config_is = read.holds; file = read.asked };
+  left = inr (ends, served, run_behind path config coming now_coming before between after ends served read run);
+})
+
+-- memory was wanted for a run that was not begun
+pub run_wanting : {T : Type 0} (r : Result T FileStop) (path : List ℕ) (config : Config) (coming now_coming : Coming) (before between after : Outside) → IsErrAnd r (λ s. s ≡ Memory) → IsRead path config coming now_coming before between
+    → IsUnserved config now_coming between after → IfErr r (LeavesPairs path coming before after)
+run_wanting r path config coming now_coming before between after is read run = wanting r path coming before after is (record {
+  config = config;
+  asked = between.world;
+  read = record { config_is = read.holds; file = read.asked };
+  left = inl (not_begun_behind path config coming now_coming before between after read run);
+})
+
+-- ---- the file
+
+-- how far it was read, and the count of its faults, stay where doors alone change
+pub ends_on : (told : Option (List ℕ)) (old mid new : WorldState) → EndsWithin most_config told (left_of mid.file) × (mid.file_faults ≡ old.file_faults) → ChangesDoorsAlone mid new → EndsWithin most_config told (left_of new.file) × (new.file_faults ≡ old.file_faults)
+ends_on told old mid new leaves alone =
+    (subst (λ (f : Option OpenFile). EndsWithin most_config told (left_of f)) (sym (ap (λ (w : WorldState). w.file) alone)) leaves.0, ap (λ (w : WorldState). w.file_faults) alone ∙ leaves.1)
+
+pub leaves_on : {T S : Type 0} (r : Result T FileStop) (x : S) (told : Option (List ℕ)) (old mid new : WorldState) → IfErr r (λ s. s ≡ Memory) → LeavesFile {T = S} told old mid (Ok x) → ChangesDoorsAlone mid new → LeavesFile told old new r
+leaves_on (Ok y) x told old mid new is leaves alone = ends_on told old mid new leaves alone
+leaves_on (Err s) x told old mid new is leaves alone =
+    let on = ends_on told old mid new leaves alone in let Stops : FileStop → Type 0 = StopsReadingFile told old new in subst Stops (sym is) (on.0.took, on.1)
+
+-- want of memory alone
+pub memory_alone : {T : Type 0} (r : Result T FileStop) → IsErrAnd r (λ s. s ≡ Memory) → IfErr r (λ s. s ≡ Memory)
+memory_alone (Ok x) is = absurd is
+memory_alone (Err s) is = is

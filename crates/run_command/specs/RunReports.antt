@@ -1,46 +1,63 @@
 -- What the command `run` comes to. The bridge's own.
-use Rattle.std.specs.Prelude.{◌≡◌, ◌⊎◌, ℕ, Bool, List, ◌++◌}
+use Rattle.std.specs.Prelude.{◌≡◌, ◌⊎◌, ℕ, Bool, List, ◌++◌, Option}
 use Rattle.std.specs.List.{list_any}
+use Rattle.bridge_ports.specs.Worlds.{WorldState}
 use Rattle.bridge_config.specs.declared.config.Config.{Config}
 use Rattle.config_file.specs.declared.file_stop.FileStop.{FileStop}
 use Rattle.config_file.specs.declared.file_stop.FileStop.TheVariants.{TooLong, Read, Fault, Memory}
-use Rattle.config_file.specs.ConfigFiles.{HoldsConfig}
+use Rattle.config_file.specs.ConfigFiles.{HoldsConfig, IsFileAsked}
 use Rattle.run_report.specs.declared.target_end.TargetEnd.{TargetEnd}
 use Rattle.run_report.specs.Reports.{report_text, served_line}
 use Rattle.world_run.specs.Outside.{Outside}
-use Rattle.world_run.specs.Ends.{IsRunEnd, IsNotBegun}
-
--- the world before a run, of which the file of the configuration was asked
-abbrev pub once_asked : Outside → Outside → Outside
-once_asked before after = record before { world = after.world }
+use Rattle.world_run.specs.Serving.{Coming, IsServedRun, IsUnserved, ChangesDoorsAlone, KeepsOtherComing, with_world}
 
 -- some target was halted
 abbrev pub some_halted : List TargetEnd → Bool
 some_halted ends = list_any (λ (e : TargetEnd). e.halted) ends
 
--- the file of a path is a configuration, whose targets were visited over the wires of the world; this is the report of how they ended, and whether some were halted
-pub record IsReportOfRun (path : List ℕ) (before after : Outside) (text : List ℕ) (halted : Bool) : Type 0 where
-  pub config : Config
+-- the file of a path is a configuration, which was read from the world
+pub record IsConfigRead (path : List ℕ) (before : Outside) (config : Config) (asked : WorldState) : Type 0 where
   pub config_is : HoldsConfig (before.files path) config
+  pub file : IsFileAsked path before.world asked
+
+-- the file of a path is a configuration, whose targets were visited over the wires of the world, beside its door; this is the report of how they ended and of how many pages were served, and whether some were halted
+pub record IsReportOfRun (path : List ℕ) (coming : Coming) (before after : Outside) (text : List ℕ) (halted : Bool) : Type 0 where
+  pub config : Config
+  pub asked : WorldState
+  pub read : IsConfigRead path before config asked
   pub ends : List TargetEnd
-  pub run : IsRunEnd config (once_asked before after) after ends
-  pub says : text ≡ report_text ends ++ served_line 0
+  pub served : ℕ
+  pub run : IsServedRun config coming (with_world asked before) after ends served
+  pub says : text ≡ report_text ends ++ served_line served
   pub halts : halted ≡ some_halted ends
 
--- the pairs of wires are where they were, and no address was told
+-- the pairs of wires are where they were, no address was told, and no door was asked for
 pub record KeepsPairs (before after : Outside) : Type 0 where
   pub homes : (n : ℕ) → after.home n ≡ before.home n
   pub addresses : (n : ℕ) → after.given n ≡ before.given n
+  pub no_door : after.world.door_at ≡ before.world.door_at
+  pub door_faults : after.world.door_faults ≡ before.world.door_faults
 
 -- the file of a path is a configuration, whose run was not begun, or is over
-pub record MayHaveRun (path : List ℕ) (before after : Outside) : Type 0 where
+pub record MayHaveRun (path : List ℕ) (coming : Coming) (before after : Outside) : Type 0 where
   pub config : Config
-  pub config_is : HoldsConfig (before.files path) config
-  pub left : IsNotBegun config (once_asked before after) after ⊎ ((ends : List TargetEnd) × IsRunEnd config (once_asked before after) after ends)
+  pub asked : WorldState
+  pub read : IsConfigRead path before config asked
+  pub left : IsUnserved config coming (with_world asked before) after ⊎ ((ends : List TargetEnd) × (served : ℕ) × IsServedRun config coming (with_world asked before) after ends served)
 
--- how a run that gives no report leaves the pairs of wires: as they were, but where memory was wanted
-abbrev pub LeavesPairs : List ℕ → Outside → Outside → FileStop → Type 0
-LeavesPairs path before after TooLong = KeepsPairs before after
-LeavesPairs path before after Read = KeepsPairs before after
-LeavesPairs path before after (Fault fault) = KeepsPairs before after
-LeavesPairs path before after Memory = KeepsPairs before after ⊎ MayHaveRun path before after
+-- how a run that gives no report leaves the pairs of wires and the door: as they were, but where memory was wanted
+abbrev pub LeavesPairs : List ℕ → Coming → Outside → Outside → FileStop → Type 0
+LeavesPairs path coming before after TooLong = KeepsPairs before after
+LeavesPairs path coming before after Read = KeepsPairs before after
+LeavesPairs path coming before after (Fault fault) = KeepsPairs before after
+LeavesPairs path coming before after Memory = KeepsPairs before after ⊎ MayHaveRun path coming before after
+
+-- a world was asked for the file of this path, and behind that at most what is told of doors changed
+pub record IsRunAsked (path : List ℕ) (old new : WorldState) : Type 0 where
+  pub asked : WorldState
+  pub file : IsFileAsked path old asked
+  pub doors : ChangesDoorsAlone asked new
+
+-- what is to come at doors changed at most at that of the configuration in a file
+abbrev pub MayKeepComing : Option (List ℕ) → Coming → Coming → Type 0
+MayKeepComing told old new = (new ≡ old) ⊎ ((config : Config) × HoldsConfig told config × KeepsOtherComing config.door old new)

@@ -1,45 +1,47 @@
 //! The run of the configuration in a file.
 ghost use Rattle.std.specs.Prelude.{◌≡◌, None, IfOk, IfErr, OnErr};
 ghost use Rattle.bridge_config.specs.declared.config.Config.{Config as AnyConfig};
-ghost use Rattle.config_file.specs.ConfigFiles.{StopsAtFile, IsFileAsked, LeavesFile, HoldsConfig};
+ghost use Rattle.config_file.specs.ConfigFiles.{StopsAtFile, LeavesFile};
 ghost use Rattle.world_run.specs.Outside.{seen_home, outside_of, AreUnused};
-ghost use Rattle.run_command.specs.RunReports.{IsReportOfRun, LeavesPairs};
+ghost use Rattle.run_command.specs.RunReports.{IsReportOfRun, LeavesPairs, IsRunAsked, MayKeepComing};
 
 use crate::report::{Report, report_of};
-use bridge_ports::World;
+use bridge_ports::{Door, World};
 use config_file::{FileStop, config_in};
 use label_sets::Text;
 use std::alloc::Global;
 use std::sync::Wait;
 use std::thread::Threads;
-use world_run::run_config;
+use world_run::{Conn, run_config};
 
-/// Reads the configuration in the file of a path, visits its targets over the wires of the world, and gives the report.
+/// Reads the configuration in the file of a path, visits its targets over the wires of the world, beside its door where
+/// it has one, and gives the report.
 ///
 /// # Errors
 ///
 /// What [`config_in`] answers where the file is no configuration; and want of memory. Where memory is wanted for
-/// the report alone the run is over, and its wires came home.
-pub fn run<R: Threads + Wait + Sync, W: World>(
+/// the report alone the run is over, and its wires and its door came home.
+pub fn run<R: Threads + Wait + Sync, K: Conn, E: Door<Conn = K>, W: World<Door = E>>(
     rt: &R,
     alloc: Global,
     path: Text,
     world: &mut W,
 ) -> Result<Report, FileStop>
     requires asked { (W.world world.old).asked ≡ None }
+    requires no_door { (W.world world.old).door_at ≡ None }
     requires unused { AreUnused (seen_home W.Wire.state (W.home world.old)) }
-    ensures report { IfOk result (λ report. IsReportOfRun path
+    ensures report { IfOk result (λ report. IsReportOfRun path (W.coming world.old)
         (outside_of W.Wire.state (W.world world.old) (W.files world.old) (W.home world.old) (W.given world.old))
         (outside_of W.Wire.state (W.world world.new) (W.files world.new) (W.home world.new) (W.given world.new))
         report.text.items report.halted) }
     ensures stop { IfErr result (StopsAtFile (W.files world.old path)) }
-    ensures pairs { IfErr result (LeavesPairs path
+    ensures pairs { IfErr result (LeavesPairs path (W.coming world.old)
         (outside_of W.Wire.state (W.world world.old) (W.files world.old) (W.home world.old) (W.given world.old))
         (outside_of W.Wire.state (W.world world.new) (W.files world.new) (W.home world.new) (W.given world.new))) }
     ensures leaves { LeavesFile (W.files world.old path) (W.world world.old) (W.world world.new) result }
-    ensures asked { IsFileAsked path (W.world world.old) (W.world world.new) }
+    ensures asked { IsRunAsked path (W.world world.old) (W.world world.new) }
     ensures files { W.files world.new ≡ W.files world.old }
-    ensures coming { W.coming world.new ≡ W.coming world.old }
+    ensures coming { MayKeepComing (W.files world.old path) (W.coming world.old) (W.coming world.new) }
 {
     let config = config_in(alloc, path, world)?;
     let end = run_config(rt, alloc, &config, world)?;

@@ -1,4 +1,5 @@
 mod Tracks
 mod Homes
 mod Ended
-mod Worlds
+mod Served
+pub mod Laws

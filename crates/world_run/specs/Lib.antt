@@ -1,3 +1,4 @@
 pub mod Outside
 pub mod Ends
 pub mod Taken
+pub mod Serving

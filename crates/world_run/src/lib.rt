@@ -1,11 +1,12 @@
-//! A run over the wires of a world: the targets of a configuration are visited, and the wires come home.
+//! A run over the wires of a world: the targets of a configuration are visited, beside the door at which
+//! pages are served, and the wires and the door come home.
 #![tactic(auto)]
 
+mod doors;
 mod ends;
 mod home;
 mod run;
 mod taking;
-#[cfg(test)]
-mod tests;
 
 pub use run::{RunEnd, run_config};
+pub use scraper_pool::Conn;

@@ -1,22 +1,25 @@
 //! The run of a configuration over the wires of a world.
-ghost use Rattle.std.specs.Prelude.{◌≡◌, length, map, IfOk, IfErr, OnErr};
+ghost use Rattle.std.specs.Prelude.{◌≡◌, None, map, option_map, IfOk, IfErr, IfSome, OnErr};
 ghost use Rattle.series_table.specs.HttpTalks.{talking};
 ghost use Rattle.series_table.specs.Records.{Kept};
 ghost use Rattle.target_table.specs.Tables.{IsRunOver};
+ghost use Rattle.scraper_pool.specs.Serving.{IsUnopened, ServesAt};
 ghost use Rattle.scraper_pool.specs.Turns.{run_of};
 ghost use Rattle.bridge_config.specs.RightConfigs.{IsRightConfig};
 ghost use Rattle.world_run.specs.Outside.{seen_home, outside_of, AreUnused};
 ghost use Rattle.world_run.specs.Ends.{IsRunEnd, IsNotBegun};
+ghost use Rattle.world_run.specs.Serving.{IsServedRun, IsUnserved, KeepsOtherComing};
 ghost use Rattle.world_run.specs.Taken.{track_end, EachTrack, IsFirstTrack};
 
+use crate::doors::{close_door, open_door};
 use crate::ends::{ends_of, renew_ends};
 use crate::home::bring_home;
 use crate::taking::new_tracks;
 use bridge_config::Config;
-use bridge_ports::{Wire, World};
+use bridge_ports::{Door, Wire, World};
 use label_sets::Memory;
 use run_report::TargetEnd;
-use scraper_pool::{TableFault, Track, run_targets};
+use scraper_pool::{Conn, Ended, RunFault, Track, run_with_door};
 use std::alloc::{AllocError, Global};
 use std::sync::Wait;
 use std::thread::Threads;
@@ -30,41 +33,136 @@ pub struct RunEnd {
     pub served: u32,
 }
 
-/// Visits the targets of these tracks, and tells how each ended. Without memory the tracks are given back unvisited.
-fn visit_all<R: Threads + Wait + Sync, W: Wire>(
+/// What the visits of tracks came to, beside a door.
+struct Visited<W: Wire, E> {
+    tracks: Vec<Track<W>>,
+    ends: Vec<TargetEnd>,
+    door: Option<E>,
+    served: u32,
+}
+
+/// Visits the targets of these tracks beside a door, and tells how each ended. Without memory the tracks and the door
+/// are given back, the tracks unvisited.
+fn visit_all<R: Threads + Wait + Sync, W: Wire, K: Conn, E: Door<Conn = K>>(
     rt: &R,
     alloc: Global,
     config: &Config,
     tracks: Vec<Track<W>>,
-) -> Result<(Vec<Track<W>>, Vec<TargetEnd>), Vec<Track<W>>>
+    door: Option<E>,
+) -> Result<Visited<W, E>, (Vec<Track<W>>, Option<E>)>
     requires right { IsRightConfig config.now }
     requires first { EachTrack (IsFirstTrack config.now) tracks.items }
     requires targets { map (λ (k : Kept). k.followed.target) tracks.items ≡ config.now.targets }
-    ensures over { IfOk result (λ made. IsRunOver talking (run_of config.now.rounds tracks.items) made.0.items) }
-    ensures ends { IfOk result (λ made. made.1.items ≡ map track_end made.0.items) }
-    ensures back { IfErr result (λ back. back.items ≡ tracks.items) }
+    requires fresh { IfSome door (λ d. IsUnopened (E.door d)) }
+    ensures over { IfOk result (λ made. IsRunOver talking (run_of config.now.rounds tracks.items) made.tracks.items) }
+    ensures ends { IfOk result (λ made. made.ends.items ≡ map track_end made.tracks.items) }
+    ensures served { IfOk result (λ made. ServesAt config.now.pages (option_map E.door door) (option_map E.door made.door) made.served) }
+    ensures back { IfErr result (λ back. back.0.items ≡ tracks.items) }
+    ensures door { IfErr result (λ back. back.1 ≡ door) }
 {
     let mut ends = match ends_of(alloc, tracks.as_slice()) {
         Ok(ends) => ends,
-        Err(AllocError) => return Err(tracks),
+        Err(AllocError) => return Err((tracks, door)),
     };
-    match run_targets(rt, alloc, tracks, config.rounds, config.scrapers) {
-        Ok(tracks) => {
+    match run_with_door(
+        rt,
+        alloc,
+        tracks,
+        config.rounds,
+        config.scrapers,
+        door,
+        config.pages,
+    ) {
+        Ok(ended) => {
+            let Ended {
+                tracks,
+                door,
+                served,
+            } = ended;
             renew_ends(&mut ends, tracks.as_slice());
-            Ok((tracks, ends))
+            Ok(Visited {
+                tracks,
+                ends,
+                door,
+                served,
+            })
         }
-        Err(TableFault::Memory(tracks)) => Err(tracks),
+        Err(RunFault::Memory(tracks, door)) => Err((tracks, door)),
+    }
+}
+
+/// What a run came to, where memory was found for it, and the door that it was given.
+struct Beside<E> {
+    end: Result<RunEnd, Memory>,
+    door: Option<E>,
+}
+
+/// Visits each target over the wires that the world has for it, beside a door. The wires come home.
+fn run_beside<R: Threads + Wait + Sync, K: Conn, E: Door<Conn = K>, W: World<Door = E>>(
+    rt: &R,
+    alloc: Global,
+    config: &Config,
+    door: Option<E>,
+    world: &mut W,
+) -> Beside<E>
+    requires right { IsRightConfig config.now }
+    requires unused { AreUnused (seen_home W.Wire.state (W.home world.old)) }
+    requires fresh { IfSome door (λ d. IsUnopened (E.door d)) }
+    ensures run { IfOk result.end (λ end. IsRunEnd config.now
+        (outside_of W.Wire.state (W.world world.old) (W.files world.old) (W.home world.old) (W.given world.old))
+        (outside_of W.Wire.state (W.world world.new) (W.files world.new) (W.home world.new) (W.given world.new))
+        end.targets.items) }
+    ensures served { IfOk result.end (λ end. ServesAt config.now.pages (option_map E.door door) (option_map E.door result.door) end.served) }
+    ensures memory { OnErr result.end (IsNotBegun config.now
+        (outside_of W.Wire.state (W.world world.old) (W.files world.old) (W.home world.old) (W.given world.old))
+        (outside_of W.Wire.state (W.world world.new) (W.files world.new) (W.home world.new) (W.given world.new))) }
+    ensures door { OnErr result.end (result.door ≡ door) }
+    ensures coming { W.coming world.new ≡ W.coming world.old }
+{
+    let tracks = match new_tracks(alloc, config, world) {
+        Ok(tracks) => tracks,
+        Err(AllocError) => {
+            return Beside {
+                end: Err(AllocError),
+                door,
+            };
+        }
+    };
+    match visit_all(rt, alloc, config, tracks, door) {
+        Ok(visited) => {
+            let Visited {
+                tracks,
+                ends,
+                door,
+                served,
+            } = visited;
+            bring_home(world, tracks);
+            let end = RunEnd {
+                targets: ends,
+                served,
+            };
+            Beside { end: Ok(end), door }
+        }
+        Err((tracks, door)) => {
+            bring_home(world, tracks);
+            Beside {
+                end: Err(AllocError),
+                door,
+            }
+        }
     }
 }
 
 /// Visits each target of a configuration once for each of its rounds, over the wires that the world has for it, by as
-/// many scrapers as the configuration says. The wires then come home.
+/// many scrapers as the configuration says. Where it has a door that the world can open, one worker more serves as many
+/// of its connections as the configuration says, and ends at the first that the door can't hand out. The wires then
+/// come home, and the door is given back.
 ///
 /// # Errors
 ///
-/// Want of memory, before the first visit: then no wire was used, and each is at home. A target that finds none in a
-/// visit is halted, which its end tells.
-pub fn run_config<R: Threads + Wait + Sync, W: World>(
+/// Want of memory, before the first visit: then no wire was used, each is at home, and of the door nothing was handed
+/// out. A target that finds none in a visit is halted, which its end tells.
+pub fn run_config<R: Threads + Wait + Sync, K: Conn, E: Door<Conn = K>, W: World<Door = E>>(
     rt: &R,
     alloc: Global,
     config: &Config,
@@ -72,31 +170,19 @@ pub fn run_config<R: Threads + Wait + Sync, W: World>(
 ) -> Result<RunEnd, Memory>
     requires right { IsRightConfig config.now }
     requires unused { AreUnused (seen_home W.Wire.state (W.home world.old)) }
-    ensures run { IfOk result (λ end. IsRunEnd config.now
+    requires no_door { (W.world world.old).door_at ≡ None }
+    ensures run { IfOk result (λ end. IsServedRun config.now (W.coming world.old)
         (outside_of W.Wire.state (W.world world.old) (W.files world.old) (W.home world.old) (W.given world.old))
         (outside_of W.Wire.state (W.world world.new) (W.files world.new) (W.home world.new) (W.given world.new))
-        end.targets.items) }
-    ensures served { IfOk result (λ end. end.served ≡ 0) }
-    ensures memory { OnErr result (IsNotBegun config.now
+        end.targets.items end.served) }
+    ensures memory { OnErr result (IsUnserved config.now (W.coming world.old)
         (outside_of W.Wire.state (W.world world.old) (W.files world.old) (W.home world.old) (W.given world.old))
         (outside_of W.Wire.state (W.world world.new) (W.files world.new) (W.home world.new) (W.given world.new))) }
-    ensures coming { W.coming world.new ≡ W.coming world.old }
+    ensures coming { KeepsOtherComing config.now.door (W.coming world.old) (W.coming world.new) }
 {
-    let tracks = match new_tracks(alloc, config, world) {
-        Ok(tracks) => tracks,
-        Err(AllocError) => return Err(AllocError),
-    };
-    match visit_all(rt, alloc, config, tracks) {
-        Ok((tracks, ends)) => {
-            bring_home(world, tracks);
-            Ok(RunEnd {
-                targets: ends,
-                served: 0,
-            })
-        }
-        Err(tracks) => {
-            bring_home(world, tracks);
-            Err(AllocError)
-        }
-    }
+    let door = open_door(config, world)?;
+    let beside = run_beside(rt, alloc, config, door, world);
+    let Beside { end, door } = beside;
+    close_door(world, door);
+    end
 }

@@ -1,28 +1,33 @@
-use Rattle.std.proofs.Common.{length, ap, arith}
-use Rattle.series_table.specs.Records.{Kept}
-use Rattle.world_run.proofs.Homes.{out_away}
-use Rattle.world_run.proofs.Ended.{as_many_back, back_in_place, few_tracks, run_end, not_begun}
+use Rattle.std.proofs.Common.{ap}
+use Rattle.world_run.specs.Outside.{seen_home}
+use Rattle.world_run.specs.declared.run.RunEnd.{RunEnd}
+use Rattle.world_run.proofs.Served.{result_unasked, result_served, result_unserved}
 use Rattle.world_run.proofs.run.run_config.Goals as goal
 
-pub bring_home-requires-clause-few : goal.bring_home-requires-clause-few
-bring_home-requires-clause-few g c κs within =
-    omega (arith, as_many_back _ _ _ c.in-Ok-visit_all.ensures.over, few_tracks c.args.config.now c.in-Ok.tracks.items c.requires.right c.in-Ok.ensures.targets)
+pub returns-in_err-door-clause-memory : goal.returns-in_err-door-clause-memory
+returns-in_err-door-clause-memory g c =
+    result_unasked c.from_residual.result c.args.config.now (g.W.World.coming c.args.world.now) _ _
+    (record { files = c.in_err-door.ensures.files; home = ap (seen_home g.W.Wire.Wire.state) c.in_err-door.ensures.home; given = c.in_err-door.ensures.given }) c.in_err-door.ensures.kept
 
-pub bring_home-requires-clause-places : goal.bring_home-requires-clause-places
-bring_home-requires-clause-places g c κs within = back_in_place _ _ _ c.in-Ok-visit_all.ensures.over
+pub run_beside-beside-requires-clause-unused : goal.run_beside-beside-requires-clause-unused
+run_beside-beside-requires-clause-unused g c κs within = rw c.open_door.ensures.home c.requires.unused
 
-pub bring_home-requires-clause-away : goal.bring_home-requires-clause-away
-bring_home-requires-clause-away g c κs within = out_away c.in-Ok.tracks.items c.in-Ok-visit_all.tracks.items _ _ c.in-Ok.ensures.out (as_many_back _ _ _ c.in-Ok-visit_all.ensures.over)
+pub returns-clause-run : goal.returns-clause-run
+returns-clause-run g c =
+    result_served _ (λ (e : RunEnd). e.targets.items) (λ (e : RunEnd). e.served) c.args.config.now (g.W.World.coming c.args.world.now) _ _ _ _ _ _
+    (record {
+      asked = c.in_ok-door.ensures.asked;
+      opening = record { files = c.open_door.ensures.files; home = ap (seen_home g.W.Wire.Wire.state) c.open_door.ensures.home; given = c.open_door.ensures.given };
+      closing = record { files = c.close_door.ensures.files; home = ap (seen_home g.W.Wire.Wire.state) c.close_door.ensures.home; given = c.close_door.ensures.given };
+      back = c.close_door.ensures.world;
+    }) c.run_beside-beside.ensures.run c.run_beside-beside.ensures.served
 
-pub returns-in-Ok-visit_all-clause-run : goal.returns-in-Ok-visit_all-clause-run
-returns-in-Ok-visit_all-clause-run g c =
-    run_end c.args.config.now c.in-Ok.tracks.items c.in-Ok-visit_all.tracks.items _ _ _ _ c.in-Ok.ensures.first c.in-Ok.ensures.targets c.in-Ok.ensures.out c.in-Ok.ensures.rest
-    c.in-Ok-visit_all.ensures.over c.in-Ok-visit_all.ensures.ends c.bring_home.ensures.home c.bring_home.ensures.rest c.bring_home.ensures.given
-
-pub bring_home-requires-in-Err-visit_all-clause-away : goal.bring_home-requires-in-Err-visit_all-clause-away
-bring_home-requires-in-Err-visit_all-clause-away g c κs within = out_away c.in-Ok.tracks.items c.in-Err-visit_all.tracks.items _ _ c.in-Ok.ensures.out (ap (length {A = Kept}) c.in-Err-visit_all.ensures.back)
-
-pub returns-in-Err-visit_all-clause-memory : goal.returns-in-Err-visit_all-clause-memory
-returns-in-Err-visit_all-clause-memory g c =
-    not_begun c.args.config.now c.in-Ok.tracks.items c.in-Err-visit_all.tracks.items _ _ _ c.in-Err-visit_all.ensures.back c.in-Ok.ensures.targets c.in-Ok.ensures.was c.in-Ok.ensures.rest
-    c.bring_home-in-Err-visit_all.ensures.home c.bring_home-in-Err-visit_all.ensures.rest
+pub returns-clause-memory : goal.returns-clause-memory
+returns-clause-memory g c =
+    result_unserved _ g.E.Door.door c.in_ok-door.door c.run_beside-beside.result.door c.args.config.now (g.W.World.coming c.args.world.now) _ _ _ _
+    (record {
+      asked = c.in_ok-door.ensures.asked;
+      opening = record { files = c.open_door.ensures.files; home = ap (seen_home g.W.Wire.Wire.state) c.open_door.ensures.home; given = c.open_door.ensures.given };
+      closing = record { files = c.close_door.ensures.files; home = ap (seen_home g.W.Wire.Wire.state) c.close_door.ensures.home; given = c.close_door.ensures.given };
+      back = c.close_door.ensures.world;
+    }) c.run_beside-beside.ensures.memory c.run_beside-beside.ensures.door

@@ -1,13 +1,13 @@
 -- The pairs of a world in memory that was just made are unused.
-use Rattle.std.proofs.Common.{◌≡◌, ℕ, ◌≤◌, Bool, true, false, List, [], ◌∷◌, Option, Some, refl, arith}
+use Rattle.std.proofs.Common.{◌≡◌, ℕ, ◌≤◌, Bool, true, false, List, [], ◌∷◌, length, Option, Some, refl, arith}
 use Rattle.std.specs.Prelude.{◌==◌, option_map}
 use Rattle.std.specs.List.{AllByRecursion, IsDistinct}
 use Rattle.std.proofs.lemmas.Bool.{le-leb}
 use Rattle.std.proofs.lemmas.List.Elements.{All-from_recursion}
 use Rattle.bridge_ports.specs.declared.memory_world.MemoryPair.{MemoryPair}
 use Rattle.bridge_ports.specs.Plans.{MemoryState, seen_of}
-use Rattle.bridge_ports.specs.MemoryWorlds.{PairState, wires_of, pair_of}
-use Rattle.bridge_ports.specs.WorldMaking.{IsRightPair, MayBeMade}
+use Rattle.bridge_ports.specs.MemoryWorlds.{FileState, PairState, ListenState, wires_of, pair_of}
+use Rattle.bridge_ports.specs.WorldMaking.{IsRightListen, IsRightPair, MayBeMade, is_one_path}
 use Rattle.memory_world.specs.WorldParts.{fresh_pair}
 use Rattle.series_table.specs.Records.{IsFresh}
 use Rattle.world_run.specs.Outside.{SeenPair, seen_pair, seen_home, IsSilent, IsUnused}
@@ -41,15 +41,23 @@ unused_pairs (p ∷ ps) n ready low high = first_there p ps n (p.number == n) re
 given_ready : (p : MemoryPair) → IsFresh (seen_of p.wires.scrape) → IsFresh (seen_of p.wires.post) → IsReady (fresh_pair p)
 given_ready p scrape post = record { at_home = refl; scrape = scrape; post = post }
 
--- a world may be made of the pairs of two numbers
-pub two_may_be_made : (p q : MemoryPair) → p.number ≡ 1 → q.number ≡ 2 → IsRightPair (fresh_pair p) → IsRightPair (fresh_pair q) → MayBeMade [] (fresh_pair p ∷ fresh_pair q ∷ []) []
+-- the path of one file is there once
+one_path : (files : List FileState) → length files ≡ 1 → IsDistinct is_one_path files
 unfolding IsDistinct
-two_may_be_made p q one two p_right q_right = record {
-  paths = tt;
+one_path [] one = tt
+one_path (f ∷ []) one = (tt, tt)
+one_path (f ∷ g ∷ files) one = absurd (omega (arith, one))
+
+-- a world may be made of a file, the pairs of two numbers and a door
+pub may_be_made : (files : List FileState) (p q : MemoryPair) (l : ListenState) → length files ≡ 1 → p.number ≡ 1 → q.number ≡ 2 → IsRightPair (fresh_pair p) → IsRightPair (fresh_pair q) → IsRightListen l
+    → MayBeMade files (fresh_pair p ∷ fresh_pair q ∷ []) (l ∷ [])
+unfolding IsDistinct
+may_be_made files p q l file one two p_right q_right l_right = record {
+  paths = one_path files file;
   numbers = ((rw (one, two) refl, tt), (tt, tt));
-  addresses = tt;
+  addresses = (tt, tt);
   right_pairs = All-from_recursion IsRightPair (fresh_pair p ∷ fresh_pair q ∷ []) (p_right, (q_right, tt));
-  right_doors = λ i d within. absurd (omega (arith, within));
+  right_doors = All-from_recursion IsRightListen (l ∷ []) (l_right, tt);
 }
 
 -- the pairs of two numbers are unused

@@ -1,0 +1,186 @@
+//! Runs over a world in memory: the report of one beside a door, and files that are no configuration.
+ghost use Rattle.std.specs.Prelude.{◌≡◌, ◌≤◌, length, IfOk};
+ghost use Rattle.bridge_ports.specs.InMemory.{IsFreshConn};
+ghost use Rattle.bridge_ports.specs.Plans.{seen_of};
+ghost use Rattle.bridge_ports.specs.WorldMaking.{IsRightListen, IsRightPair};
+ghost use Rattle.series_table.specs.Records.{IsFresh};
+ghost use Rattle.memory_world.specs.WorldParts.{fresh_pair, files_of, given_in, home_of, listen_given};
+ghost use Rattle.world_run.specs.Outside.{outside_of};
+ghost use Rattle.bridge_program.specs.RunAnswers.{IsUnasked};
+
+use crate::bridge;
+use bridge_ports::{
+    Address, End, MemoryConn, MemoryDoor, MemoryFile, MemoryListen, MemoryPair, MemoryReply,
+    MemorySink, MemorySource, MemoryWire, Place, Shelved,
+};
+use label_sets::{Bytes, List, Memory, Text};
+use memory_world::MemoryWorld;
+use std::alloc::Global;
+use std::sync::Wait;
+use std::test::Fail;
+use std::thread::Threads;
+
+const CONFIG: &str = "collector = \"http://127.0.0.1:4318\"
+rounds = 2
+listen = \"127.0.0.1:9464\"
+pages = 1
+[[target]]
+job = \"a\"
+url = \"http://h1:80/metrics\"
+[[target]]
+job = \"b\"
+url = \"http://h2:80/metrics\"
+";
+
+const PAGE: &[u8] =
+    b"HTTP/1.1 200 OK\r\nContent-Type: text/plain\r\nContent-Length: 4\r\n\r\nx 1\n";
+
+const TAKEN: &[u8] = b"HTTP/1.1 200 OK\r\nContent-Length: 0\r\n\r\n";
+
+/// A wire that answers each talk with this reply.
+fn wire(alloc: Global, number: u32, post: bool, got: &[u8]) -> Result<MemoryWire, Memory>
+    ensures place { IfOk result (λ wire. wire.place ≡ record { number = number; post = post }) }
+    ensures fresh { IfOk result (λ wire. IsFresh (seen_of wire)) }
+{
+    let reply = MemoryReply {
+        at: 10,
+        got: Bytes::from_slice(alloc, got)?,
+        end: End::Ended,
+    };
+    let place = Place { number, post };
+    Ok(MemoryWire::new(
+        alloc,
+        place,
+        List::new(alloc),
+        Some(reply),
+        100,
+        List::new(alloc),
+    ))
+}
+
+/// The pair of wires of a number.
+fn pair(alloc: Global, number: u32) -> Result<MemoryPair, Memory>
+    requires { (1 ≤ number) × (number ≤ 256) }
+    ensures number { IfOk result (λ pair. pair.number ≡ number) }
+    ensures right { IfOk result (λ pair. IsRightPair (fresh_pair pair)) }
+    ensures scrape { IfOk result (λ pair. IsFresh (seen_of pair.wires.scrape)) }
+    ensures post { IfOk result (λ pair. IsFresh (seen_of pair.wires.post)) }
+{
+    let scrape = wire(alloc, number, false, PAGE)?;
+    let post = wire(alloc, number, true, TAKEN)?;
+    Ok(MemoryPair {
+        number,
+        wires: Shelved { scrape, post },
+    })
+}
+
+/// A connection over which the page is asked for.
+fn conn(alloc: Global) -> Result<MemoryConn, Memory>
+    ensures { IfOk result IsFreshConn }
+{
+    let request = Bytes::from_slice(alloc, b"GET /federate HTTP/1.1\r\n\r\n")?;
+    let sink = MemorySink::new(alloc, 1_000, List::new(alloc))?;
+    Ok(MemoryConn::new(MemorySource::new(request, List::new(alloc)), sink))
+}
+
+/// A door of the configuration's address, at which one connection comes.
+fn listen(alloc: Global) -> Result<MemoryListen, Memory>
+    ensures { IfOk result (λ listen. IsRightListen (listen_given listen)) }
+{
+    let at = Address {
+        host: Bytes::from_slice(alloc, b"127.0.0.1")?,
+        port: 9464,
+        path: Bytes::from_slice(alloc, b"")?,
+    };
+    let door = MemoryDoor::new(Vec::from_array(alloc, [conn(alloc)?])?);
+    Ok(MemoryListen { at, door })
+}
+
+/// The file of the configuration.
+fn file(alloc: Global, text: &[u8]) -> Result<List<MemoryFile>, Memory>
+    ensures { IfOk result (λ files. length files ≡ 1) }
+{
+    let file = MemoryFile {
+        path: Text::from_str(alloc, "bridge.toml")?,
+        bytes: Bytes::from_slice(alloc, text)?,
+    };
+    List::from_vec(Vec::from_array(alloc, [file])?)
+}
+
+/// A world of a file, the wires of two targets and a door.
+fn world(alloc: Global, text: &[u8]) -> Result<MemoryWorld, Memory>
+    ensures { IfOk result (λ world. IsUnasked (outside_of seen_of world.world (files_of world) (home_of world) (given_in world))) }
+{
+    let (first, second) = (pair(alloc, 1)?, pair(alloc, 2)?);
+    let pairs = Vec::from_array(alloc, [first, second])?;
+    let doors = Vec::from_array(alloc, [listen(alloc)?])?;
+    let files = file(alloc, text)?;
+    Ok(MemoryWorld::new(alloc, files, pairs, doors, List::new(alloc)))
+}
+
+/// What a run of the file of a path ends with.
+#[derive(Drop)]
+struct Ending {
+    status: u8,
+    output: MemorySink,
+}
+
+/// What a run of the file of a path ends with, where the world has one file, with this text.
+fn ending_of<R: Threads + Wait + Sync>(
+    rt: &R,
+    alloc: Global,
+    path: &str,
+    text: &[u8],
+) -> Result<Ending, Memory> {
+    let mut world = world(alloc, text)?;
+    let words = Vec::from_array(
+        alloc,
+        [
+            String::from_str(alloc, "run")?,
+            String::from_str(alloc, path)?,
+        ],
+    )?;
+    let mut input = MemorySource::new(Bytes::from_slice(alloc, b"")?, List::new(alloc));
+    let mut output = MemorySink::new(alloc, 1_000, List::new(alloc))?;
+    let status = bridge(
+        rt,
+        alloc,
+        words.as_slice(),
+        &mut world,
+        &mut input,
+        &mut output,
+    );
+    Ok(Ending { status, output })
+}
+
+#[test]
+fn two_targets_are_visited_beside_a_door(rt: HostRuntime) -> Result<(), Fail> {
+    let ending = ending_of(&rt, rt.alloc(), "bridge.toml", CONFIG.as_bytes())?;
+    let wanted =
+        "target 1 a h1:80 visits 2 failed 0 points 6 markers 0 accepted 2 refused 0 givenup 0 halted 0
+target 2 b h2:80 visits 2 failed 0 points 6 markers 0 accepted 2 refused 0 givenup 0 halted 0
+all visits 4 failed 0 points 12 markers 0 accepted 4 refused 0 givenup 0 halted 0
+served 1
+";
+    assert!(rt; ending.output.held() == wanted.as_bytes());
+    assert_eq!(rt; ending.status, 0);
+    Ok(())
+}
+
+#[test]
+fn files_that_are_no_configuration(rt: HostRuntime) -> Result<(), Fail> {
+    for (path, text, status, line) in [
+        (
+            "bridge.toml",
+            "rounds = 0\n",
+            5,
+            "config: missing collector\n",
+        ),
+        ("other.toml", CONFIG, 3, ""),
+    ] {
+        let ending = ending_of(&rt, rt.alloc(), path, text.as_bytes())?;
+        assert!(rt; ending.output.held() == line.as_bytes(), "{path}");
+        assert_eq!(rt; ending.status, status, "{path}");
+    }
+    Ok(())
+}

@@ -1,0 +1,18 @@
+use Rattle.std.proofs.Common.{Some, sym, ap, ◌∙◌}
+use Rattle.bridge_ports.specs.declared.talk.Address.{Address}
+use Rattle.world_run.specs.Serving.{nothing_asked}
+use Rattle.world_run.proofs.Served.{opened_is, in_vain_is}
+use Rattle.world_run.proofs.doors.open_door.Goals as goal
+
+pub returns-in_default-clause-asked : goal.returns-in_default-clause-asked
+returns-in_default-clause-asked g c = nothing_asked c.in_default.is
+
+pub returns-in-Ok-clause-asked : goal.returns-in-Ok-clause-asked
+returns-in-Ok-clause-asked g c =
+    opened_is c.args.config.now (g.W.World.coming c.args.world.now) (g.W.World.world c.args.world.now) (g.W.World.world c.door.new.self) c.in_ok-at.at (g.E.Door.door c.in-Ok.door)
+    (c.in-Some.is ∙ ap (λ (a : Address). Some a) (sym c.in_ok-at.ensures)) c.in-Ok.ensures.asked c.in-Ok.ensures.cause.kept c.in-Ok.ensures.fresh
+
+pub returns-in-Err-clause-asked : goal.returns-in-Err-clause-asked
+returns-in-Err-clause-asked g c =
+    in_vain_is c.args.config.now (g.W.World.coming c.args.world.now) (g.W.World.world c.args.world.now) (g.W.World.world c.door.new.self) c.in_ok-at.at
+    (c.in-Some.is ∙ ap (λ (a : Address). Some a) (sym c.in_ok-at.ensures)) c.in-Err.ensures.asked c.in-Err.ensures.cause.failed
