@@ -34,8 +34,8 @@ fn print_end<O: Sink>(end: &RunEnd, output: &mut O) -> u8
 
 /// Runs the program on the words of its command line, without its own name, and answers the status that it ends with.
 /// `run CONFIG` reads the configuration in the file of the path CONFIG, scrapes its targets and posts what they show over
-/// the wires of the world, serves the page of what they show at the door that the configuration has, and prints a report; all other words are those of [`bridge_cli::bridge`], which leaves the
-/// world as it is. Of `run` the statuses are:
+/// the wires of the world, serves the page of what they show at the door that the configuration has, and prints a report.
+/// All other words are those of [`bridge_cli::bridge`], which leaves the world as it is. Of `run` the statuses are:
 ///
 /// - 0, done: the output has the report;
 /// - 3, exactly where the world's count of faults of files rose: nothing was written;

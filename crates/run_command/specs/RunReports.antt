@@ -31,12 +31,13 @@ pub record IsReportOfRun (path : List ℕ) (coming : Coming) (before after : Out
   pub says : text ≡ report_text ends ++ served_line served
   pub halts : halted ≡ some_halted ends
 
--- the pairs of wires are where they were, no address was told, and no door was asked for
+-- the pairs of wires are where they were, no address was told, no door was asked for, and none came back
 pub record KeepsPairs (before after : Outside) : Type 0 where
   pub homes : (n : ℕ) → after.home n ≡ before.home n
   pub addresses : (n : ℕ) → after.given n ≡ before.given n
   pub no_door : after.world.door_at ≡ before.world.door_at
   pub door_faults : after.world.door_faults ≡ before.world.door_faults
+  pub none_back : after.world.back_door ≡ before.world.back_door
 
 -- the file of a path is a configuration, whose run was not begun, or is over
 pub record MayHaveRun (path : List ℕ) (coming : Coming) (before after : Outside) : Type 0 where

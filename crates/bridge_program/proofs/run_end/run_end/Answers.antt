@@ -5,7 +5,7 @@ use Rattle.bridge_program.proofs.RunEnds.{stop_answers, stop_tells, rose_at_read
 use Rattle.bridge_program.proofs.run_end.run_end.Goals as goal
 
 pub returns-in-Err-clause-answer : goal.returns-in-Err-clause-answer
-returns-in-Err-clause-answer g c = stop_answers _ _ _ _ Memory _ _ c.stop_end.ensures tt (inl (record { homes = λ n. refl; addresses = λ n. refl; no_door = refl; door_faults = refl })) (λ e. absurd cc)
+returns-in-Err-clause-answer g c = stop_answers _ _ _ _ Memory _ _ c.stop_end.ensures tt (inl (record { homes = λ n. refl; addresses = λ n. refl; no_door = refl; door_faults = refl; none_back = refl })) (λ e. absurd cc)
 
 pub returns-in-Ok-run-clause-answer : goal.returns-in-Ok-run-clause-answer
 returns-in-Ok-run-clause-answer g c = rw (← c.in-Ok.ensures, c.report_end.ensures.status, c.report_end.ensures.text) (run_over c.in-Ok-run.report.text.items c.in-Ok-run.report.halted c.in-Ok-run.ensures.report)
