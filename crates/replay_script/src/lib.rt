@@ -22,9 +22,12 @@ mod words;
 pub use ending::Ending;
 pub use fault::ScriptFault;
 pub use header::{Header, HeaderLine};
+pub use parts::TargetWords;
 pub use reading::read;
+pub use replies::{page_reply, raw_reply};
 pub use script::{Script, ScriptTarget};
 pub use script_laws::scripts_are_right;
+pub use targets::target;
 pub use wires::{collector, default_reply, settings};
 pub use words::format_named;
 

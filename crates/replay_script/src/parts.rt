@@ -14,11 +14,15 @@ const MOST_HOST_BYTES: usize = 256;
 
 /// The words of a target line.
 #[derive(Clone, Copy)]
-pub(crate) struct TargetWords<'a> {
-    pub(crate) job: &'a [u8],
-    pub(crate) host: &'a [u8],
-    pub(crate) port: u16,
-    pub(crate) path: &'a [u8],
+pub struct TargetWords<'a> {
+    /// The name of the job.
+    pub job: &'a [u8],
+    /// The host that is scraped.
+    pub host: &'a [u8],
+    /// The port of the host.
+    pub port: u16,
+    /// The path of its metrics.
+    pub path: &'a [u8],
 }
 
 /// A record of a page.

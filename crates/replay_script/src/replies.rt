@@ -41,7 +41,7 @@ fn page_message(alloc: Global, format: Format, body: &[u8]) -> Result<Vec<u8>, A
 }
 
 /// The reply of a page: the whole of it, and then the peer ends.
-pub(crate) fn page_reply(
+pub fn page_reply(
     alloc: Global,
     at: u64,
     format: Format,
@@ -58,7 +58,7 @@ pub(crate) fn page_reply(
 }
 
 /// The reply of raw bytes.
-pub(crate) fn raw_reply(
+pub fn raw_reply(
     alloc: Global,
     at: u64,
     ending: Ending,

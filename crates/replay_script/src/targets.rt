@@ -58,7 +58,7 @@ fn instance_of(alloc: Global, host: &[u8], port: u16) -> Result<Vec<u8>, AllocEr
 }
 
 /// The target of a target line.
-pub(crate) fn target(alloc: Global, words: &TargetWords<'_>) -> Result<Target, AllocError>
+pub fn target(alloc: Global, words: &TargetWords<'_>) -> Result<Target, AllocError>
     requires { rules.is_target_line (words_found_as words.now) ≡ true }
     ensures { IfOk result (λ t. t ≡ target_of (words_found_as words.now)) }
 {
