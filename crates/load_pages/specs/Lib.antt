@@ -1,0 +1,2 @@
+pub mod GeneratedPages
+pub mod GeneratedScripts

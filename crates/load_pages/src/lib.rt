@@ -1,0 +1,11 @@
+//! The large input that a number stands for: so many targets, and what is answered when they are scraped.
+#![tactic(auto)]
+
+mod limits;
+mod pages;
+mod scripts;
+#[cfg(test)]
+mod tests;
+
+pub use limits::{MOST_NUMBER, is_load};
+pub use scripts::generated;
