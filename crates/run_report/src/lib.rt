@@ -8,4 +8,4 @@ mod target_end;
 mod tests;
 
 pub use report::{push_report, push_served};
-pub use target_end::TargetEnd;
+pub use target_end::{TargetEnd, ends_of, some_halted};
