@@ -1,9 +1,9 @@
 -- Cases of loads, by computation: whole pages, which of the scrapes fail, and when each is made.
-use Rattle.std.proofs.Common.{◌≡◌, ℕ, ◌+◌, Bool, true, false, List, [], ◌∷◌, ◌++◌, length, map, codes, refl}
+use Rattle.std.proofs.Common.{◌≡◌, [], ◌∷◌, ◌++◌, codes, refl}
 use Rattle.std.specs.Prelude.{filter}
 use Rattle.std.specs.List.{range_with_len}
 use Rattle.std.specs.Fmt.{digits}
-use Rattle.load_pages.specs.GeneratedPages.{generated_text, counter_text, series_text, series_line, series_name, sample_line, value_text, gauge_text, histogram_text, buckets_text, totals_text}
+use Rattle.load_pages.specs.GeneratedPages.{generated_text, counter_text, series_text, series_line, series_name, load_line, load_value, gauge_text, histogram_text, load_buckets, totals_text}
 use Rattle.load_pages.specs.GeneratedScripts.{fails_to_connect, round_time, generated_line, generated_scraped}
 
 -- ---- pages
@@ -23,7 +23,7 @@ page_1 : generated_text 0 1 3 ≡
     ++ codes "load_requests_total{series=\"48\"} 147\nload_requests_total{series=\"49\"} 150\n# TYPE load_level gauge\nload_level 3\n"
     ++ codes "# TYPE load_seconds histogram\nload_seconds_bucket{le=\"0.1\"} 3\nload_seconds_bucket{le=\"1\"} 6\nload_seconds_bucket{le=\"+Inf\"} 9\n"
     ++ codes "load_seconds_count 9\nload_seconds_sum 9\n# EOF\n"
-unfolding generated_text counter_text series_text series_line series_name sample_line value_text gauge_text histogram_text buckets_text totals_text digits
+unfolding generated_text counter_text series_text series_line series_name load_line load_value gauge_text histogram_text load_buckets totals_text digits
 page_1 = refl
 
 page_2 : generated_text 7 64 299 ≡
@@ -41,7 +41,7 @@ page_2 : generated_text 7 64 299 ≡
     ++ codes "load_requests_total{series=\"48\"} 98\nload_requests_total{series=\"49\"} 200\n# TYPE load_level gauge\nload_level 143\n"
     ++ codes "# TYPE load_seconds histogram\nload_seconds_bucket{le=\"0.1\"} 299\nload_seconds_bucket{le=\"1\"} 598\nload_seconds_bucket{le=\"+Inf\"} 897\n"
     ++ codes "load_seconds_count 897\nload_seconds_sum 897\n# EOF\n"
-unfolding generated_text counter_text series_text series_line series_name sample_line value_text gauge_text histogram_text buckets_text totals_text digits
+unfolding generated_text counter_text series_text series_line series_name load_line load_value gauge_text histogram_text load_buckets totals_text digits
 page_2 = refl
 
 -- ---- scrapes

@@ -1,5 +1,5 @@
--- The scripts of loads: how they are made, that they are right, and what their replies are.
-use Rattle.std.proofs.Common.{◌≡◌, ℕ, zero, suc, ◌+◌, ◌^◌, ◌<◌, ◌≤◌, Bool, true, false, ◌&&◌, List, [], ◌∷◌, ◌++◌, length, map, codes, bytes_eq, Result, Ok, Err, refl, sym, ap, subst, ◌∙◌, arith, inl, inr, nat_le, nat_eq, length-append, append_assoc, append-nil}
+-- The scripts of loads: how they are made, that they are right, and that no reply is planned for a post.
+use Rattle.std.proofs.Common.{◌≡◌, ℕ, zero, suc, ◌+◌, ◌<◌, ◌≤◌, Bool, true, false, ◌&&◌, List, [], ◌∷◌, ◌++◌, length, map, codes, bytes_eq, Result, Ok, Err, refl, sym, ap, ◌∙◌, arith, inl, inr, nat_le, nat_eq, append_assoc, append-nil}
 use Rattle.std.specs.List.{AllByRecursion, IsDistinct, flat_map, range_with_len, list_all, starts_with}
 use Rattle.std.specs.Fmt.{decimal, digits}
 use Rattle.std.proofs.lemmas.Bool.{cases_lt, le-leb, and_from, and_parts}
@@ -10,19 +10,17 @@ use Rattle.std.proofs.lemmas.List.FromFn.{length-map-range_with_len, map-range_w
 use Rattle.std.proofs.lemmas.Slice.Eq.{bytes_eq-Decides}
 use Rattle.std.specs.Prelude.{if◌then◌else◌, OnOk, is_ok}
 use Rattle.page_model.specs.declared.format.Format.TheVariants.{OpenMetrics}
-use Rattle.bridge_ports.specs.Targets.{Scraped, IsScraped}
+use Rattle.bridge_ports.specs.Targets.{IsScraped}
 use Rattle.bridge_ports.specs.declared.talk.MemoryReply.{MemoryReply}
 use Rattle.replay_script.specs.declared.ending.Ending.TheVariants.{ConnectFails}
 use Rattle.replay_script.specs.ScriptContents.{page_reply, raw_reply}
 use Rattle.plain_words.specs.Places.{is_visible_word, is_port}
 use Rattle.replay_script.specs.declared.script.ScriptTarget.{ScriptTarget}
 use Rattle.replay_script.specs.ScriptRules.{same_names, is_target_line}
-use Rattle.replay_script.specs.ScriptParts.{TargetLine}
-use Rattle.replay_script.specs.declared.script.Script.{Script}
-use Rattle.replay_script.specs.RightScripts.{IsOver, IsRightHeader, IsRightTarget, IsRightScript}
-use Rattle.replay_script.proofs.Laws.{script_target}
+use Rattle.replay_script.specs.RightScripts.{IsRightReply, IsRightHeader, IsRightTarget, IsRightScript}
+use Rattle.replay_script.proofs.Laws.{script_target, page_right, raw_right}
 use Rattle.load_pages.specs.GeneratedPages.{series_text, series_texts, generated_text}
-use Rattle.load_pages.specs.GeneratedScripts.{IsLoad, IsPlainReply, IsPlainTarget, IsPlainScript, fails_to_connect, round_time, generated_line, generated_scraped, generated_reply, generated_replies, generated_target, generated_targets, load_header, generated_script}
+use Rattle.load_pages.specs.GeneratedScripts.{IsLoad, TakesBodies, TakesAllBodies, fails_to_connect, round_time, generated_line, generated_scraped, generated_reply, generated_replies, generated_target, generated_targets, load_header, generated_script}
 
 -- ---- texts in pieces
 
@@ -123,26 +121,18 @@ pub scraped_right : (t : ℕ) → t ≤ 64 → IsScraped (generated_scraped t)
 unfolding generated_line
 scraped_right t few = script_target (generated_scraped t) refl refl (hosts_visible t few) refl
 
--- a reply has no connection and no byte, or the peer ends it; so it ends by itself
-reply_plain : (number t r : ℕ) → IsPlainReply (generated_reply number t r)
+-- the replies of a target are right
+right_reply : (number t r : ℕ) → IsRightReply (generated_reply number t r)
 unfolding generated_reply
-reply_plain number t r = by (fails_to_connect number t r)
+right_reply number t r = by (fails_to_connect number t r)
   where
-    by : (fails : Bool) → IsPlainReply (if fails then raw_reply (round_time r) ConnectFails [] else page_reply (round_time r) OpenMetrics (generated_text number t r))
-    by true = inr (refl, refl)
-    by false = inl refl
+    by : (fails : Bool) → IsRightReply (if fails then raw_reply (round_time r) ConnectFails [] else page_reply (round_time r) OpenMetrics (generated_text number t r))
+    by true = raw_right (round_time r) ConnectFails [] refl
+    by false = page_right (round_time r) OpenMetrics (generated_text number t r)
 
-plain_over : (reply : MemoryReply) → IsPlainReply reply → IsOver reply
-plain_over reply (inl ended) left = absurd cc
-plain_over reply (inr none) left = let e = none.0 in absurd cc
-
-replies_plain : (number t a n : ℕ) → AllByRecursion IsPlainReply (map (generated_reply number t) (range_with_len a n))
-replies_plain number t a zero = tt
-replies_plain number t a (suc n) = (reply_plain number t a, replies_plain number t (a + 1) n)
-
-replies_over : (number t a n : ℕ) → AllByRecursion IsOver (map (generated_reply number t) (range_with_len a n))
-replies_over number t a zero = tt
-replies_over number t a (suc n) = (plain_over (generated_reply number t a) (reply_plain number t a), replies_over number t (a + 1) n)
+right_replies : (number t a n : ℕ) → AllByRecursion IsRightReply (map (generated_reply number t) (range_with_len a n))
+right_replies number t a zero = tt
+right_replies number t a (suc n) = (right_reply number t a, right_replies number t (a + 1) n)
 
 -- a target of a load is right
 right_target : (number rounds t : ℕ) → t ≤ 64 → IsRightTarget (load_header rounds) (generated_target number rounds t)
@@ -154,8 +144,9 @@ right_target number rounds t few = record {
   port = refl;
   path = refl;
   scrapes = length-map-range_with_len (generated_reply number t) 0 rounds;
-  over = replies_over number t 0 rounds;
+  replies = right_replies number t 0 rounds;
   posts = omega arith;
+  post_replies = tt;
 }
 
 -- the targets from this one on
@@ -214,11 +205,12 @@ right_load number targets rounds is =
       names = distinct_from number rounds 1 targets (omega (arith, is.few_targets));
     }
 
-plain_from : (number rounds a n : ℕ) → AllByRecursion IsPlainTarget (map (generated_target number rounds) (range_with_len a n))
+-- no reply is planned for a post of any of them
+bodies_from : (number rounds a n : ℕ) → AllByRecursion TakesBodies (map (generated_target number rounds) (range_with_len a n))
 unfolding generated_target
-plain_from number rounds a zero = tt
-plain_from number rounds a (suc n) = (record { scrapes = replies_plain number a 0 rounds; posts = refl }, plain_from number rounds (a + 1) n)
+bodies_from number rounds a zero = tt
+bodies_from number rounds a (suc n) = (refl, bodies_from number rounds (a + 1) n)
 
-pub plain_load : (number targets rounds : ℕ) → IsPlainScript (generated_script number targets rounds)
+pub bodies_taken : (number targets rounds : ℕ) → TakesAllBodies (generated_script number targets rounds)
 unfolding generated_script
-plain_load number targets rounds = plain_from number rounds 1 targets
+bodies_taken number targets rounds = bodies_from number rounds 1 targets

@@ -5,12 +5,12 @@ use Rattle.std.specs.List.{flat_map, range_with_len}
 use Rattle.std.specs.Fmt.{decimal}
 
 -- what stands behind the name of a line: a whole number
-unfoldable pub value_text : ℕ → List ℕ
-value_text value = codes " " ++ decimal value ++ codes "\n"
+unfoldable pub load_value : ℕ → List ℕ
+load_value value = codes " " ++ decimal value ++ codes "\n"
 
 -- a line: a name with its labels, and a whole number
-unfoldable pub sample_line : List ℕ → ℕ → List ℕ
-sample_line name value = name ++ value_text value
+unfoldable pub load_line : List ℕ → ℕ → List ℕ
+load_line name value = name ++ load_value value
 
 -- how many series the counter may have
 abbrev pub most_series : ℕ
@@ -30,7 +30,7 @@ series_name series = codes "load_requests_total{series=\"" ++ decimal series ++ 
 
 -- the line of a series
 unfoldable pub series_line : (round series : ℕ) → List ℕ
-series_line round series = series_name series ++ value_text (series_value round series)
+series_line round series = series_name series ++ load_value (series_value round series)
 
 -- the line of a series, where the page has it
 unfoldable pub series_text : (number target round series : ℕ) → List ℕ
@@ -46,21 +46,21 @@ counter_text number target round = codes "# TYPE load_requests counter\n" ++ ser
 
 -- the gauge
 unfoldable pub gauge_text : (number target round : ℕ) → List ℕ
-gauge_text number target round = codes "# TYPE load_level gauge\n" ++ sample_line (codes "load_level") ((number + target * round) % 1000)
+gauge_text number target round = codes "# TYPE load_level gauge\n" ++ load_line (codes "load_level") ((number + target * round) % 1000)
 
 -- the buckets of the histogram, each of which grows with the round
-unfoldable pub buckets_text : ℕ → List ℕ
-buckets_text round = sample_line (codes "load_seconds_bucket{le=\"0.1\"}") round
-    ++ sample_line (codes "load_seconds_bucket{le=\"1\"}") (2 * round)
-    ++ sample_line (codes "load_seconds_bucket{le=\"+Inf\"}") (3 * round)
+unfoldable pub load_buckets : ℕ → List ℕ
+load_buckets round = load_line (codes "load_seconds_bucket{le=\"0.1\"}") round
+    ++ load_line (codes "load_seconds_bucket{le=\"1\"}") (2 * round)
+    ++ load_line (codes "load_seconds_bucket{le=\"+Inf\"}") (3 * round)
 
 -- its count and its sum
 unfoldable pub totals_text : ℕ → List ℕ
-totals_text round = sample_line (codes "load_seconds_count") (3 * round) ++ sample_line (codes "load_seconds_sum") (3 * round)
+totals_text round = load_line (codes "load_seconds_count") (3 * round) ++ load_line (codes "load_seconds_sum") (3 * round)
 
 -- the histogram
 unfoldable pub histogram_text : ℕ → List ℕ
-histogram_text round = codes "# TYPE load_seconds histogram\n" ++ buckets_text round ++ totals_text round
+histogram_text round = codes "# TYPE load_seconds histogram\n" ++ load_buckets round ++ totals_text round
 
 -- the page of a target, which are numbered from 1, in a round, which are numbered from 0
 unfoldable pub generated_text : (number target round : ℕ) → List ℕ

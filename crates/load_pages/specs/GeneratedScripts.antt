@@ -1,9 +1,8 @@
 -- The script that a number stands for: its targets, and what their wires answer. The bridge's own.
-use Rattle.std.specs.Prelude.{◌≡◌, ◌⊎◌, ℕ, ◌+◌, ◌*◌, ◌%◌, ◌^◌, ◌<◌, ◌≤◌, Bool, ◌==◌, List, [], ◌++◌, map, codes, if◌then◌else◌}
+use Rattle.std.specs.Prelude.{◌≡◌, ℕ, ◌+◌, ◌*◌, ◌%◌, ◌^◌, ◌<◌, ◌≤◌, Bool, ◌==◌, List, [], ◌++◌, map, codes, if◌then◌else◌}
 use Rattle.std.specs.List.{AllByRecursion, range_with_len}
 use Rattle.std.specs.Fmt.{decimal}
 use Rattle.page_model.specs.declared.format.Format.TheVariants.{OpenMetrics}
-use Rattle.bridge_ports.specs.declared.talk.End.TheVariants.{ConnectFailed, Ended}
 use Rattle.bridge_ports.specs.declared.talk.MemoryReply.{MemoryReply}
 use Rattle.bridge_ports.specs.Targets.{Scraped}
 use Rattle.replay_script.specs.declared.ending.Ending.TheVariants.{ConnectFails}
@@ -17,8 +16,8 @@ use Rattle.load_pages.specs.GeneratedPages.{generated_text}
 -- ---- what may be asked for
 
 -- the greatest number that stands for a load
-abbrev pub most_number : ℕ
-most_number = 1000000
+abbrev pub most_load_number : ℕ
+most_load_number = 1000000
 
 -- the most targets of a load
 abbrev pub most_load_targets : ℕ
@@ -34,7 +33,7 @@ most_load_visits = 20000
 
 -- such a number, so many targets and so many rounds are a load
 pub record IsLoad (number targets rounds : ℕ) : Type 0 where
-  pub small : number ≤ most_number
+  pub small : number ≤ most_load_number
   pub some_targets : 1 ≤ targets
   pub few_targets : targets ≤ most_load_targets
   pub some_rounds : 1 ≤ rounds
@@ -43,7 +42,7 @@ pub record IsLoad (number targets rounds : ℕ) : Type 0 where
 
 -- a visit of a load: of the target of a number from 1 on, in a round from 0 on
 pub record IsLoadVisit (number target round : ℕ) : Type 0 where
-  pub small : number ≤ most_number
+  pub small : number ≤ most_load_number
   pub few_targets : target ≤ most_load_targets
   pub few_rounds : round < most_load_rounds
 
@@ -91,15 +90,10 @@ load_header rounds = record { keep = 2; tries = 3; limit = 20000; max_page = 167
 unfoldable pub generated_script : (number targets rounds : ℕ) → Script
 generated_script number targets rounds = record { header = load_header rounds; targets = generated_targets number rounds targets }
 
--- a reply of a load to a scrape: there is no connection and no byte, or the peer ends it
-abbrev pub IsPlainReply : MemoryReply → Type 0
-IsPlainReply reply = (reply.end ≡ Ended) ⊎ ((reply.end ≡ ConnectFailed) × (reply.got ≡ []))
+-- no reply is planned for a post of the target, so each gets the default one
+abbrev pub TakesBodies : ScriptTarget → Type 0
+TakesBodies t = t.posts ≡ []
 
--- the replies of a target are such ones, and none is planned for a post
-pub record IsPlainTarget (t : ScriptTarget) : Type 0 where
-  pub scrapes : AllByRecursion IsPlainReply t.scrapes
-  pub posts : t.posts ≡ []
-
--- so are those of all its targets
-abbrev pub IsPlainScript : Script → Type 0
-IsPlainScript s = AllByRecursion IsPlainTarget s.targets
+-- so it is with each target
+abbrev pub TakesAllBodies : Script → Type 0
+TakesAllBodies s = AllByRecursion TakesBodies s.targets

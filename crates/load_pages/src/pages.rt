@@ -22,9 +22,9 @@ fn push_digits(text: &mut Vec<u8>, number: u64) -> Result<(), Memory>
 }
 
 /// Puts what stands behind the name of a line: a number.
-#[tactic(auto, unfolding(crate::specs::GeneratedPages::value_text))]
+#[tactic(auto, unfolding(crate::specs::GeneratedPages::load_value))]
 fn push_value(text: &mut Vec<u8>, value: u64) -> Result<(), Memory>
-    ensures { OnOk result (text.new.items ≡ text.old.items ++ spec.value_text value) }
+    ensures { OnOk result (text.new.items ≡ text.old.items ++ spec.load_value value) }
 {
     text.extend_from_slice(b" ")?;
     push_digits(text, value)?;
@@ -32,9 +32,9 @@ fn push_value(text: &mut Vec<u8>, value: u64) -> Result<(), Memory>
 }
 
 /// Puts a line: a name with its labels, and a number.
-#[tactic(auto, unfolding(crate::specs::GeneratedPages::sample_line))]
+#[tactic(auto, unfolding(crate::specs::GeneratedPages::load_line))]
 fn push_sample(text: &mut Vec<u8>, name: &[u8], value: u64) -> Result<(), Memory>
-    ensures { OnOk result (text.new.items ≡ text.old.items ++ spec.sample_line name.now value) }
+    ensures { OnOk result (text.new.items ≡ text.old.items ++ spec.load_line name.now value) }
 {
     text.extend_from_slice(name)?;
     push_value(text, value)
@@ -111,10 +111,10 @@ fn push_gauge(text: &mut Vec<u8>, number: u64, target: u64, round: u64) -> Resul
 }
 
 /// Puts the buckets of the histogram.
-#[tactic(auto, unfolding(crate::specs::GeneratedPages::buckets_text))]
+#[tactic(auto, unfolding(crate::specs::GeneratedPages::load_buckets))]
 fn push_buckets(text: &mut Vec<u8>, round: u64) -> Result<(), Memory>
     requires { round < most_load_rounds }
-    ensures { OnOk result (text.new.items ≡ text.old.items ++ spec.buckets_text round) }
+    ensures { OnOk result (text.new.items ≡ text.old.items ++ spec.load_buckets round) }
 {
     push_sample(text, b"load_seconds_bucket{le=\"0.1\"}", round)?;
     push_sample(text, b"load_seconds_bucket{le=\"1\"}", 2 * round)?;

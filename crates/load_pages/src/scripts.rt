@@ -32,7 +32,7 @@ fn reply(alloc: Global, number: u64, target: u64, round: u64) -> Result<MemoryRe
 
 /// What it answers in all rounds.
 fn replies(alloc: Global, number: u64, target: u64, rounds: u64) -> Result<Vec<MemoryReply>, Memory>
-    requires number { number ≤ spec.most_number }
+    requires number { number ≤ spec.most_load_number }
     requires target { target ≤ spec.most_load_targets }
     requires rounds { rounds ≤ spec.most_load_rounds }
     ensures { IfOk result (λ replies. replies.items ≡ spec.generated_replies number target rounds) }
@@ -76,7 +76,7 @@ fn scraped(alloc: Global, number: u64) -> Result<Target, Memory>
 /// A target, numbered from 1, and what its wires answer.
 #[tactic(auto, unfolding(crate::specs::GeneratedScripts::generated_target))]
 fn load_target(alloc: Global, number: u64, rounds: u64, target: u64) -> Result<ScriptTarget, Memory>
-    requires number { number ≤ spec.most_number }
+    requires number { number ≤ spec.most_load_number }
     requires target { target ≤ spec.most_load_targets }
     requires rounds { rounds ≤ spec.most_load_rounds }
     ensures { IfOk result (λ t. t ≡ spec.generated_target number rounds target) }
@@ -96,7 +96,7 @@ fn load_targets(
     rounds: u64,
     targets: u64,
 ) -> Result<Vec<ScriptTarget>, Memory>
-    requires number { number ≤ spec.most_number }
+    requires number { number ≤ spec.most_load_number }
     requires targets { targets ≤ spec.most_load_targets }
     requires rounds { rounds ≤ spec.most_load_rounds }
     ensures { IfOk result (λ all. all.items ≡ spec.generated_targets number rounds targets) }
@@ -117,7 +117,7 @@ pub fn generated(alloc: Global, number: u32, targets: u32, rounds: u32) -> Resul
     requires { spec.IsLoad number targets rounds }
     ensures script { IfOk result (λ script. script ≡ spec.generated_script number targets rounds) }
     ensures right { IfOk result IsRightScript }
-    ensures plain { IfOk result spec.IsPlainScript }
+    ensures bodies { IfOk result spec.TakesAllBodies }
 {
     let all = load_targets(
         alloc,

@@ -1,5 +1,5 @@
 -- Every script keeps its ranges and counts.
-use Rattle.std.proofs.Common.{◌≡◌, ℕ, zero, suc, ◌*◌, ◌<◌, ◌≤◌, Bool, true, false, not, ◌&&◌, List, [], ◌∷◌, ◌++◌, length, reverse, map, Option, Some, None, is_some, unwrap_or, codes, bytes_eq, refl, sym, ap, subst, ◌∙◌, arith, nat_lt, nat_eq, length-append}
+use Rattle.std.proofs.Common.{◌≡◌, ◌⊎◌, inl, inr, ℕ, zero, suc, ◌*◌, ◌<◌, ◌≤◌, Bool, true, false, not, ◌&&◌, List, [], ◌∷◌, ◌++◌, length, reverse, map, Option, Some, None, is_some, unwrap_or, codes, bytes_eq, refl, sym, ap, subst, ◌∙◌, arith, nat_lt, nat_eq, length-append}
 use Rattle.std.specs.List.{AllByRecursion, starts_with, IsDistinct, list_any}
 use Rattle.std.specs.Fmt.{decimal}
 use Rattle.std.specs.Option.{option_or}
@@ -16,6 +16,7 @@ use Rattle.plain_words.specs.Places.{is_visible_word, is_port}
 use Rattle.replay_script.specs.declared.header.Header.{Header}
 use Rattle.replay_script.specs.declared.script.ScriptTarget.{ScriptTarget}
 use Rattle.bridge_ports.specs.declared.talk.MemoryReply.{MemoryReply}
+use Rattle.bridge_ports.specs.declared.talk.End.TheVariants.{ConnectFailed, WriteFailed}
 use Rattle.page_model.specs.declared.format.Format.{Format}
 use Rattle.replay_script.specs.declared.ending.Ending.{Ending}
 use Rattle.replay_script.specs.declared.ending.Ending.TheVariants.{ConnectFails, WriteFails, ReadFails, PeerEnds}
@@ -27,7 +28,7 @@ use Rattle.replay_script.specs.ScriptParts.{TargetLine, Part, opening, header, t
 use Rattle.replay_script.specs.ScriptContents.{number_at, written_number, header_number, header_of, page_reply, raw_reply, target_of, new_target, with_scrape, with_post, targets_of, script_of}
 use Rattle.replay_script.specs.ScriptRules.{is_next_line, has_rounds, is_last_whole, is_target_line, is_record, fits_ending, has_target, has_room_for_post, same_names, is_named_before, most_targets, may_stand_behind, may_end, AreInOrder}
 use Rattle.replay_script.proofs.ScriptTargets.{script_target}
-use Rattle.replay_script.specs.RightScripts.{IsOver, IsRightHeader, IsRightTarget, IsRightScript, ScriptsAreRight}
+use Rattle.replay_script.specs.RightScripts.{IsOver, IsRightReply, IsRightHeader, IsRightTarget, IsRightScript, ScriptsAreRight}
 
 -- ---- header lines
 
@@ -156,15 +157,16 @@ few_targets (post at ending bytes ∷ earlier) o = omega (arith, few_targets ear
 abbrev most_posts : List Part → ℕ
 most_posts parts = header_number parts Rounds * header_number parts Tries
 
--- a target's words are right, and it has no more posts than these
+-- a target's words and replies are right, and it has no more posts than these
 record IsSound (most : ℕ) (t : ScriptTarget) : Type 0 where
   instance : t.target.instance ≡ t.target.address.host ++ (codes ":" ++ decimal t.target.address.port)
   job : is_visible_word 256 t.target.job ≡ true
   host : is_visible_word 256 t.target.address.host ≡ true
   port : is_port t.target.address.port ≡ true
   path : is_visible_word 256 t.target.address.path ≡ true
-  over : AllByRecursion IsOver t.scrapes
+  replies : AllByRecursion IsRightReply t.scrapes
   posts : length t.posts ≤ most
+  post_replies : AllByRecursion IsRightReply t.posts
 
 -- no target stands above a header line
 no_target_yet : (line : HeaderLine) (earlier : List Part) → is_next_line line earlier ≡ true → AreInOrder earlier → targets_of earlier ≡ []
@@ -185,7 +187,7 @@ new_sound most t e =
     let b = and_parts (is_visible_word 256 t.job && is_visible_word 256 t.host && is_port t.port) (is_visible_word 256 t.path) a.0 in
     let c = and_parts (is_visible_word 256 t.job && is_visible_word 256 t.host) (is_port t.port) b.0 in
     let d = and_parts (is_visible_word 256 t.job) (is_visible_word 256 t.host) c.0 in
-    record { instance = refl; job = d.0; host = d.1; port = c.1; path = b.1; over = tt; posts = omega arith }
+    record { instance = refl; job = d.0; host = d.1; port = c.1; path = b.1; replies = tt; posts = omega arith; post_replies = tt }
 
 -- one more of which something holds
 all_more : {A : Type 0} (P : A → Type 0) (xs : List A) (x : A) → AllByRecursion P xs → P x → AllByRecursion P (xs ++ x ∷ [])
@@ -202,17 +204,50 @@ raw_over at WriteFails bytes e = absurd cc
 raw_over at ReadFails bytes e = absurd cc
 raw_over at PeerEnds bytes e = absurd cc
 
-sound_scrape : (most : ℕ) (reply : MemoryReply) (ts : List ScriptTarget) → IsOver reply → AllByRecursion (IsSound most) ts → AllByRecursion (IsSound most) (with_scrape reply ts)
+-- a list of no bytes
+no_bytes : (bytes : List ℕ) → nat_eq (length bytes) 0 ≡ true → bytes ≡ []
+no_bytes [] e = refl
+no_bytes (b ∷ bytes) e = let none : length (b ∷ bytes) ≡ 0 = eqb-true (length (b ∷ bytes)) 0 e in absurd (omega (arith, none))
+
+-- a reply that fails before a byte comes
+abbrev IsSilent : MemoryReply → Type 0
+IsSilent reply = (reply.end ≡ ConnectFailed) ⊎ (reply.end ≡ WriteFailed)
+
+-- there it has no bytes
+page_silent : (at : ℕ) (format : Format) (body : List ℕ) → IsSilent (page_reply at format body) → (page_reply at format body).got ≡ []
+page_silent at format body (inl e) = absurd cc
+page_silent at format body (inr e) = absurd cc
+
+raw_silent : (at : ℕ) (ending : Ending) (bytes : List ℕ) → fits_ending ending bytes ≡ true → IsSilent (raw_reply at ending bytes) → bytes ≡ []
+raw_silent at ConnectFails bytes fits e = no_bytes bytes fits
+raw_silent at WriteFails bytes fits e = no_bytes bytes fits
+raw_silent at ReadFails bytes fits (inl e) = absurd cc
+raw_silent at ReadFails bytes fits (inr e) = absurd cc
+raw_silent at PeerEnds bytes fits (inl e) = absurd cc
+raw_silent at PeerEnds bytes fits (inr e) = absurd cc
+
+-- the replies of records are right
+pub page_right : (at : ℕ) (format : Format) (body : List ℕ) → IsRightReply (page_reply at format body)
+page_right at format body = record { over = page_over at format body; silent = page_silent at format body }
+
+pub raw_right : (at : ℕ) (ending : Ending) (bytes : List ℕ) → fits_ending ending bytes ≡ true → IsRightReply (raw_reply at ending bytes)
+raw_right at ending bytes fits = record { over = raw_over at ending bytes; silent = raw_silent at ending bytes fits }
+
+sound_scrape : (most : ℕ) (reply : MemoryReply) (ts : List ScriptTarget) → IsRightReply reply → AllByRecursion (IsSound most) ts → AllByRecursion (IsSound most) (with_scrape reply ts)
 sound_scrape most reply [] is all = tt
 sound_scrape most reply (t ∷ ts) is all =
-    let h = all.0 in (record { instance = h.instance; job = h.job; host = h.host; port = h.port; path = h.path; over = all_more IsOver t.scrapes reply h.over is; posts = h.posts }, all.1)
+    let h = all.0 in
+    let replies = all_more IsRightReply t.scrapes reply h.replies is in
+    (record { instance = h.instance; job = h.job; host = h.host; port = h.port; path = h.path; replies = replies; posts = h.posts; post_replies = h.post_replies }, all.1)
 
-sound_post : (most : ℕ) (reply : MemoryReply) (ts : List ScriptTarget) → has_room_for_post most ts ≡ true → AllByRecursion (IsSound most) ts → AllByRecursion (IsSound most) (with_post reply ts)
-sound_post most reply [] room all = tt
-sound_post most reply (t ∷ ts) room all =
+sound_post : (most : ℕ) (reply : MemoryReply) (ts : List ScriptTarget) → has_room_for_post most ts ≡ true → IsRightReply reply → AllByRecursion (IsSound most) ts → AllByRecursion (IsSound most) (with_post reply ts)
+sound_post most reply [] room is all = tt
+sound_post most reply (t ∷ ts) room is all =
     let h = all.0 in
     let less : length t.posts < most = ltb-true (length t.posts) most room in
-    (record { instance = h.instance; job = h.job; host = h.host; port = h.port; path = h.path; over = h.over; posts = omega (arith, less, length-append t.posts (reply ∷ [])) }, all.1)
+    let post_replies = all_more IsRightReply t.posts reply h.post_replies is in
+    let posts : length (t.posts ++ reply ∷ []) ≤ most = omega (arith, less, length-append t.posts (reply ∷ [])) in
+    (record { instance = h.instance; job = h.job; host = h.host; port = h.port; path = h.path; replies = h.replies; posts = posts; post_replies = post_replies }, all.1)
 
 -- the parts of what a target line needs
 record TargetNeeds (earlier : List Part) (t : TargetLine) : Type 0 where
@@ -240,12 +275,15 @@ sound_targets (header line n ∷ earlier) o =
     let none = no_target_yet line earlier (and_parts (is_next_line line earlier) (is_in_row (header_row line) n) o.0).0 o.1 in
     subst (AllByRecursion (IsSound (most_posts (header line n ∷ earlier)))) (sym none) tt
 sound_targets (target t ∷ earlier) o = (new_sound (most_posts earlier) t (needs earlier t o.0).words, sound_targets earlier o.1)
-sound_targets (page at format body ∷ earlier) o = sound_scrape (most_posts earlier) (page_reply at format body) (targets_of earlier) (page_over at format body) (sound_targets earlier o.1)
-sound_targets (scrape at ending bytes ∷ earlier) o = sound_scrape (most_posts earlier) (raw_reply at ending bytes) (targets_of earlier) (raw_over at ending bytes) (sound_targets earlier o.1)
+sound_targets (page at format body ∷ earlier) o = sound_scrape (most_posts earlier) (page_reply at format body) (targets_of earlier) (page_right at format body) (sound_targets earlier o.1)
+sound_targets (scrape at ending bytes ∷ earlier) o =
+    let fits = (and_parts (has_target (targets_of earlier) && is_record at bytes) (fits_ending ending bytes) o.0).1 in
+    sound_scrape (most_posts earlier) (raw_reply at ending bytes) (targets_of earlier) (raw_right at ending bytes fits) (sound_targets earlier o.1)
 sound_targets (post at ending bytes ∷ earlier) o =
     let room = has_room_for_post (most_posts earlier) (targets_of earlier) in
-    let room_there : room ≡ true = (and_parts room (is_record at bytes) (and_parts (room && is_record at bytes) (fits_ending ending bytes) o.0).0).0 in
-    sound_post (most_posts earlier) (raw_reply at ending bytes) (targets_of earlier) room_there (sound_targets earlier o.1)
+    let both = and_parts (room && is_record at bytes) (fits_ending ending bytes) o.0 in
+    let room_there : room ≡ true = (and_parts room (is_record at bytes) both.0).0 in
+    sound_post (most_posts earlier) (raw_reply at ending bytes) (targets_of earlier) room_there (raw_right at ending bytes both.1) (sound_targets earlier o.1)
 
 -- a target with one scrape for each round
 abbrev IsWhole : ℕ → ScriptTarget → Type 0
@@ -286,7 +324,7 @@ closed_whole (post at ending bytes ∷ earlier) o = closed_post (header_number e
 right_targets : (h : Header) (ts : List ScriptTarget) → AllByRecursion (IsSound (h.rounds * h.tries)) ts → AllByRecursion (IsWhole h.rounds) ts → AllByRecursion (IsRightTarget h) ts
 right_targets h [] sound whole = tt
 right_targets h (t ∷ ts) sound whole =
-    let s = sound.0 in (record { scraped = script_target (t.target) s.instance s.job s.host s.port; job = s.job; host = s.host; port = s.port; path = s.path; scrapes = whole.0; over = s.over; posts = s.posts }, right_targets h ts sound.1 whole.1)
+    let s = sound.0 in (record { scraped = script_target (t.target) s.instance s.job s.host s.port; job = s.job; host = s.host; port = s.port; path = s.path; scrapes = whole.0; replies = s.replies; posts = s.posts; post_replies = s.post_replies }, right_targets h ts sound.1 whole.1)
 
 -- what holds of all holds of them the other way round
 all_append : {A : Type 0} (P : A → Type 0) (xs ys : List A) → AllByRecursion P xs → AllByRecursion P ys → AllByRecursion P (xs ++ ys)

@@ -1,11 +1,11 @@
 -- What every script keeps: the conditions of those who follow its targets.
 -- The bridge's own.
-use Rattle.std.specs.Prelude.{◌≡◌, ◌≢◌, ℕ, ◌*◌, ◌≤◌, IsTrue, List, length, map}
+use Rattle.std.specs.Prelude.{◌≡◌, ◌≢◌, ◌⊎◌, ℕ, ◌*◌, ◌≤◌, IsTrue, List, [], length, map}
 use Rattle.std.specs.List.{AllByRecursion, IsDistinct}
 use Rattle.std.specs.Int.{is_in_range}
 use Rattle.plain_words.specs.Places.{is_visible_word, is_port}
 use Rattle.bridge_ports.specs.Targets.{IsScraped}
-use Rattle.bridge_ports.specs.declared.talk.End.TheVariants.{Left}
+use Rattle.bridge_ports.specs.declared.talk.End.TheVariants.{ConnectFailed, WriteFailed, Left}
 use Rattle.bridge_ports.specs.declared.talk.MemoryReply.{MemoryReply}
 use Rattle.replay_script.specs.declared.header.Header.{Header}
 use Rattle.replay_script.specs.declared.script.ScriptTarget.{ScriptTarget}
@@ -26,7 +26,12 @@ pub record IsRightHeader (h : Header) : Type 0 where
 abbrev pub IsOver : MemoryReply → Type 0
 IsOver reply = reply.end ≢ Left
 
--- a target of a script: what its type keeps, its words, one scrape for each round, which ends by itself, and no more posts than tries
+-- a reply of a script: it ends by itself, and where there is no connection or nothing can be written, it has no bytes
+pub record IsRightReply (reply : MemoryReply) : Type 0 where
+  pub over : IsOver reply
+  pub silent : (reply.end ≡ ConnectFailed) ⊎ (reply.end ≡ WriteFailed) → reply.got ≡ []
+
+-- a target of a script: what its type keeps, its words, one scrape for each round, no more posts than tries, and right replies to both
 pub record IsRightTarget (h : Header) (t : ScriptTarget) : Type 0 where
   pub scraped : IsScraped t.target
   pub job : IsTrue (is_visible_word 256 t.target.job)
@@ -34,8 +39,9 @@ pub record IsRightTarget (h : Header) (t : ScriptTarget) : Type 0 where
   pub port : IsTrue (is_port t.target.address.port)
   pub path : IsTrue (is_visible_word 256 t.target.address.path)
   pub scrapes : length t.scrapes ≡ h.rounds
-  pub over : AllByRecursion IsOver t.scrapes
+  pub replies : AllByRecursion IsRightReply t.scrapes
   pub posts : length t.posts ≤ h.rounds * h.tries
+  pub post_replies : AllByRecursion IsRightReply t.posts
 
 -- a right script: some targets, but not too many, no two with one job and one instance
 pub record IsRightScript (s : Script) : Type 0 where

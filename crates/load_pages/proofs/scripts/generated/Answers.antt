@@ -1,7 +1,7 @@
 use Rattle.std.proofs.Common.{◌∙◌, sym, subst, arith}
 use Rattle.replay_script.specs.RightScripts.{IsRightScript}
-use Rattle.load_pages.specs.GeneratedScripts.{IsPlainScript}
-use Rattle.load_pages.proofs.LoadLaws.{script_made, right_load, plain_load}
+use Rattle.load_pages.specs.GeneratedScripts.{TakesAllBodies}
+use Rattle.load_pages.proofs.LoadLaws.{script_made, right_load, bodies_taken}
 use Rattle.load_pages.proofs.scripts.generated.Goals as goal
 
 pub load_targets-requires-clause-number : goal.load_targets-requires-clause-number
@@ -20,5 +20,5 @@ returns-clause-script c =
 pub returns-clause-right : goal.returns-clause-right
 returns-clause-right c = subst IsRightScript (sym (returns-clause-script c)) (right_load c.args.number c.args.targets c.args.rounds c.requires)
 
-pub returns-clause-plain : goal.returns-clause-plain
-returns-clause-plain c = subst IsPlainScript (sym (returns-clause-script c)) (plain_load c.args.number c.args.targets c.args.rounds)
+pub returns-clause-bodies : goal.returns-clause-bodies
+returns-clause-bodies c = subst TakesAllBodies (sym (returns-clause-script c)) (bodies_taken c.args.number c.args.targets c.args.rounds)
