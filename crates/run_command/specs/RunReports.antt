@@ -1,19 +1,15 @@
 -- What the command `run` comes to. The bridge's own.
 use Rattle.std.specs.Prelude.{◌≡◌, ◌⊎◌, ℕ, Bool, List, ◌++◌, Option}
-use Rattle.std.specs.List.{list_any}
 use Rattle.bridge_ports.specs.Worlds.{WorldState}
 use Rattle.bridge_config.specs.declared.config.Config.{Config}
 use Rattle.config_file.specs.declared.file_stop.FileStop.{FileStop}
 use Rattle.config_file.specs.declared.file_stop.FileStop.TheVariants.{TooLong, Read, Fault, Memory}
 use Rattle.config_file.specs.ConfigFiles.{HoldsConfig, IsFileAsked}
 use Rattle.run_report.specs.declared.target_end.TargetEnd.{TargetEnd}
+use Rattle.run_report.specs.Ends.{some_halted}
 use Rattle.run_report.specs.Reports.{report_text, served_line}
 use Rattle.world_run.specs.Outside.{Outside}
 use Rattle.world_run.specs.Serving.{Coming, IsServedRun, IsUnserved, ChangesDoorsAlone, KeepsOtherComing, with_world}
-
--- some target was halted
-abbrev pub some_halted : List TargetEnd → Bool
-some_halted ends = list_any (λ (e : TargetEnd). e.halted) ends
 
 -- the file of a path is a configuration, which was read from the world
 pub record IsConfigRead (path : List ℕ) (before : Outside) (config : Config) (asked : WorldState) : Type 0 where

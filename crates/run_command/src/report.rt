@@ -1,10 +1,10 @@
 //! The report of a run.
 ghost use Rattle.std.specs.Prelude.{◌≡◌, ◌++◌, IfOk};
 ghost use Rattle.run_report.specs.Reports.{report_text, served_line};
-ghost use Rattle.run_command.specs.RunReports.{some_halted};
+ghost use Rattle.run_report.specs.Ends.{some_halted};
 
 use label_sets::Memory;
-use run_report::{TargetEnd, push_report, push_served};
+use run_report::{push_report, push_served, some_halted};
 use std::alloc::Global;
 use world_run::RunEnd;
 
@@ -16,13 +16,6 @@ pub struct Report {
     pub text: Vec<u8>,
     /// Whether some target found no memory, so that visits of it are missing.
     pub halted: bool,
-}
-
-/// Whether some target was halted.
-fn some_halted(ends: &[TargetEnd]) -> bool
-    ensures { result ≡ some_halted ends.now }
-{
-    ends.iter().any(|end| end.halted)
 }
 
 /// The lines of a report.

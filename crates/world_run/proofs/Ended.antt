@@ -19,7 +19,8 @@ use Rattle.bridge_config.specs.RightConfigs.{IsRightConfig}
 use Rattle.run_report.specs.declared.target_end.TargetEnd.{TargetEnd}
 use Rattle.world_run.specs.Outside.{Outside, most_pairs}
 use Rattle.world_run.specs.Ends.{config_followed, AreCountsOf, IsEndAtHome, AreEndsAtHome, KeepsRest, IsRunEnd, IsNotBegun}
-use Rattle.world_run.specs.Taken.{EachTrack, IsFirstTrack, IsPairOf, IsOut, IsInPlace, track_end}
+use Rattle.run_report.specs.Ends.{track_end}
+use Rattle.world_run.specs.Taken.{EachTrack, IsFirstTrack, IsPairOf, IsOut, IsInPlace}
 use Rattle.world_run.proofs.Homes.{all_again, rest_through}
 
 -- ---- counts

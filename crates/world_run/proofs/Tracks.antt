@@ -17,7 +17,8 @@ use Rattle.bridge_config.specs.declared.config.Config.{Config}
 use Rattle.bridge_config.specs.ConfigFaults.{have_same_names}
 use Rattle.bridge_config.specs.RightConfigs.{IsRightConfig}
 use Rattle.run_report.specs.declared.target_end.TargetEnd.{TargetEnd}
-use Rattle.world_run.specs.Taken.{EachTrack, IsFirstTrack, track_end, end_names, track_names}
+use Rattle.run_report.specs.Ends.{track_end}
+use Rattle.world_run.specs.Taken.{EachTrack, IsFirstTrack, end_names, track_names}
 
 -- ---- the run of tracks
 

@@ -48,10 +48,6 @@ pub record KeepsOtherPairs (number : ℕ) (before after : Outside) : Type 0 wher
   pub homes : KeepsOthers number before.home after.home
   pub addresses : KeepsOthers number before.given after.given
 
--- how the target of a track ended
-abbrev pub track_end : Kept → TargetEnd
-track_end k = record { job = k.followed.target.job; instance = k.followed.target.instance; counts = k.counts; halted = k.halted }
-
 -- the job and the instance of a target that ended
 abbrev pub end_names : TargetEnd → List ℕ × List ℕ
 end_names e = (e.job, e.instance)

@@ -1,5 +1,6 @@
 use Rattle.std.proofs.Common.{refl, sym, ◌∙◌, ap, map}
-use Rattle.world_run.specs.Taken.{track_end, end_names, track_names}
+use Rattle.run_report.specs.Ends.{track_end}
+use Rattle.world_run.specs.Taken.{end_names, track_names}
 use Rattle.series_table.specs.Records.{Kept}
 use Rattle.world_run.proofs.Tracks.{right_run, own_tracks, same_followed, same_names}
 use Rattle.world_run.proofs.run.visit_all.Goals as goal

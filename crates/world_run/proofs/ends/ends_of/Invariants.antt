@@ -1,7 +1,0 @@
-use Rattle.std.proofs.Common.{◌≡◌, map, take}
-use Rattle.world_run.specs.Taken as spec
-use Rattle.world_run.proofs.ends.ends_of.Given as goal
-
--- the ends of the tracks so far
-abbrev pub invariant-loop-track : goal.invariant-loop-track
-invariant-loop-track g l = l.ends.items ≡ map spec.track_end (take l.track-index l.tracks)
