@@ -8,10 +8,13 @@ ghost use Rattle.memory_world.specs.WorldParts.{fresh_pair, files_of, given_in, 
 ghost use Rattle.world_run.specs.Outside.{outside_of};
 ghost use Rattle.bridge_program.specs.RunAnswers.{IsUnasked};
 
+mod gated_world;
+mod overlap;
+
 use crate::bridge;
 use bridge_ports::{
-    Address, End, MemoryConn, MemoryDoor, MemoryFile, MemoryListen, MemoryPair, MemoryReply,
-    MemorySink, MemorySource, MemoryWire, Place, Shelved,
+    Address, Door, End, MemoryConn, MemoryDoor, MemoryFile, MemoryListen, MemoryPair, MemoryReply,
+    MemorySink, MemorySource, MemoryWire, Place, Shelved, World,
 };
 use label_sets::{Bytes, List, Memory, Text};
 use memory_world::MemoryWorld;
@@ -19,6 +22,7 @@ use std::alloc::Global;
 use std::sync::Wait;
 use std::test::Fail;
 use std::thread::Threads;
+use world_run::Conn;
 
 const CONFIG: &str = "collector = \"http://127.0.0.1:4318\"
 rounds = 2
@@ -125,14 +129,15 @@ struct Ending {
     output: MemorySink,
 }
 
-/// What a run of the file of a path ends with, where the world has one file, with this text.
-fn ending_of<R: Threads + Wait + Sync>(
+/// What a run of the file of a path ends with, in a world of which nothing was asked.
+fn ending_in<R: Threads + Wait + Sync, K: Conn, E: Door<Conn = K>, W: World<Door = E>>(
     rt: &R,
     alloc: Global,
     path: &str,
-    text: &[u8],
-) -> Result<Ending, Memory> {
-    let mut world = world(alloc, text)?;
+    world: &mut W,
+) -> Result<Ending, Memory>
+    requires { IsUnasked (outside_of W.Wire.state (W.world world.old) (W.files world.old) (W.home world.old) (W.given world.old)) }
+{
     let words = Vec::from_array(
         alloc,
         [
@@ -142,15 +147,19 @@ fn ending_of<R: Threads + Wait + Sync>(
     )?;
     let mut input = MemorySource::new(Bytes::from_slice(alloc, b"")?, List::new(alloc));
     let mut output = MemorySink::new(alloc, 1_000, List::new(alloc))?;
-    let status = bridge(
-        rt,
-        alloc,
-        words.as_slice(),
-        &mut world,
-        &mut input,
-        &mut output,
-    );
+    let status = bridge(rt, alloc, words.as_slice(), world, &mut input, &mut output);
     Ok(Ending { status, output })
+}
+
+/// What a run of the file of a path ends with, where the world has one file, with this text.
+fn ending_of<R: Threads + Wait + Sync>(
+    rt: &R,
+    alloc: Global,
+    path: &str,
+    text: &[u8],
+) -> Result<Ending, Memory> {
+    let mut world = world(alloc, text)?;
+    ending_in(rt, alloc, path, &mut world)
 }
 
 #[test]
