@@ -8,7 +8,7 @@ use Rattle.bridge_cli.specs.declared.status.Status.TheVariants.{NoForm}
 use Rattle.page_model.specs.declared.format.Format.{Format}
 use Rattle.page_model.specs.declared.format.Format.TheVariants.{Text, OpenMetrics}
 use Rattle.bridge_cli.specs.declared.words.Command.{Command}
-use Rattle.bridge_cli.specs.declared.words.Command.TheVariants.{Help, Version, Check, Convert, Replay}
+use Rattle.bridge_cli.specs.declared.words.Command.TheVariants.{Help, Version, Check, Convert, Replay, Load}
 use Rattle.replay_script.specs.ScriptParts.{format_word}
 use Rattle.bridge_cli.specs.Statuses.{code_of}
 use Rattle.bridge_cli.specs.CommandWords.{words_of, IsInLimits, IsCommand, FitNoForm, AskFor, reads_input, prints_pieces, takes_memory}
@@ -19,7 +19,9 @@ use Rattle.bridge_cli.specs.ConvertTexts.{converted_text}
 use Rattle.bridge_cli.specs.Answers.{Answers, IsAnswer, no_form, answers}
 use Rattle.std.proofs.lemmas.Bool.{true≢false}
 use Rattle.bridge_cli.specs.Replays.{IsReplayWith}
+use Rattle.load_pages.specs.GeneratedScripts.{generated_script}
 use Rattle.bridge_cli.proofs.WordLaws.{number_no_page}
+use Rattle.bridge_cli.proofs.EndLaws.{report_once}
 use Rattle.bridge_cli.proofs.ShownLaws.{replay_with_once}
 use Rattle.bridge_cli.proofs.ScriptAnswerLaws.{script_once_at, script_form}
 use Rattle.bridge_cli.proofs.PlaceLaws.{target_of, told_target}
@@ -54,6 +56,7 @@ told_by (word ∷ []) = lone_command word
 told_by (verb ∷ word ∷ []) = paired_command verb word
 told_by (verb ∷ word ∷ page ∷ []) = Replay (Some (digits_value 10 word)) true
 told_by (verb ∷ format ∷ job ∷ instance ∷ time ∷ []) = Convert (told_format format) (target_of job instance) (digits_value 10 time)
+told_by (verb ∷ number ∷ targets ∷ rounds ∷ []) = Load (digits_value 10 number) (digits_value 10 targets) (digits_value 10 rounds)
 told_by _ = Help
 
 -- the words of a command tell it
@@ -66,6 +69,11 @@ told (Replay (Some n) false) limits =
     ap (λ page. cond page (Replay None true) (Replay (Some (digits_value 10 (decimal n))) false)) (number_no_page n limits.1)
     ∙ ap (λ m. Replay (Some m) false) (decimal_is_IsNumeral n (omega (arith, limits.1))).1
 told (Replay (Some n) true) limits = ap (λ m. Replay (Some m) true) (decimal_is_IsNumeral n (omega (arith, limits.1))).1
+told (Load number targets rounds) limits =
+    let n = (decimal_is_IsNumeral number (omega (arith, limits.small))).1 in
+    let t = (decimal_is_IsNumeral targets (omega (arith, limits.few_targets))).1 in
+    let r = (decimal_is_IsNumeral rounds (omega (arith, limits.few_rounds))).1 in
+    ap (λ m. Load m (digits_value 10 (decimal targets)) (digits_value 10 (decimal rounds))) n ∙ ap (λ m. Load number m (digits_value 10 (decimal rounds))) t ∙ ap (Load number targets) r
 told (Check format) limits = ap Check (format_told format)
 told (Convert format target nanos) limits =
     ap (λ f. Convert f (target_of target.job target.instance) (digits_value 10 (decimal nanos))) (format_told format)
@@ -79,6 +87,7 @@ command_once Version bytes others s r t u same a b = fixed_once _ s r t u a b
 command_once (Check format) bytes others s r t u same a b = page_once_at (page_setting format) checked_text bytes others s r t u (same refl) a b
 command_once (Convert format target nanos) bytes others s r t u same a b = page_once_at (page_setting format) (converted_text target nanos) bytes others s r t u (same refl) a b
 command_once (Replay scrapers page) bytes others s r t u same a b = script_once_at (IsReplayWith page) (replay_with_once page) bytes others s r t u (same refl) a b
+command_once (Load number targets rounds) bytes others s r t u same a b = (a.done ∙ sym b.done, report_once (generated_script number targets rounds) t u a.reports b.reports)
 
 -- a command doesn't answer that the words fit no form
 command_form : (command : Command) (bytes : List ℕ) (status : ℕ) (text : List ℕ) → Answers command bytes status text → status ≢ code_of NoForm
@@ -87,6 +96,7 @@ command_form Version bytes status text says e = fixed_form _ status text says e
 command_form (Check format) bytes status text says e = page_form _ _ bytes status text says e
 command_form (Convert format target nanos) bytes status text says e = page_form _ _ bytes status text says e
 command_form (Replay scrapers page) bytes status text says e = script_form (IsReplayWith page) bytes status text says e
+command_form (Load number targets rounds) bytes status text says e = omega (arith, e, says.done)
 
 -- what prints in pieces takes memory
 pub pieces_take : (command : Command) → takes_memory command ≡ false → prints_pieces command ≡ false
@@ -95,6 +105,7 @@ pieces_take Version e = refl
 pieces_take (Check format) e = refl
 pieces_take (Convert format target nanos) e = refl
 pieces_take (Replay scrapers page) e = absurd (true≢false e)
+pieces_take (Load number targets rounds) e = absurd (true≢false e)
 
 -- ---- what follows
 

@@ -8,6 +8,9 @@ mod ReplayLaws
 mod SampleLaws
 mod ShownLaws
 mod VisitLaws
+mod TalkLaws
+mod EndLaws
+mod ShelfLaws
 mod ScriptLaws
 mod CommandLaws
 mod AnswerLaws

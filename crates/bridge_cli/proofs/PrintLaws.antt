@@ -1,27 +1,34 @@
 -- From what is to be printed, and how printing ended, to what the program answers.
-use Rattle.std.proofs.Common.{◌≡◌, ◌≢◌, ℕ, Bool, true, List, [], Option, Err, refl, sym, subst, ◌∙◌, ◌⊎◌, inl, inr, arith}
+use Rattle.std.proofs.Common.{◌≡◌, ◌≢◌, ℕ, Bool, true, false, List, [], Option, Some, None, Err, refl, sym, subst, ◌∙◌, ◌⊎◌, inl, inr, arith}
 use Rattle.std.specs.Prelude.{⊤}
 use Rattle.std.specs.Io.KnownBytes.{Appends}
 use Rattle.std.proofs.lemmas.Bool.{true≢false}
 use Rattle.replay_script.specs.declared.script.Script.{Script}
 use Rattle.bridge_cli.specs.declared.answer.Printed.{Printed}
-use Rattle.bridge_cli.specs.declared.answer.Printed.TheVariants.{Whole, Bodies}
+use Rattle.bridge_cli.specs.declared.answer.Printed.TheVariants.{Whole, Bodies, Report}
 use Rattle.bridge_cli.specs.declared.replaying.Cut.{Cut}
 use Rattle.bridge_cli.specs.declared.replaying.Cut.TheVariants as cuts
 use Rattle.bridge_cli.specs.declared.status.Status.{Status}
 use Rattle.bridge_cli.specs.declared.status.Status.TheVariants as statuses
 use Rattle.bridge_cli.specs.declared.stop.Stop.{Stop}
+use Rattle.bridge_cli.specs.declared.stop.Stop.TheVariants as stops
+use Rattle.bridge_cli.specs.Stops.{stop_status, IsUnread}
+use Rattle.bridge_ports.specs.Worlds.{ShelvedPair}
 use Rattle.bridge_cli.specs.declared.words.Command.{Command}
-use Rattle.bridge_cli.specs.declared.words.Command.TheVariants.{Replay}
+use Rattle.bridge_cli.specs.declared.words.Command.TheVariants.{Replay, Load}
 use Rattle.bridge_cli.specs.Statuses.{code_of, IsStatus, IsTold, IsUntold}
 use Rattle.bridge_cli.specs.Replays.{MayBeCut}
-use Rattle.bridge_cli.specs.CommandWords.{IsCommand, FitNoForm, AskForNo, WhereRead, reads_input, most_input, takes_memory}
+use Rattle.replay_script.specs.RightScripts.{IsRightScript}
+use Rattle.load_pages.specs.GeneratedScripts.{generated_script, TakesAllBodies}
+use Rattle.bridge_cli.specs.Loads.{IsLoadReport, MayBeReported}
+use Rattle.bridge_cli.specs.CommandWords.{IsCommand, FitNoForm, AskForNo, WhereRead, reads_input, most_input, takes_memory, prints_pieces}
 use Rattle.bridge_cli.specs.StopAnswers.{IsStopAnswer, StopsAs}
-use Rattle.bridge_cli.specs.Answers.{Answers, IsAnswer, no_form, answers, IsCutAnswer, whole, cut_off, script_done}
-use Rattle.bridge_cli.specs.ProgramOutputs.{WroteFront, HasAnswer, Answered, AnsweredInPart, AnsweredInPieces, TellsFault}
-use Rattle.bridge_cli.specs.Printed.{cut_status, CutCause, PrintsScript, Gives, GivesPart, IsNothing, IsPrintable, IsWhole, Ended, printed, stopped, wanting, IsPartOf, part_of_whole, part_of_some, IsPrintedOf, IsPrintedFor, IsStopPrinted, HoldsScript}
+use Rattle.bridge_cli.specs.StopAnswers as stop_answers
+use Rattle.bridge_cli.specs.Answers.{Answers, IsAnswer, no_form, answers, IsCutAnswer, whole, cut_off, script_done, IsReportAnswer}
+use Rattle.bridge_cli.specs.ProgramOutputs.{WroteFront, HasAnswer, Answered, AnsweredInPart, AnsweredInPieces, ShelvesVisits, TellsFault}
+use Rattle.bridge_cli.specs.Printed.{cut_status, CutCause, PrintsScript, PrintsReport, Gives, GivesPart, IsNothing, IsPrintable, IsWhole, Ended, printed, stopped, wanting, IsPartOf, part_of_whole, part_of_some, AnswersVisits, IsShelved, IsPrintedOf, IsPrintedFor, IsStopPrinted, HoldsScript, HasPartOf}
 use Rattle.bridge_cli.proofs.CommandLaws.{one_command, pieces_take}
-use Rattle.bridge_cli.proofs.AnswerLaws.{words_answer, stop_told, stop_untold, told_or_not, no_front, tells_fault}
+use Rattle.bridge_cli.proofs.AnswerLaws.{any_bytes, words_answer, stop_told, stop_untold, told_or_not, no_front, tells_fault}
 
 -- ---- what is to be printed
 
@@ -30,14 +37,16 @@ pub same_text : (Says : List ℕ → ℕ → List ℕ → Type 0) (left : Option
 same_text Says left status made text has same = let At : List ℕ → Type 0 = λ t. HasAnswer Says left status t in subst At (sym same) has
 
 -- a text that a command made
-pub whole_printed : (command : Command) (left : Option (List ℕ)) (p : Printed) → IsWhole p → ((text : List ℕ) → Gives p text → HasAnswer (Answers command) left (code_of statuses.Done) text) → IsPrintedOf command left p
-whole_printed command left (Whole t) is gives = record {
+pub whole_printed : (command : Command) (left : Option (List ℕ)) (p : Printed) → IsWhole p → prints_pieces command ≡ false → ((text : List ℕ) → Gives p text → HasAnswer (Answers command) left (code_of statuses.Done) text) → IsPrintedOf command left p
+whole_printed command left (Whole t) is none gives = record {
   gives = gives;
   parts = λ text e. let has = gives text e in record { bytes = has.bytes; on_input = has.on_input; says = part_of_whole (code_of statuses.Done) text has.says };
   printable = tt;
   whole = λ _. tt;
+  visits = none;
 }
-whole_printed command left (Bodies script scrapers page) is gives = absurd is
+whole_printed command left (Bodies script scrapers page) is none gives = absurd is
+whole_printed command left (Report script) is none gives = absurd is
 
 -- the bodies of a script
 pub bodies_printed : (said : Option ℕ) (page : Bool) (left : Option (List ℕ)) (script : Script) (scrapers : ℕ) → HoldsScript left script → IsPrintedOf (Replay said page) left (Bodies script scrapers page)
@@ -46,11 +55,35 @@ bodies_printed said page left script scrapers holds = record {
   parts = λ text is. record { bytes = holds.bytes; on_input = holds.on_input; says = part text is };
   printable = (holds.right, refl);
   whole = λ e. absurd (true≢false e);
+  visits = λ text is. record { bytes = holds.bytes; on_input = holds.on_input; visits = holds.is; says = script_done script text holds.is is };
 }
   where
     part : (text : List ℕ) → MayBeCut page script text → IsPartOf (Replay said page) holds.bytes text
     part text (inl some) = part_of_some text (script, holds.is, some)
     part text (inr all) = part_of_whole (code_of statuses.Done) text (script_done script text holds.is all)
+
+-- the report of a load
+pub report_printed : (number targets rounds : ℕ) (left : Option (List ℕ)) (script : Script) → script ≡ generated_script number targets rounds → IsRightScript script → TakesAllBodies script
+    → IsPrintedOf (Load number targets rounds) left (Report script)
+report_printed number targets rounds left script same right taken = record {
+  gives = λ text is. any_bytes (Answers (Load number targets rounds)) left (code_of statuses.Done) text (λ bytes. says text is);
+  parts = λ text is. any_part left text is;
+  printable = (right, taken, refl);
+  whole = λ e. absurd (true≢false e);
+  visits = λ text is. let has = any_bytes (Answers (Load number targets rounds)) left (code_of statuses.Done) text (λ bytes. says text is) in
+      record { bytes = has.bytes; on_input = has.on_input; visits = same; says = has.says };
+}
+  where
+    says : (text : List ℕ) → IsLoadReport script text → IsReportAnswer (generated_script number targets rounds) (code_of statuses.Done) text
+    says text is = record { done = refl; reports = subst (λ (s : Script). IsLoadReport s text) same is }
+
+    part : (bytes text : List ℕ) → MayBeReported script text ⊎ IsLoadReport script text → IsPartOf (Load number targets rounds) bytes text
+    part bytes text (inl some) = part_of_some text (subst (λ (s : Script). MayBeReported s text) same some)
+    part bytes text (inr all) = part_of_whole (code_of statuses.Done) text (says text all)
+
+    any_part : (given : Option (List ℕ)) (text : List ℕ) → MayBeReported script text ⊎ IsLoadReport script text → HasPartOf (Load number targets rounds) given text
+    any_part None text is = record { bytes = []; on_input = tt; says = part [] text is }
+    any_part (Some bytes) text is = record { bytes = bytes; on_input = refl; says = part bytes text is }
 
 -- what a command prints is what its words ask for
 pub words_printed : (words : List (List ℕ)) (command : Command) (left : Option (List ℕ)) (p : Printed) → IsCommand words command → IsPrintedOf command left p → IsPrintedFor words left statuses.Done p
@@ -59,6 +92,7 @@ words_printed words command left p is of = record {
   parts = λ _ text e. let has = of.parts text e in record { bytes = has.bytes; on_input = has.on_input; says = part has.bytes text has.says };
   printable = of.printable;
   whole = λ none. of.whole (none command is);
+  visits = λ done other asked. subst (λ c. AnswersVisits c left p) (one_command words command other is asked) of.visits;
 }
   where
     part : (bytes text : List ℕ) → IsPartOf command bytes text → IsCutAnswer words bytes text
@@ -66,13 +100,62 @@ words_printed words command left p is of = record {
     part bytes text (part_of_some t says) = cut_off command text is says
 
 -- the answer to a stop
+-- the answer of a stop as a text
+pub stop_whole : (stop : Stop) (status : Status) (p : Printed) → IsStopPrinted stop status p → (text : List ℕ) × IsStopAnswer stop status text
+stop_whole stop status (Bodies script scrapers page) is = absurd is
+stop_whole stop status (Report script) is = absurd is
+stop_whole stop status (Whole t) is = (_, is)
+
+-- a stop has no other status than its own, or that of want of memory
+stop_not : (stop : Stop) (status other : Status) (text : List ℕ) → IsStopAnswer stop status text → stop_status stop ≢ other → statuses.WantOfMemory ≢ other → status ≢ other
+stop_not stop status other text stop_answers.said own memory = own
+stop_not stop status other text (stop_answers.wanting takes) own memory = memory
+
+-- no stop is done
+stop_undone : (stop : Stop) (status : Status) (text : List ℕ) → IsStopAnswer stop status text → status ≢ statuses.Done
+stop_undone stop status text is = stop_not stop status statuses.Done text is (by stop) (λ e. absurd cc)
+  where
+    by : (s : Stop) → stop_status s ≢ statuses.Done
+    by stops.NoForm e = absurd cc
+    by (stops.Refused line rule) e = absurd cc
+    by (stops.BadScript line) e = absurd cc
+    by stops.TooLong e = absurd cc
+    by stops.Read e = absurd cc
+    by stops.Memory e = absurd cc
+
+-- none is of a write that failed
+pub stop_unwritten : (stop : Stop) (status : Status) (p : Printed) → IsStopPrinted stop status p → status ≢ statuses.WriteFailed
+stop_unwritten stop status p is = let answer = stop_whole stop status p is in stop_not stop status statuses.WriteFailed answer.0 answer.1 (by stop) (λ e. absurd cc)
+  where
+    by : (s : Stop) → stop_status s ≢ statuses.WriteFailed
+    by stops.NoForm e = absurd cc
+    by (stops.Refused line rule) e = absurd cc
+    by (stops.BadScript line) e = absurd cc
+    by stops.TooLong e = absurd cc
+    by stops.Read e = absurd cc
+    by stops.Memory e = absurd cc
+
+-- where nothing was read, none is of a read that failed
+pub stop_unread : (stop : Stop) (status : Status) (p : Printed) → IsStopPrinted stop status p → IsUnread stop → status ≢ statuses.ReadFailed
+stop_unread stop status p is unread = let answer = stop_whole stop status p is in stop_not stop status statuses.ReadFailed answer.0 answer.1 (by stop unread) (λ e. absurd cc)
+  where
+    by : (s : Stop) → IsUnread s → stop_status s ≢ statuses.ReadFailed
+    by stops.NoForm u e = absurd cc
+    by stops.Memory u e = absurd cc
+    by (stops.Refused line rule) u e = u
+    by (stops.BadScript line) u e = u
+    by stops.TooLong u e = u
+    by stops.Read u e = u
+
 pub stop_printed : (words : List (List ℕ)) (left : Option (List ℕ)) (stop : Stop) (status : Status) (p : Printed) → IsStopPrinted stop status p → StopsAs (IsAnswer words) left stop → IsPrintedFor words left status p
 stop_printed words left stop status (Bodies script scrapers page) is stops = absurd is
+stop_printed words left stop status (Report script) is stops = absurd is
 stop_printed words left stop status (Whole t) is stops = record {
   gives = says;
   parts = λ told text e. let has = says told text e in record { bytes = has.bytes; on_input = has.on_input; says = whole (code_of status) text has.says };
   printable = tt;
   whole = λ _. tt;
+  visits = λ done. absurd (stop_undone stop status _ is done);
 }
   where
     says : IsTold (code_of status) → (text : List ℕ) → Gives (Whole t) text → HasAnswer (IsAnswer words) left (code_of status) text
@@ -80,12 +163,8 @@ stop_printed words left stop status (Whole t) is stops = record {
 
 pub stop_nothing : (stop : Stop) (status : Status) (p : Printed) → IsStopPrinted stop status p → IsUntold (code_of status) → IsNothing p
 stop_nothing stop status (Bodies script scrapers page) is untold = absurd is
+stop_nothing stop status (Report script) is untold = absurd is
 stop_nothing stop status (Whole t) is untold = stop_untold stop status _ is untold
-
--- the answer of a stop as a text
-pub stop_whole : (stop : Stop) (status : Status) (p : Printed) → IsStopPrinted stop status p → (text : List ℕ) × IsStopAnswer stop status text
-stop_whole stop status (Bodies script scrapers page) is = absurd is
-stop_whole stop status (Whole t) is = (_, is)
 
 -- ---- how printing ended
 
@@ -93,10 +172,12 @@ stop_whole stop status (Whole t) is = (_, is)
 nothing_part : (p : Printed) (text : List ℕ) → IsNothing p → GivesPart p text → text ≡ []
 nothing_part (Whole t) text none e = e ∙ none
 nothing_part (Bodies script scrapers page) text none e = absurd none
+nothing_part (Report script) text none e = absurd none
 
 nothing_text : (p : Printed) (text : List ℕ) → IsNothing p → Gives p text → text ≡ []
 nothing_text (Whole t) text none e = e ∙ none
 nothing_text (Bodies script scrapers page) text none e = absurd none
+nothing_text (Report script) text none e = absurd none
 
 -- of nothing no front is written that leaves something
 no_front_of : (p : Printed) (text : List ℕ) (before after : Option (List ℕ)) → IsNothing p → GivesPart p text → WroteFront before after text → ⊥
@@ -106,6 +187,7 @@ no_front_of p text before after none gives front = no_front before after text fr
 pieces_done : (status : Status) (p : Printed) → IsPrintable status p → ¬ IsWhole p → status ≡ statuses.Done
 pieces_done status (Whole t) right other = absurd (other tt)
 pieces_done status (Bodies script scrapers page) right other = right.1
+pieces_done status (Report script) right other = right.2
 
 done_told : (status : Status) → status ≡ statuses.Done → IsTold (code_of status)
 done_told status e = subst (λ s. IsTold (code_of s)) (sym e) (omega arith, omega arith, omega arith)
@@ -265,6 +347,29 @@ ended_no_form words left status p before after result for none write read memory
     not_untold statuses.ScriptRefused r m u = omega (arith, u)
     not_untold statuses.TooLong r m u = omega (arith, u)
 
+-- what was printed of visits that are done: the answer was written, and the wires are on the shelf
+pub ended_shelf : (words : List (List ℕ)) (left : Option (List ℕ)) (status : Status) (p : Printed) (before after : Option (List ℕ)) (result : ℕ) (shelf shelf_now : Option (List ShelvedPair)) → IsPrintedFor words left status p
+    → Ended status p before after result → (result ≡ code_of statuses.Done → IsShelved p shelf shelf_now) → result ≡ code_of statuses.Done → (command : Command) → IsCommand words command → prints_pieces command ≡ true
+    → ShelvesVisits command left before after shelf shelf_now
+ended_shelf words left status p before after result shelf shelf_now for (stopped text gives front) shelved e command is visits = absurd (omega (arith, e))
+ended_shelf words left status p before after result shelf shelf_now for (wanting text gives written pieces) shelved e command is visits = absurd (omega (arith, e))
+ended_shelf words left status p before after result shelf shelf_now for (printed text gives written) shelved e command is visits = by p gives (for.visits (done_of status e) command is) (shelved e)
+  where
+    done_of : (s : Status) → code_of s ≡ code_of statuses.Done → s ≡ statuses.Done
+    done_of statuses.Done f = refl
+    done_of statuses.Refused f = absurd (omega (arith, f))
+    done_of statuses.NoForm f = absurd (omega (arith, f))
+    done_of statuses.ReadFailed f = absurd (omega (arith, f))
+    done_of statuses.WriteFailed f = absurd (omega (arith, f))
+    done_of statuses.WantOfMemory f = absurd (omega (arith, f))
+    done_of statuses.ScriptRefused f = absurd (omega (arith, f))
+    done_of statuses.TooLong f = absurd (omega (arith, f))
+
+    by : (q : Printed) → Gives q text → AnswersVisits command left q → IsShelved q shelf shelf_now → ShelvesVisits command left before after shelf shelf_now
+    by (Whole t) given none is_shelved = absurd (true≢false (sym visits ∙ none))
+    by (Bodies script scrapers page) given answer is_shelved = record { script = script; text = text; answer = answer text given; written = written; shelved = is_shelved }
+    by (Report script) given answer is_shelved = record { script = script; text = text; answer = answer text given; written = written; shelved = is_shelved }
+
 -- what holds of the command that words ask for, where it reads, holds of them
 pub where_read : (words : List (List ℕ)) (command : Command) (Holds : ℕ → Type 0) → IsCommand words command → (reads_input command ≡ true → Holds (most_input command)) → WhereRead words Holds
 where_read words command Holds is holds other asked reads =
@@ -298,7 +403,17 @@ print_cut status p script scrapers page before after result cuts.Memory same nex
     let Given : Printed → Type 0 = λ x. GivesPart x next.0 in
     let At : ℕ → Type 0 = λ r. Ended status p before after r in
     let InPieces : Printed → Type 0 = λ x. ¬ IsWhole x in
-    subst At (sym e) (wanting next.0 (subst Given (sym same) (inl next.1)) next.2 (subst InPieces (sym same) (λ whole. whole)))
+    subst At (sym e) (wanting next.0 (subst Given (sym same) next.1) next.2 (subst InPieces (sym same) (λ whole. whole)))
+
+-- printing a report was cut off
+pub print_report_cut : (status : Status) (p : Printed) (script : Script) (before after : Option (List ℕ)) (result : ℕ) (cut : Cut) → p ≡ Report script → PrintsReport script before after (Err cut)
+    → result ≡ code_of (cut_status cut) → Ended status p before after result
+print_report_cut status p script before after result cuts.Write same next e = print_front status p (Report script) before after result next.0 same next.1 next.2 e
+print_report_cut status p script before after result cuts.Memory same next e =
+    let Given : Printed → Type 0 = λ x. GivesPart x next.0 in
+    let At : ℕ → Type 0 = λ r. Ended status p before after r in
+    let InPieces : Printed → Type 0 = λ x. ¬ IsWhole x in
+    subst At (sym e) (wanting next.0 (subst Given (sym same) next.1) next.2 (subst InPieces (sym same) (λ whole. whole)))
 
 -- the count of writes that failed rose only where one cut off printing
 pub cut_fault : (before now result : ℕ) (cut : Cut) → CutCause {T = ⊤} before now (Err cut) → result ≡ code_of (cut_status cut) → TellsFault (code_of statuses.WriteFailed) result before now

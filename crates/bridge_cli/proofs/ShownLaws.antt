@@ -195,7 +195,7 @@ page_behind page s shown a b c r asked some are bodies text = subst (λ p. Print
     by (Ok done) text = (bodies.0 ++ federated_text shown, with_page s bodies.0 shown bodies.1 are, grown_twice a b c bodies.0 (federated_text shown) bodies.2 text)
     by (Err cuts.Write) text = (bodies.0 ++ federated_text shown, inr (with_page s bodies.0 shown bodies.1 are), front_behind a b c bodies.0 (federated_text shown) bodies.2 text)
     by (Err cuts.Memory) text =
-        let Grown : List ℕ → Type 0 = λ t. Appends a c t in (bodies.0, all_is_some s bodies.0 some bodies.1, subst Grown (append-nil bodies.0) (grown_twice a b c bodies.0 [] bodies.2 text))
+        let Grown : List ℕ → Type 0 = λ t. Appends a c t in (bodies.0, inl (all_is_some s bodies.0 some bodies.1), subst Grown (append-nil bodies.0) (grown_twice a b c bodies.0 [] bodies.2 text))
 
 -- no page was asked for
 pub no_page_behind : (page : Bool) (s : Script) (a b : Option (List ℕ)) → page ≡ false → PrintedAll s a b → PrintsScript page s a b (Ok tt)
@@ -204,7 +204,7 @@ no_page_behind page s a b asked bodies = subst (λ p. PrintsScript p s a b (Ok t
 -- printing the bodies was cut off
 pub bodies_cut : (page : Bool) (s : Script) (a b : Option (List ℕ)) (cut : Cut) → CutsBodies s a b cut → PrintsScript page s a b (Err cut)
 bodies_cut page s a b cuts.Write is = (is.0, inl is.1, is.2)
-bodies_cut page s a b cuts.Memory is = is
+bodies_cut page s a b cuts.Memory is = (is.0, inl is.1, is.2)
 
 -- writes that failed behind others that did not
 pub cause_behind : {T : Type 0} (before mid now : ℕ) (r : Result T Cut) → mid ≡ before → CutCause mid now r → CutCause before now r

@@ -1,10 +1,10 @@
 -- The tracks of a script's run: that the run is right, how they are made, and what their visits come to.
-use Rattle.std.proofs.Common.{◌≡◌, ℕ, zero, suc, ◌+◌, ◌<◌, ◌≤◌, Bool, true, false, List, [], ◌∷◌, ◌++◌, length, map, take, get_or, below_more, All, Result, Ok, Err, Some, refl, sym, ap, subst, ◌∙◌, arith}
-use Rattle.std.specs.List.{AllByRecursion, IsDistinct, slice_get}
+use Rattle.std.proofs.Common.{◌≡◌, ℕ, zero, suc, ◌+◌, ◌<◌, ◌≤◌, Bool, true, false, List, [], ◌∷◌, ◌++◌, length, map, take, get_or, below_more, All, Result, Ok, Err, Some, refl, sym, ap, subst, ◌∙◌, inl, arith, append_assoc, reverse}
+use Rattle.std.specs.List.{AllZip, AllByRecursion, IsDistinct, slice_get}
 use Rattle.std.specs.Prelude.{OnOk, EachIndex, Option}
 use Rattle.std.specs.Io.KnownBytes.{Appends}
 use Rattle.std.proofs.lemmas.Grind.{get_or_default_zero}
-use Rattle.std.proofs.lemmas.List.{map-append, take_more, length-take-le}
+use Rattle.std.proofs.lemmas.List.{map-append, length-map, reverse-append, take_more, length-take-le}
 use Rattle.std.proofs.lemmas.List.Elements.{All-append}
 use Rattle.plain_words.proofs.Laws.{in_range}
 use Rattle.bridge_ports.specs.Targets.{IsScraped}
@@ -16,13 +16,16 @@ use Rattle.replay_script.specs.WirePlans.{script_settings}
 use Rattle.replay_script.specs.RightScripts.{IsRightHeader, IsRightTarget, IsRightScript}
 use Rattle.series_table.specs.HttpTalks.{talking}
 use Rattle.series_table.specs.Talking.{Followed, AreInRange}
-use Rattle.series_table.specs.Records.{Kept, IsTrack, PostsWhatItsTalksTell}
+use Rattle.series_table.specs.Records.{Kept}
+use Rattle.run_report.specs.declared.target_end.TargetEnd.{TargetEnd}
+use Rattle.run_report.specs.Ends.{track_end}
+use Rattle.bridge_ports.specs.declared.memory_world.Shelved.{Shelved}
 use Rattle.target_table.specs.Runs.{Run, IsRightRun, is_same_target}
 use Rattle.scraper_pool.specs.Turns.{run_of}
-use Rattle.target_table.specs.Tables.{HasAllVisits, IsTrackAt, AreTracks, AreUnvisited, IsRunOver}
-use Rattle.bridge_cli.specs.Replays.{IsReplayOfSome}
+use Rattle.target_table.specs.Tables.{HasAllVisits, IsTrackAt, AreTracks, AreUnvisited}
+use Rattle.bridge_cli.specs.Replays.{MayBeCut}
 use Rattle.bridge_cli.proofs.ReplayLaws.{grown_none}
-use Rattle.bridge_cli.specs.Rounds.{script_followed, script_targets, script_run, visits_counted, IsUnvisited, TellsTalks, HasVisits, IsVisitedThrough}
+use Rattle.bridge_cli.specs.Rounds.{script_followed, script_targets, script_run, visits_counted, IsUnvisited, AreWiresOf, IsScriptRun, AreVisitedThrough}
 
 -- ---- lists
 
@@ -120,45 +123,52 @@ same_run s ks rounds are same =
 
 -- ---- visits
 
--- what every track keeps says that it posted what its talks tell
-keeps_sentence : (k : Kept) → IsTrack talking k → PostsWhatItsTalksTell talking k
-keeps_sentence k keeps = λ scrapes posts told_scrapes told_posts.
-    (keeps.history.events, keeps.history.posted, keeps.history.bodies scrapes posts told_scrapes told_posts)
-
--- the visits of the tracks of a run that is over
-pub has_visits : (s : Script) (ks : List Kept) (visits : List ℕ) → IsRunOver talking (script_run s) ks → visits ≡ map visits_counted ks → AllByRecursion TellsTalks ks → AllByRecursion (IsTrack talking) ks → HasVisits s visits
-has_visits s ks visits over counted tell keep =
-    record { tracks = ks; over = over; counted = counted; tell = tell; sentences = all_again (IsTrack talking) (PostsWhatItsTalksTell talking) ks keeps_sentence keep }
-
-as_many_tracks : (place : ℕ) (fs : List Followed) (ks : List Kept) → AreTracks talking place fs ks → length {A = ℕ} (map visits_counted ks) ≡ length fs
+as_many_tracks : (place : ℕ) (fs : List Followed) (ks : List Kept) → AreTracks talking place fs ks → length {A = TargetEnd} (map track_end ks) ≡ length fs
 as_many_tracks place [] [] are = refl
 as_many_tracks place (f ∷ fs) (k ∷ ks) are = ap suc (as_many_tracks (place + 1) fs ks are.1)
 as_many_tracks place [] (k ∷ ks) are = absurd are
 as_many_tracks place (f ∷ fs) [] are = absurd are
 
--- as many numbers as targets
-pub as_many_visits : (s : Script) (visits : List ℕ) → HasVisits s visits → length visits ≡ length s.targets
-as_many_visits s visits has = ap (length {A = ℕ}) has.counted ∙ as_many_tracks 0 (script_targets s.header s.targets) has.tracks has.over.tracks_are ∙ followed_length s.header s.targets
+-- as many targets ended as there are
+pub as_many_ends : (s : Script) (ends : List TargetEnd) (wires : List Shelved) → IsScriptRun s ends wires → length ends ≡ length s.targets
+as_many_ends s ends wires run = ap (length {A = TargetEnd}) run.ends_are ∙ as_many_tracks 0 (script_targets s.header s.targets) run.tracks run.over.tracks_are ∙ followed_length s.header s.targets
 
 -- a track has at most all its visits
-at_most_all : (rounds : ℕ) (k : Kept) (halted : Bool) → k.halted ≡ halted → HasAllVisits rounds k → k.counts.visits ≤ rounds
+pub at_most_all : (rounds : ℕ) (k : Kept) (halted : Bool) → k.halted ≡ halted → HasAllVisits rounds k → k.counts.visits ≤ rounds
 at_most_all rounds k true e has = omega (arith, has.left e)
 at_most_all rounds k false e has = omega (arith, has.all e)
 
-counted_all : (rounds : ℕ) (ks : List Kept) (i : ℕ) → All (HasAllVisits rounds) ks → i < length {A = ℕ} (map visits_counted ks) → rounds ≤ get_or (map visits_counted ks) i 0 → get_or (map visits_counted ks) i 0 ≡ rounds
-counted_all rounds [] i all within many = absurd (omega (arith, within))
-counted_all rounds (k ∷ ks) zero all within many = omega (arith, many, at_most_all rounds k k.halted refl (all 0 k (omega arith)))
-counted_all rounds (k ∷ ks) (suc i) all within many = counted_all rounds ks i (λ j d inside. all (suc j) d (omega (arith, inside))) (omega (arith, within)) many
+-- where each number of visits is that of the rounds, each target was visited through
+through_ends : (rounds : ℕ) (ends : List TargetEnd) → ((i : ℕ) → i < length ends → rounds ≤ get_or (map visits_counted ends) i 0) → AreVisitedThrough rounds ends
+through_ends rounds [] many = tt
+through_ends rounds (e ∷ ends) many = (many 0 (omega arith), through_ends rounds ends (λ i inside. many (suc i) (omega (arith, inside))))
 
--- where each target has a visit for each round, all were visited through
-pub visited_through : (s : Script) (visits : List ℕ) → HasVisits s visits → ((i : ℕ) → i < length visits → s.header.rounds ≤ get_or visits i 0) → IsVisitedThrough s
-visited_through s visits has many =
-    record {
-      visits = visits;
-      has = has;
-      all = λ i within. ap (λ ns. get_or ns i 0) has.counted ∙ counted_all s.header.rounds has.tracks i has.over.visited (subst (λ ns. i < length {A = ℕ} ns) has.counted within)
-          (subst (λ ns. s.header.rounds ≤ get_or ns i 0) has.counted (many i within));
-    }
+-- ---- wires
+
+-- the wires of one track more, which stands behind the others
+behind : (ks : List Kept) (ws : List Shelved) (k : Kept) (w : Shelved) → AllZip AreWiresOf ks ws → AreWiresOf k w → AllZip AreWiresOf (ks ++ k ∷ []) (ws ++ w ∷ [])
+behind [] [] k w are is = (is, tt)
+behind (l ∷ ks) (v ∷ ws) k w are is = (are.0, behind ks ws k w are.1 is)
+behind [] (v ∷ ws) k w are is = absurd are
+behind (l ∷ ks) [] k w are is = absurd are
+
+-- the last of the tracks that were left gives its wires
+pub wires_more : (all was left : List Kept) (k : Kept) (w : Shelved) (taken more : List Shelved) → ((ws : List Shelved) → AllZip AreWiresOf was ws → AllZip AreWiresOf all (ws ++ reverse taken)) → was ≡ left ++ k ∷ [] → more ≡ taken ++ w ∷ []
+    → AreWiresOf k w → (ws : List Shelved) → AllZip AreWiresOf left ws → AllZip AreWiresOf all (ws ++ reverse more)
+wires_more all was left k w taken more before was_is more_is is ws are =
+    let next : AllZip AreWiresOf was (ws ++ w ∷ []) = subst (λ ks. AllZip AreWiresOf ks (ws ++ w ∷ [])) (sym was_is) (behind left ws k w are is) in
+    let turned : reverse more ≡ w ∷ reverse taken = ap reverse more_is ∙ reverse-append taken (w ∷ []) in
+    let same : ws ++ reverse more ≡ (ws ++ w ∷ []) ++ reverse taken = ap (λ vs. ws ++ vs) turned ∙ sym (append_assoc ws (w ∷ []) (reverse taken)) in
+    subst (AllZip AreWiresOf all) (sym same) (before (ws ++ w ∷ []) next)
+
+-- a list without elements
+pub nothing_left : {A : Type 0} (xs : List A) → length xs ≡ 0 → xs ≡ []
+nothing_left [] none = refl
+nothing_left (x ∷ xs) none = absurd (omega (arith, none))
+
+-- where none are left, the wires are those that were taken out
+pub wires_all : (all left : List Kept) (taken : List Shelved) → ((ws : List Shelved) → AllZip AreWiresOf left ws → AllZip AreWiresOf all (ws ++ reverse taken)) → left ≡ [] → AllZip AreWiresOf all (reverse taken)
+wires_all all left taken before none = before [] (subst (λ ks. AllZip AreWiresOf ks []) (sym none) tt)
 
 -- ---- printing
 
@@ -169,16 +179,18 @@ each_more rounds visits at n many before inside all enough is =
     below_more _ _ before (omega (arith, same, all, enough))
 
 -- where all was printed, each target was visited through
-pub through_of : {T E : Type 0} (r : Result T E) (s : Script) (visits seen : List ℕ) → HasVisits s visits → seen ≡ visits → OnOk r (EachIndex seen (λ k. s.header.rounds ≤ get_or seen k 0)) → OnOk r (IsVisitedThrough s)
-through_of (Ok done) s visits seen has same many = visited_through s visits has (subst (λ ns. EachIndex {X = ℕ} ns (λ k. s.header.rounds ≤ get_or ns k 0)) same many)
-through_of (Err e) s visits seen has same many = tt
+pub through_of : {T E : Type 0} (r : Result T E) (rounds : ℕ) (ends : List TargetEnd) (visits seen : List ℕ) → visits ≡ map visits_counted ends → seen ≡ visits → OnOk r (EachIndex seen (λ k. rounds ≤ get_or seen k 0))
+    → OnOk r (AreVisitedThrough rounds ends)
+through_of (Ok done) rounds ends visits seen counted same many =
+    through_ends rounds ends (λ i inside. subst (λ ns. rounds ≤ get_or ns i 0) (same ∙ counted) (many i (omega (arith, inside, ap (length {A = ℕ}) (same ∙ counted), length-map ends visits_counted))))
+through_of (Err e) rounds ends visits seen counted same many = tt
 
 first_target : (ts : List ScriptTarget) → 1 ≤ length ts → (t : ScriptTarget) × (slice_get ts 0 ≡ Some t)
 first_target [] some = absurd (omega (arith, some))
 first_target (t ∷ ts) some = (t, refl)
 
 -- nothing is a part of what is printed of a script
-pub none_printed : (s : Script) (held : Option (List ℕ)) → 1 ≤ length s.targets → (text : List ℕ) × IsReplayOfSome s text × Appends held held text
-none_printed s held some =
+pub none_printed : (page : Bool) (s : Script) (held : Option (List ℕ)) → 1 ≤ length s.targets → (text : List ℕ) × MayBeCut page s text × Appends held held text
+none_printed page s held some =
     let t = first_target s.targets some in
-    ([], record { texts = []; are = tt; target = t.0; stands = t.1; part = []; is_part = record { events = []; are = tt; says = refl }; says = refl }, grown_none held)
+    ([], inl (record { texts = []; are = tt; target = t.0; stands = t.1; part = []; is_part = record { events = []; are = tt; says = refl }; says = refl }), grown_none held)

@@ -2,7 +2,7 @@
 use Rattle.std.proofs.Common.{◌≡◌, ◌≢◌, ℕ, ◌<◌, ◌≤◌, Bool, true, false, not, eqb, List, [], ◌∷◌, map, length, get_or, Result, Ok, Err, Some, None, refl, sym, ap, subst, ◌∙◌, arith}
 use Rattle.std.specs.Prelude.{codes, OnErr}
 use Rattle.std.specs.Fmt.{decimal}
-use Rattle.std.proofs.lemmas.Bool.{eqb-false, not-false}
+use Rattle.std.proofs.lemmas.Bool.{eqb-false, not-false, true≢false}
 use Rattle.std.proofs.lemmas.Fmt.{decimal_injective, decimal_is_IsNumeral}
 use Rattle.std.proofs.lemmas.Slice.Eq.{bytes_eq-Decides}
 use Rattle.std.specs.Str.{bytes_eq}
@@ -10,10 +10,11 @@ use Rattle.std.specs.Str.Parse.{digits_value}
 use Rattle.page_model.specs.declared.format.Format.{Format}
 use Rattle.plain_words.specs.Places.{IsHostAndPort}
 use Rattle.replay_script.specs.ScriptParts.{format_word}
+use Rattle.load_pages.specs.GeneratedScripts.{IsLoad, most_load_number}
 use Rattle.bridge_cli.specs.Limits.{most_host, most_job, most_nanos, most_scrapers}
-use Rattle.bridge_cli.specs.CommandWords.{IsCommand, FitNoForm, SaysScrapers, place_target, words_of}
+use Rattle.bridge_cli.specs.CommandWords.{IsCommand, IsInLimits, FitNoForm, SaysScrapers, place_target, words_of}
 use Rattle.bridge_cli.specs.declared.words.Command.{Command}
-use Rattle.bridge_cli.specs.declared.words.Command.TheVariants.{Help, Version, Check, Convert, Replay}
+use Rattle.bridge_cli.specs.declared.words.Command.TheVariants.{Help, Version, Check, Convert, Replay, Load}
 
 -- a list of five by its elements
 five : {A : Type 0} (xs : List A) (a b c d e : A) → 5 ≤ length xs → length xs < 6 → a ≡ get_or xs 0 a → b ≡ get_or xs 1 b → c ≡ get_or xs 2 c → d ≡ get_or xs 3 d → e ≡ get_or xs 4 e
@@ -47,6 +48,7 @@ no_format bytes xs a b c d e format low high at0 at1 at2 at3 at4 is none command
     by (Replay None true) spelled = absurd cc
     by (Replay (Some n) false) spelled = absurd cc
     by (Replay (Some n) true) spelled = absurd cc
+    by (Load n t r) spelled = absurd cc
     by (Check f) spelled = absurd cc
     by (Convert f target nanos) spelled = let named : bytes b ≡ format_word f = cc in none f (is ∙ named)
 
@@ -106,3 +108,40 @@ says_scrapers word bytes n same is some = record { spelled = sym same ∙ is.0; 
 -- a number of scrapers is not written `page`
 pub number_no_page : (n : ℕ) → n ≤ most_scrapers → bytes_eq (decimal n) (codes "page") ≡ false
 number_no_page n few = not_alike (decimal n) (codes "page") (λ e. let value = (decimal_is_IsNumeral n (omega (arith, few))).1 in absurd (omega (arith, few, value, ap (digits_value 10) e)))
+
+-- ---- the words of a load
+
+-- the words of a load
+pub load_is : (number targets rounds : List ℕ) (n t r : ℕ) → number ≡ decimal n → targets ≡ decimal t → rounds ≡ decimal r → IsLoad n t r → IsCommand (codes "load" ∷ number ∷ targets ∷ rounds ∷ []) (Load n t r)
+load_is number targets rounds n t r a b c is = record {
+  spelled = ap (λ w. codes "load" ∷ w ∷ targets ∷ rounds ∷ []) a ∙ ap (λ w. codes "load" ∷ decimal n ∷ w ∷ rounds ∷ []) b ∙ ap (λ w. codes "load" ∷ decimal n ∷ decimal t ∷ w ∷ []) c;
+  limits = is;
+}
+
+-- words that are those of no load fit no form
+pub no_load : (number targets rounds : List ℕ) → ((n t r : ℕ) → IsLoad n t r → number ≡ decimal n → targets ≡ decimal t → rounds ≡ decimal r → ⊥) → FitNoForm (codes "load" ∷ number ∷ targets ∷ rounds ∷ [])
+no_load number targets rounds none command asked = by command asked.limits asked.spelled
+  where
+    by : (command : Command) → IsInLimits command → codes "load" ∷ number ∷ targets ∷ rounds ∷ [] ≡ words_of command → ⊥
+    by Help limits spelled = absurd cc
+    by Version limits spelled = absurd cc
+    by (Replay None false) limits spelled = absurd cc
+    by (Replay None true) limits spelled = absurd cc
+    by (Replay (Some n) false) limits spelled = absurd cc
+    by (Replay (Some n) true) limits spelled = absurd cc
+    by (Check f) limits spelled = absurd cc
+    by (Convert f target nanos) limits spelled = absurd cc
+    by (Load n t r) limits spelled =
+        let a : number ≡ decimal n = cc in
+        let b : targets ≡ decimal t = cc in
+        let c : rounds ≡ decimal r = cc in none n t r limits a b c
+
+-- numbers that are no load
+pub not_a_load : (number targets rounds : List ℕ) (n t r : ℕ) (test : Bool) → (number ≡ decimal n) × (n ≤ most_load_number) → (targets ≡ decimal t) × (t ≤ most_load_number) → (rounds ≡ decimal r) × (r ≤ most_load_number)
+    → (IsLoad n t r → test ≡ true) → test ≡ false → FitNoForm (codes "load" ∷ number ∷ targets ∷ rounds ∷ [])
+not_a_load number targets rounds n t r test a b c only fails = no_load number targets rounds (λ m u s is x y z.
+    let numbers : n ≡ m = decimal_injective n m (omega (arith, a.1)) (omega (arith, is.small)) (sym a.0 ∙ x) in
+    let targets_same : t ≡ u = decimal_injective t u (omega (arith, b.1)) (omega (arith, is.few_targets)) (sym b.0 ∙ y) in
+    let rounds_same : r ≡ s = decimal_injective r s (omega (arith, c.1)) (omega (arith, is.few_rounds)) (sym c.0 ∙ z) in
+    let here : IsLoad n t r = subst (λ k. IsLoad k t r) (sym numbers) (subst (λ k. IsLoad m k r) (sym targets_same) (subst (λ k. IsLoad m u k) (sym rounds_same) is)) in
+    absurd (true≢false (sym (only here) ∙ fails)))

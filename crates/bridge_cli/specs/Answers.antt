@@ -4,7 +4,7 @@ use Rattle.replay_script.specs.declared.script.Script.{Script}
 use Rattle.replay_script.specs.Scripts.{IsScript, HasScriptFault}
 use Rattle.bridge_cli.specs.declared.status.Status.TheVariants.{Done, NoForm, ScriptRefused, TooLong}
 use Rattle.bridge_cli.specs.declared.words.Command.{Command}
-use Rattle.bridge_cli.specs.declared.words.Command.TheVariants.{Help, Version, Check, Convert, Replay}
+use Rattle.bridge_cli.specs.declared.words.Command.TheVariants.{Help, Version, Check, Convert, Replay, Load}
 use Rattle.bridge_cli.specs.Statuses.{code_of}
 use Rattle.bridge_cli.specs.CommandWords.{IsCommand, FitNoForm}
 use Rattle.bridge_cli.specs.Stops.{no_form_text, script_text, too_long_text}
@@ -14,6 +14,8 @@ use Rattle.bridge_cli.specs.CheckTexts.{checked_text}
 use Rattle.bridge_cli.specs.ConvertTexts.{converted_text}
 use Rattle.bridge_cli.specs.Limits.{most_script}
 use Rattle.bridge_cli.specs.Replays.{IsReplayWith, IsReplayOfSome}
+use Rattle.load_pages.specs.GeneratedScripts.{generated_script}
+use Rattle.bridge_cli.specs.Loads.{IsLoadReport, MayBeReported}
 
 -- what a command that prints always the same answers
 pub record IsFixedAnswer (fixed : List ℕ) (status : ℕ) (text : List ℕ) : Type 0 where
@@ -31,6 +33,11 @@ pub data IsScriptAnswer (Prints : Script → List ℕ → Type 0) (bytes : List 
   script_refused : (line : ℕ) → length bytes ≤ most_script → HasScriptFault bytes line → IsScriptAnswer Prints bytes (code_of ScriptRefused) (script_text line)
   script_too_long : most_script < length bytes → IsScriptAnswer Prints bytes (code_of TooLong) too_long_text
 
+-- what `load` answers: the report of all visits of a script
+pub record IsReportAnswer (script : Script) (status : ℕ) (text : List ℕ) : Type 0 where
+  pub done : status ≡ code_of Done
+  pub reports : IsLoadReport script text
+
 -- what a command answers to the bytes on the input; of `replay` it is the same for every number of scrapers
 abbrev pub Answers : Command → List ℕ → ℕ → List ℕ → Type 0
 Answers Help bytes = IsFixedAnswer help_text
@@ -38,15 +45,23 @@ Answers Version bytes = IsFixedAnswer version_text
 Answers (Check format) bytes = IsPageAnswer (page_setting format) checked_text bytes
 Answers (Convert format target nanos) bytes = IsPageAnswer (page_setting format) (converted_text target nanos) bytes
 Answers (Replay scrapers page) bytes = IsScriptAnswer (IsReplayWith page) bytes
+Answers (Load number targets rounds) bytes = IsReportAnswer (generated_script number targets rounds)
+
+-- a command visits the targets of this script where these bytes are on the input
+abbrev pub VisitsScript : Command → List ℕ → Script → Type 0
+VisitsScript (Replay scrapers page) bytes script = IsScriptInput script bytes
+VisitsScript (Load number targets rounds) bytes script = script ≡ generated_script number targets rounds
+VisitsScript _ bytes script = ⊥
 
 -- what the program answers: the words fit no form, or a command answers
 pub data IsAnswer (words : List (List ℕ)) (bytes : List ℕ) : ℕ → List ℕ → Type 0 where
   no_form : FitNoForm words → IsAnswer words bytes (code_of NoForm) no_form_text
   answers : (command : Command) (status : ℕ) (text : List ℕ) → IsCommand words command → Answers command bytes status text → IsAnswer words bytes status text
 
--- what a command that prints in pieces has printed where it is cut off: a text of some of the events, without the page
+-- what a command that prints in pieces has printed where it is cut off: a text of some of the events, without the page; and of `load` nothing, or the report of some visits
 abbrev pub CutAnswers : Command → List ℕ → List ℕ → Type 0
 CutAnswers (Replay scrapers page) bytes text = (script : Script) × IsScriptInput script bytes × IsReplayOfSome script text
+CutAnswers (Load number targets rounds) bytes text = MayBeReported (generated_script number targets rounds) text
 CutAnswers _ bytes text = ⊥
 
 -- a text of which a front may be written: that of an answer, or of a command that is cut off

@@ -4,8 +4,9 @@ use Rattle.std.specs.Fmt.{decimal}
 use Rattle.bridge_ports.specs.Targets.{Scraped}
 use Rattle.plain_words.specs.Places.{IsHostAndPort}
 use Rattle.replay_script.specs.ScriptParts.{format_word}
+use Rattle.load_pages.specs.GeneratedScripts.{IsLoad}
 use Rattle.bridge_cli.specs.declared.words.Command.{Command}
-use Rattle.bridge_cli.specs.declared.words.Command.TheVariants.{Help, Version, Check, Convert, Replay}
+use Rattle.bridge_cli.specs.declared.words.Command.TheVariants.{Help, Version, Check, Convert, Replay, Load}
 use Rattle.bridge_cli.specs.Limits.{most_page, most_script, most_nanos, most_job, most_host, most_scrapers}
 
 -- what is scraped of a host and a port: its metrics, whose times do not count
@@ -55,6 +56,7 @@ words_of Version = codes "--version" ∷ []
 words_of (Check format) = codes "check" ∷ format_word format ∷ []
 words_of (Convert format target nanos) = codes "convert" ∷ format_word format ∷ target.job ∷ target.instance ∷ decimal nanos ∷ []
 words_of (Replay scrapers page) = (codes "replay" ∷ word_if scrapers) ++ page_word page
+words_of (Load number targets rounds) = codes "load" ∷ decimal number ∷ decimal targets ∷ decimal rounds ∷ []
 
 -- the ranges of a command's arguments
 abbrev pub IsInLimits : Command → Type 0
@@ -63,6 +65,7 @@ IsInLimits Version = ⊤
 IsInLimits (Check format) = ⊤
 IsInLimits (Convert format target nanos) = IsTarget target × (nanos ≤ most_nanos)
 IsInLimits (Replay scrapers page) = AreScrapers scrapers
+IsInLimits (Load number targets rounds) = IsLoad number targets rounds
 
 -- the command reads the input
 abbrev pub reads_input : Command → Bool
@@ -71,6 +74,7 @@ reads_input Version = false
 reads_input (Check format) = true
 reads_input (Convert format target nanos) = true
 reads_input (Replay scrapers page) = true
+reads_input (Load number targets rounds) = false
 
 -- the most bytes of the input that the command reads
 abbrev pub most_input : Command → ℕ
@@ -79,14 +83,16 @@ most_input Version = 0
 most_input (Check format) = most_page
 most_input (Convert format target nanos) = most_page
 most_input (Replay scrapers page) = most_script
+most_input (Load number targets rounds) = 0
 
--- the command prints its text in pieces, as they are made
+-- the command prints its text in pieces, as they are made, or part of it where memory was wanted
 abbrev pub prints_pieces : Command → Bool
 prints_pieces Help = false
 prints_pieces Version = false
 prints_pieces (Check format) = false
 prints_pieces (Convert format target nanos) = false
 prints_pieces (Replay scrapers page) = true
+prints_pieces (Load number targets rounds) = true
 
 -- the command takes memory
 abbrev pub takes_memory : Command → Bool
@@ -95,6 +101,7 @@ takes_memory Version = false
 takes_memory (Check format) = true
 takes_memory (Convert format target nanos) = true
 takes_memory (Replay scrapers page) = true
+takes_memory (Load number targets rounds) = true
 
 -- ---- what words ask for
 

@@ -10,6 +10,8 @@ pub mod CheckTexts
 pub mod ConvertTexts
 pub mod Replays
 pub mod Rounds
+pub mod Shelves
+pub mod Loads
 pub mod Answers
 pub mod ProgramOutputs
 pub mod StopAnswers

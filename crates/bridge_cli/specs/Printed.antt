@@ -1,6 +1,6 @@
 -- What is to be printed, and what was.
 -- The bridge's own.
-use Rattle.std.specs.Prelude.{◌≡◌, ℕ, ◌≤◌, Bool, false, ◌∷◌, ◌++◌, List, [], length, Option, Result, Ok, Err, ⊤}
+use Rattle.std.specs.Prelude.{◌≡◌, ◌⊎◌, ℕ, ◌≤◌, Bool, true, false, ◌∷◌, ◌++◌, List, [], length, Option, Result, Ok, Err, ⊤}
 use Rattle.std.specs.Cow.{cow_slice_items}
 use Rattle.std.specs.Io.KnownBytes.{Appends}
 use Rattle.page_model.specs.declared.event.Event.{Event}
@@ -14,7 +14,7 @@ use Rattle.replay_script.specs.declared.script.ScriptTarget.{ScriptTarget}
 use Rattle.replay_script.specs.declared.script.Script.{Script}
 use Rattle.replay_script.specs.RightScripts.{IsRightScript}
 use Rattle.bridge_cli.specs.declared.answer.Printed.{Printed}
-use Rattle.bridge_cli.specs.declared.answer.Printed.TheVariants.{Whole, Bodies}
+use Rattle.bridge_cli.specs.declared.answer.Printed.TheVariants.{Whole, Bodies, Report}
 use Rattle.bridge_cli.specs.declared.replaying.Cut.{Cut}
 use Rattle.bridge_cli.specs.declared.replaying.Cut.TheVariants.{Write, Memory}
 use Rattle.bridge_cli.specs.declared.status.Status.{Status}
@@ -23,36 +23,48 @@ use Rattle.bridge_cli.specs.Statuses.{code_of, IsTold}
 use Rattle.bridge_cli.specs.Replays.{script_tracking, IsReplyEvent, AreEvents, body_after, bodies_of, IsTextOfSome, IsTextOf, AreTexts, joined_texts, IsReplay, IsReplayOfSome, IsReplayWith, MayBeCut}
 use Rattle.bridge_cli.specs.declared.stop.Stop.{Stop}
 use Rattle.bridge_cli.specs.declared.words.Command.{Command}
-use Rattle.bridge_cli.specs.CommandWords.{AskForNo, prints_pieces}
+use Rattle.bridge_cli.specs.CommandWords.{IsCommand, AskForNo, prints_pieces}
 use Rattle.bridge_cli.specs.Inputs.{IsInput}
+use Rattle.load_pages.specs.GeneratedScripts.{TakesAllBodies}
+use Rattle.run_report.specs.declared.target_end.TargetEnd.{TargetEnd}
+use Rattle.run_report.specs.Ends.{some_halted}
+use Rattle.run_report.specs.Reports.{report_text}
+use Rattle.bridge_cli.specs.Loads.{IsLoadReport, MayBeReported}
+use Rattle.bridge_ports.specs.Worlds.{ShelvedPair}
+use Rattle.bridge_cli.specs.Shelves.{IsShelfOf}
 use Rattle.bridge_cli.specs.StopAnswers.{IsStopAnswer}
 use Rattle.bridge_cli.specs.Answers.{IsScriptInput, Answers, CutAnswers, IsAnswer}
-use Rattle.bridge_cli.specs.ProgramOutputs.{WroteFront, HasAnswer, HasCutAnswer}
+use Rattle.bridge_cli.specs.ProgramOutputs.{WroteFront, HasAnswer, HasCutAnswer, HasVisitAnswer}
 
 -- this is the text that is to be printed
 abbrev pub Gives : Printed → List ℕ → Type 0
 Gives (Whole t) text = text ≡ cow_slice_items t
 Gives (Bodies script scrapers page) text = IsReplayWith page script text
+Gives (Report script) text = IsLoadReport script text
 
 -- this is a text of which a front may be printed
 abbrev pub GivesPart : Printed → List ℕ → Type 0
 GivesPart (Whole t) text = text ≡ cow_slice_items t
 GivesPart (Bodies script scrapers page) text = MayBeCut page script text
+GivesPart (Report script) text = MayBeReported script text ⊎ IsLoadReport script text
 
 -- nothing is to be printed
 abbrev pub IsNothing : Printed → Type 0
 IsNothing (Whole t) = cow_slice_items t ≡ []
 IsNothing (Bodies script scrapers page) = ⊥
+IsNothing (Report script) = ⊥
 
--- what is printed in pieces is a right script, and the command is done
+-- what is printed in pieces is of a right script, and the command is done
 abbrev pub IsPrintable : Status → Printed → Type 0
 IsPrintable status (Whole t) = ⊤
 IsPrintable status (Bodies script scrapers page) = IsRightScript script × (status ≡ Done)
+IsPrintable status (Report script) = IsRightScript script × TakesAllBodies script × (status ≡ Done)
 
 -- what is printed isn't made in pieces
 abbrev pub IsWhole : Printed → Type 0
 IsWhole (Whole t) = ⊤
 IsWhole (Bodies script scrapers page) = ⊥
+IsWhole (Report script) = ⊥
 
 -- the status where printing in pieces is cut off
 abbrev pub cut_status : Cut → Status
@@ -136,11 +148,29 @@ PrintsText text before after (Ok done) = Appends before after text
 PrintsText text before after (Err Write) = WroteFront before after text
 PrintsText text before after (Err Memory) = Appends before after []
 
--- what printing a script came to, with its page or without it: at want of memory no part of the page is printed
+-- what printing a script came to, with its page or without it: at want of memory no part of the page is printed, or all of it
 abbrev pub PrintsScript : Bool → Script → Option (List ℕ) → Option (List ℕ) → Result ⊤ Cut → Type 0
 PrintsScript page s before after (Ok done) = (text : List ℕ) × IsReplayWith page s text × Appends before after text
 PrintsScript page s before after (Err Write) = (text : List ℕ) × MayBeCut page s text × WroteFront before after text
-PrintsScript page s before after (Err Memory) = (text : List ℕ) × IsReplayOfSome s text × Appends before after text
+PrintsScript page s before after (Err Memory) = (text : List ℕ) × MayBeCut page s text × Appends before after text
+
+-- what printing the report of targets that ended so came to: it is printed, and none was halted; or memory was wanted for it, or was wanting to a target
+abbrev pub ReportsEnds : List TargetEnd → Option (List ℕ) → Option (List ℕ) → Result ⊤ Cut → Type 0
+ReportsEnds ends before after (Ok done) = Appends before after (report_text ends) × (some_halted ends ≡ false)
+ReportsEnds ends before after (Err Write) = WroteFront before after (report_text ends)
+ReportsEnds ends before after (Err Memory) = Appends before after [] ⊎ (Appends before after (report_text ends) × (some_halted ends ≡ true))
+
+-- what printing the report of a script's visits came to: at want of memory nothing is printed, or a whole report
+abbrev pub PrintsReport : Script → Option (List ℕ) → Option (List ℕ) → Result ⊤ Cut → Type 0
+PrintsReport s before after (Ok done) = (text : List ℕ) × IsLoadReport s text × Appends before after text
+PrintsReport s before after (Err Write) = (text : List ℕ) × (MayBeReported s text ⊎ IsLoadReport s text) × WroteFront before after text
+PrintsReport s before after (Err Memory) = (text : List ℕ) × (MayBeReported s text ⊎ IsLoadReport s text) × Appends before after text
+
+-- what is printed was done, so the wires that it was made over are on the shelf
+abbrev pub IsShelved : Printed → Option (List ShelvedPair) → Option (List ShelvedPair) → Type 0
+IsShelved (Whole t) before after = ⊤
+IsShelved (Bodies script scrapers page) before after = IsShelfOf script before after
+IsShelved (Report script) before after = IsShelfOf script before after
 
 -- ---- what a command and words have printed
 
@@ -155,12 +185,19 @@ pub record HasPartOf (command : Command) (left : Option (List ℕ)) (text : List
   pub on_input : IsInput left bytes
   pub says : IsPartOf command bytes text
 
+-- what is printed of visits answers a command over the script that is visited; else the command visits nothing
+abbrev pub AnswersVisits : Command → Option (List ℕ) → Printed → Type 0
+AnswersVisits command left (Whole t) = prints_pieces command ≡ false
+AnswersVisits command left (Bodies script scrapers page) = (text : List ℕ) → IsReplayWith page script text → HasVisitAnswer command left script text
+AnswersVisits command left (Report script) = (text : List ℕ) → IsLoadReport script text → HasVisitAnswer command left script text
+
 -- what a command that is done has to print
 pub record IsPrintedOf (command : Command) (left : Option (List ℕ)) (p : Printed) : Type 0 where
   pub gives : (text : List ℕ) → Gives p text → HasAnswer (Answers command) left (code_of Done) text
   pub parts : (text : List ℕ) → GivesPart p text → HasPartOf command left text
   pub printable : IsPrintable Done p
   pub whole : prints_pieces command ≡ false → IsWhole p
+  pub visits : AnswersVisits command left p
 
 -- what words that ask for a command that is done have to print
 pub record IsPrintedFor (words : List (List ℕ)) (left : Option (List ℕ)) (status : Status) (p : Printed) : Type 0 where
@@ -168,11 +205,13 @@ pub record IsPrintedFor (words : List (List ℕ)) (left : Option (List ℕ)) (st
   pub parts : IsTold (code_of status) → (text : List ℕ) → GivesPart p text → HasCutAnswer words left text
   pub printable : IsPrintable status p
   pub whole : AskForNo prints_pieces words → IsWhole p
+  pub visits : status ≡ Done → (command : Command) → IsCommand words command → AnswersVisits command left p
 
 -- the answer to a stop is printed whole
 abbrev pub IsStopPrinted : Stop → Status → Printed → Type 0
 IsStopPrinted stop status (Whole t) = IsStopAnswer stop status (cow_slice_items t)
 IsStopPrinted stop status (Bodies script scrapers page) = ⊥
+IsStopPrinted stop status (Report script) = ⊥
 
 -- the bytes on the input are these, and no more than so many
 pub record HoldsBytes (most : ℕ) (left : Option (List ℕ)) (bytes : List ℕ) : Type 0 where

@@ -4,7 +4,13 @@ use Rattle.std.specs.Io.KnownBytes.{Appends}
 use Rattle.bridge_ports.specs.Causes.{Rose}
 use Rattle.bridge_cli.specs.CommandWords.{AskFor, reads_input}
 use Rattle.bridge_cli.specs.Inputs.{IsInput}
-use Rattle.bridge_cli.specs.Answers.{IsAnswer, IsCutAnswer}
+use Rattle.bridge_ports.specs.Worlds.{ShelvedPair}
+use Rattle.replay_script.specs.declared.script.Script.{Script}
+use Rattle.bridge_cli.specs.declared.words.Command.{Command}
+use Rattle.bridge_cli.specs.declared.status.Status.TheVariants.{Done}
+use Rattle.bridge_cli.specs.Statuses.{code_of}
+use Rattle.bridge_cli.specs.Shelves.{IsShelfOf}
+use Rattle.bridge_cli.specs.Answers.{VisitsScript, Answers, IsAnswer, IsCutAnswer}
 
 -- a front of a text was written, and something of it was left
 pub record WroteFront (before after : Option (List ℕ)) (whole : List ℕ) : Type 0 where
@@ -58,3 +64,20 @@ pub record TellsFault (fault status before now : ℕ) : Type 0 where
   pub rose : status ≡ fault → Rose before now
   pub only : before < now → status ≡ fault
   pub kept : status ≢ fault → now ≡ before
+
+-- ---- the shelf
+
+-- some bytes that may have been on the input have a command visit this script, and answer this text
+pub record HasVisitAnswer (command : Command) (left : Option (List ℕ)) (script : Script) (text : List ℕ) : Type 0 where
+  pub bytes : List ℕ
+  pub on_input : IsInput left bytes
+  pub visits : VisitsScript command bytes script
+  pub says : Answers command bytes (code_of Done) text
+
+-- the answer was written, and the wires of the targets that it is about are on the shelf
+pub record ShelvesVisits (command : Command) (left before after : Option (List ℕ)) (shelf shelf_now : Option (List ShelvedPair)) : Type 0 where
+  pub script : Script
+  pub text : List ℕ
+  pub answer : HasVisitAnswer command left script text
+  pub written : Appends before after text
+  pub shelved : IsShelfOf script shelf shelf_now

@@ -1,17 +1,21 @@
--- The run of a script: the tracks of its targets, how they are made, and what their visits come to.
+-- The run of a script: the tracks of its targets, how they are made, and what is left of them.
 -- The bridge's own.
-use Rattle.std.specs.Prelude.{◌≡◌, ℕ, IsTrue, Bool, false, List, map, EachIndex, slice_index, Some, is_some}
-use Rattle.std.specs.List.{AllByRecursion}
+use Rattle.std.specs.Prelude.{◌≡◌, ℕ, ◌≤◌, Bool, false, List, map, Some}
+use Rattle.std.specs.List.{AllZip, AllByRecursion}
 use Rattle.bridge_ports.specs.declared.talk.Place.{Place}
+use Rattle.bridge_ports.specs.declared.memory_world.Shelved.{Shelved}
+use Rattle.bridge_ports.specs.Plans.{seen_of, IsOfPlan}
 use Rattle.replay_script.specs.declared.header.Header.{Header}
 use Rattle.replay_script.specs.declared.script.ScriptTarget.{ScriptTarget}
 use Rattle.replay_script.specs.declared.script.Script.{Script}
 use Rattle.replay_script.specs.WirePlans.{scrape_plan, post_plan, script_collector, script_settings}
 use Rattle.series_table.specs.HttpTalks.{talking}
 use Rattle.series_table.specs.Talking.{Followed}
-use Rattle.series_table.specs.Records.{Kept, talks_of, PostsWhatItsTalksTell}
+use Rattle.series_table.specs.Records.{Kept}
 use Rattle.target_table.specs.Runs.{Run}
 use Rattle.target_table.specs.Tables.{IsTrackAt, IsRunOver}
+use Rattle.run_report.specs.declared.target_end.TargetEnd.{TargetEnd}
+use Rattle.run_report.specs.Ends.{track_end}
 
 -- the place of a wire of the script's target of this number: that of its scrapes, or that of its posts
 abbrev pub script_place : ℕ → Bool → Place
@@ -35,25 +39,24 @@ pub record IsUnvisited (place : ℕ) (f : Followed) (k : Kept) : Type 0 where
   pub unvisited : k.counts.visits ≡ 0
   pub goes_on : k.halted ≡ false
 
--- both wires of a track tell their talks
-pub record TellsTalks (k : Kept) : Type 0 where
-  pub scrapes : IsTrue (is_some (talks_of k.scrape))
-  pub posts : IsTrue (is_some (talks_of k.post))
+-- the wires of a track are these, which are in memory, and whose talks follow their plans
+pub record AreWiresOf (k : Kept) (w : Shelved) : Type 0 where
+  pub scrape_is : k.scrape ≡ seen_of w.scrape
+  pub post_is : k.post ≡ seen_of w.post
+  pub scrape_plan : IsOfPlan w.scrape
+  pub post_plan : IsOfPlan w.post
 
--- how many visits a track counted
-abbrev pub visits_counted : Kept → ℕ
-visits_counted k = k.counts.visits
-
--- so many visits of each target of a script were counted, by the tracks of its run, which is over: what each of them posted is what its own talks tell
-pub record HasVisits (s : Script) (visits : List ℕ) : Type 0 where
+-- the run of a script is over: its targets ended so, and these are their wires, both in order
+pub record IsScriptRun (s : Script) (ends : List TargetEnd) (wires : List Shelved) : Type 0 where
   pub tracks : List Kept
   pub over : IsRunOver talking (script_run s) tracks
-  pub counted : visits ≡ map visits_counted tracks
-  pub tell : AllByRecursion TellsTalks tracks
-  pub sentences : AllByRecursion (PostsWhatItsTalksTell talking) tracks
+  pub ends_are : ends ≡ map track_end tracks
+  pub wires_are : AllZip AreWiresOf tracks wires
 
--- each target of a script was visited once for each round
-pub record IsVisitedThrough (s : Script) : Type 0 where
-  pub visits : List ℕ
-  pub has : HasVisits s visits
-  pub all : EachIndex visits (λ k. slice_index visits k ≡ s.header.rounds)
+-- how many visits of a target were counted
+abbrev pub visits_counted : TargetEnd → ℕ
+visits_counted e = e.counts.visits
+
+-- each target had a visit for each round
+abbrev pub AreVisitedThrough : ℕ → List TargetEnd → Type 0
+AreVisitedThrough rounds ends = AllByRecursion (λ e. rounds ≤ visits_counted e) ends

@@ -25,6 +25,10 @@ pub(crate) enum Printed {
         scrapers: u32,
         page: bool,
     },
+    /// The report of the visits of a script, which are made when it is printed.
+    Report {
+        script: Script,
+    },
 }
 
 /// What the program prints, and the status that it ends with.

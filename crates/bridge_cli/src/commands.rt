@@ -1,7 +1,7 @@
 //! The commands: what each prints, or why it stops.
 ghost use Rattle.std.specs.Prelude.{◌≡◌, true, false, IfOk, IfErr, IsOk};
 ghost use Rattle.bridge_cli.specs.Answers.{Answers};
-ghost use Rattle.bridge_cli.specs.CommandWords.{reads_input, most_input, takes_memory, scrapers_asked};
+ghost use Rattle.bridge_cli.specs.CommandWords.{IsInLimits, reads_input, most_input, takes_memory, scrapers_asked};
 ghost use Rattle.bridge_cli.specs.PageInputs.{Leaves};
 ghost use Rattle.bridge_cli.specs.Printed.{IsPrintedOf};
 ghost use Rattle.bridge_cli.specs.StopAnswers.{StopsAs};
@@ -17,7 +17,8 @@ use crate::stop::Stop;
 use crate::words::Command;
 use bridge_ports::Source;
 pub use help::{HELP, VERSION};
-use std::alloc::Global;
+use load_pages::generated;
+use std::alloc::{AllocError, Global};
 use std::borrow::CowSlice;
 
 /// How many scrapers `replay` has: 1 where the words do not say it.
@@ -33,6 +34,7 @@ pub(crate) fn run<I: Source>(
     command: Command,
     input: &mut I,
 ) -> Result<Printed, Stop>
+    requires { IsInLimits command }
     ensures text { IfOk result (IsPrintedOf command (I.left input.old)) }
     ensures stop { IfErr result (StopsAs (Answers command) (I.left input.old)) }
     ensures input { reads_input command ≡ true → Leaves (most_input command) (I.left input.old) (I.left input.new)
@@ -62,6 +64,17 @@ pub(crate) fn run<I: Source>(
                 scrapers,
                 page,
             })
+        }
+        Command::Load {
+            number,
+            targets,
+            rounds,
+        } => {
+            let script = match generated(alloc, number, targets, rounds) {
+                Ok(script) => script,
+                Err(AllocError) => return Err(Stop::Memory),
+            };
+            Ok(Printed::Report { script })
         }
     }
 }

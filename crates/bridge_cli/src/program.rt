@@ -1,24 +1,27 @@
 //! The program over any input and output.
-ghost use Rattle.std.specs.Prelude.{◌≡◌, ◌≢◌, ◌⊎◌, map, string_bytes, IfOk, IfErr};
+ghost use Rattle.std.specs.Prelude.{◌≡◌, ◌≢◌, ◌⊎◌, true, map, string_bytes, IfOk, IfErr};
+ghost use Rattle.bridge_cli.specs.declared.words.Command.{Command as AnyCommand};
 ghost use Rattle.bridge_cli.specs.declared.status.Status.TheVariants.{Done, NoForm, ReadFailed, WriteFailed, WantOfMemory, TooLong};
 ghost use Rattle.bridge_cli.specs.Answers.{IsAnswer};
-ghost use Rattle.bridge_cli.specs.CommandWords.{FitNoForm, AskForNo, WhereRead, reads_input, prints_pieces, takes_memory};
+ghost use Rattle.bridge_cli.specs.CommandWords.{IsCommand, FitNoForm, AskForNo, WhereRead, reads_input, prints_pieces, takes_memory};
 ghost use Rattle.bridge_cli.specs.Inputs.{TookAtMost, IsReadThrough};
 ghost use Rattle.bridge_cli.specs.PageInputs.{Leaves};
-ghost use Rattle.bridge_cli.specs.Printed.{IsPrintedFor, IsPrintable, IsNothing, Ended};
-ghost use Rattle.bridge_cli.specs.ProgramOutputs.{Answered, AnsweredInPart, AnsweredInPieces, IsOnlyAnswer, TellsFault};
+ghost use Rattle.bridge_cli.specs.Printed.{IsPrintedFor, IsPrintable, IsNothing, IsWhole, IsShelved, Ended};
+ghost use Rattle.bridge_cli.specs.ProgramOutputs.{Answered, AnsweredInPart, AnsweredInPieces, IsOnlyAnswer, ShelvesVisits, TellsFault};
+ghost use Rattle.bridge_cli.specs.Shelves.{KeepsAllButShelf};
 ghost use Rattle.bridge_cli.specs.Statuses.{code_of, IsStatus, IsTold, IsUntold};
 ghost use Rattle.bridge_cli.specs.StopAnswers.{StopsAs};
 ghost use Rattle.bridge_cli.specs.Stops.{ReadCause, IsUnread, TakesMemory};
 
 use crate::answer::{Answer, Printed, stop_answer};
 use crate::commands::run;
+use crate::loading::print_report;
 use crate::output::write_all;
 use crate::printing::print_script;
 use crate::status::Status;
 use crate::stop::Stop;
 use crate::words::command;
-use bridge_ports::{Failed, Sink, Source};
+use bridge_ports::{Failed, Sink, Source, World};
 use std::alloc::Global;
 use std::sync::Wait;
 use std::thread::Threads;
@@ -64,10 +67,11 @@ fn answer<I: Source>(alloc: Global, words: &[String], input: &mut I) -> Answer
 }
 
 /// Prints an answer and gives its status, the one of a failed write, or that of want of memory for a
-/// piece of it.
-fn print<R: Threads + Wait + Sync, O: Sink>(
+/// piece of it or for the shelf.
+fn print<R: Threads + Wait + Sync, W: World, O: Sink>(
     rt: &R,
     alloc: Global,
+    world: &mut W,
     output: &mut O,
     answer: &Answer,
 ) -> u8
@@ -76,6 +80,10 @@ fn print<R: Threads + Wait + Sync, O: Sink>(
     ensures ended { Ended answer.now.status answer.now.printed (O.held output.old) (O.held output.new) result }
     ensures empty { IsNothing answer.now.printed → output.new ≡ output.old }
     ensures faults { TellsFault (code_of WriteFailed) result (O.write_faults output.old) (O.write_faults output.new) }
+    ensures shelf { result ≡ code_of Done → IsShelved answer.now.printed (W.world world.old).shelf (W.world world.new).shelf }
+    ensures kept { KeepsAllButShelf (W.world world.old) (W.world world.new) (W.files world.old) (W.files world.new)
+        (W.home world.old) (W.home world.new) (W.given world.old) (W.given world.new) (W.coming world.old) (W.coming world.new) }
+    ensures unused { IsWhole answer.now.printed → world.new ≡ world.old }
 {
     match &answer.printed {
         Printed::Whole(text) => match write_all(output, text.as_slice()) {
@@ -86,7 +94,11 @@ fn print<R: Threads + Wait + Sync, O: Sink>(
             script,
             scrapers,
             page,
-        } => match print_script(rt, alloc, script, *scrapers, *page, output) {
+        } => match print_script(rt, alloc, script, *scrapers, *page, world, output) {
+            Ok(()) => answer.status.code(),
+            Err(cut) => cut.status().code(),
+        },
+        Printed::Report { script } => match print_report(rt, alloc, script, world, output) {
             Ok(()) => answer.status.code(),
             Err(cut) => cut.status().code(),
         },
@@ -101,8 +113,9 @@ fn print<R: Threads + Wait + Sync, O: Sink>(
 /// - 2, exactly where the words fit no form: the output has the line `words`, and nothing was read;
 /// - 3, exactly where the input's count of faults rose: nothing was written, and no more was taken than the limit;
 /// - 4, exactly where the output's count of faults rose: a front of the text was written, and not all of it;
-/// - 6, want of memory: nothing was written, or of `replay` the bodies that were made before, without its page, and
-///   no more was taken than the limit. `--help`, `--version` and words that fit no form take none;
+/// - 6, want of memory: nothing was written, or of `replay` the bodies that were made before, without its page or with
+///   it, or of `load` the report of the visits that were made, and no more was taken than the limit. `--help`,
+///   `--version` and words that fit no form take none;
 /// - 7, exactly where the script on the input has a fault: the output has its line, with the number of the fault's;
 /// - 8, exactly where more than the limit was taken of the input: the output has the line `input too long`.
 ///
@@ -110,13 +123,15 @@ fn print<R: Threads + Wait + Sync, O: Sink>(
 ///
 /// A source that does not tell its bytes has some bytes, and the answer is to those.
 ///
-/// `replay` starts threads and waits for them, so what is said here holds where the call returns. Its answer is the
-/// same for every number of scrapers. With the word `page` the federation page of what the targets show behind their
-/// last scrapes follows the bodies.
-pub fn bridge<R: Threads + Wait + Sync, I: Source, O: Sink>(
+/// `replay` and `load` start threads and wait for them, so what is said here holds where the call returns. The answer
+/// of `replay` is the same for every number of scrapers. With the word `page` the federation page of what the targets
+/// show behind their last scrapes follows the bodies. At status 0 the wires of the targets, which are in memory, are on
+/// the shelf of the world, targets in order: their talks tell what was scraped, and that the bodies were posted.
+pub fn bridge<R: Threads + Wait + Sync, W: World, I: Source, O: Sink>(
     rt: &R,
     alloc: Global,
     words: &[String],
+    world: &mut W,
     input: &mut I,
     output: &mut O,
 ) -> u8
@@ -153,7 +168,15 @@ pub fn bridge<R: Threads + Wait + Sync, I: Source, O: Sink>(
     // The counts of faults: each rose exactly where the status says so.
     ensures read_faults { TellsFault (code_of ReadFailed) result (I.read_faults input.old) (I.read_faults input.new) }
     ensures write_faults { TellsFault (code_of WriteFailed) result (O.write_faults output.old) (O.write_faults output.new) }
+
+    // The commands that visit targets put the wires of these on the shelf, once all was written; nothing else is done to
+    // the world.
+    ensures shelf { result ≡ code_of Done → (command : AnyCommand) → IsCommand (map string_bytes words.now) command → prints_pieces command ≡ true
+        → ShelvesVisits command (I.left input.old) (O.held output.old) (O.held output.new) (W.world world.old).shelf (W.world world.new).shelf }
+    ensures world_kept { AskForNo prints_pieces (map string_bytes words.now) → world.new ≡ world.old }
+    ensures all_but_shelf { KeepsAllButShelf (W.world world.old) (W.world world.new) (W.files world.old) (W.files world.new)
+        (W.home world.old) (W.home world.new) (W.given world.old) (W.given world.new) (W.coming world.old) (W.coming world.new) }
 {
     let answer = answer(alloc, words, input);
-    print(rt, alloc, output, &answer)
+    print(rt, alloc, world, output, &answer)
 }

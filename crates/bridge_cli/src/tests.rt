@@ -1,10 +1,13 @@
 ghost use Rattle.bridge_ports.specs.Edges.{untold};
 
+mod loads;
 mod replays;
+mod shelves;
 
 use crate::bridge;
 use bridge_ports::{Failed, MemorySink, MemorySource, Source};
 use label_sets::{Bytes, List, Memory};
+use memory_world::MemoryWorld;
 use std::alloc::Global;
 use std::sync::Wait;
 use std::thread::Threads;
@@ -41,6 +44,18 @@ const CONVERT_OPEN: [&str; 5] = ["convert", "openmetrics", "j", "h:1", "1000"];
 struct Ended {
     status: u8,
     output: MemorySink,
+    world: MemoryWorld,
+}
+
+/// A world to which nothing was given.
+fn bare_world(alloc: Global) -> MemoryWorld {
+    MemoryWorld::new(
+        alloc,
+        List::new(alloc),
+        Vec::new(alloc),
+        Vec::new(alloc),
+        List::new(alloc),
+    )
 }
 
 fn strings(alloc: Global, words: &[&str]) -> Result<Vec<String>, Memory> {
@@ -73,8 +88,20 @@ fn run<R: Threads + Wait + Sync>(
     let mut input = MemorySource::new(bytes, failing(alloc, bad_read)?);
     let mut output = MemorySink::new(alloc, room, List::new(alloc))?;
     let words = strings(alloc, words)?;
-    let status = bridge(rt, alloc, words.as_slice(), &mut input, &mut output);
-    Ok(Ended { status, output })
+    let mut world = bare_world(alloc);
+    let status = bridge(
+        rt,
+        alloc,
+        words.as_slice(),
+        &mut world,
+        &mut input,
+        &mut output,
+    );
+    Ok(Ended {
+        status,
+        output,
+        world,
+    })
 }
 
 fn joined(alloc: Global, texts: &[&str]) -> Result<String, Memory> {
@@ -413,7 +440,15 @@ fn page_in_single_bytes(rt: HostRuntime) {
         at: 0,
     };
     let mut output = MemorySink::new(alloc, ROOM, List::new(alloc)).expect(&rt, "memory");
-    let status = bridge(&rt, alloc, words.as_slice(), &mut input, &mut output);
+    let mut world = bare_world(alloc);
+    let status = bridge(
+        &rt,
+        alloc,
+        words.as_slice(),
+        &mut world,
+        &mut input,
+        &mut output,
+    );
     let text = joined(alloc, &[RESOURCE, ESCAPED, ONE_SAMPLE, "]}]}\n"]).expect(&rt, "memory");
     assert_eq!(rt; status, 0);
     assert!(rt; output.held() == text.as_bytes());
@@ -443,7 +478,15 @@ fn endless_input_is_left(rt: HostRuntime) {
     let words = strings(alloc, &CHECK).expect(&rt, "memory");
     let mut input = Endless { reads: 0 };
     let mut output = MemorySink::new(alloc, ROOM, List::new(alloc)).expect(&rt, "memory");
-    let status = bridge(&rt, alloc, words.as_slice(), &mut input, &mut output);
+    let mut world = bare_world(alloc);
+    let status = bridge(
+        &rt,
+        alloc,
+        words.as_slice(),
+        &mut world,
+        &mut input,
+        &mut output,
+    );
     assert_eq!(rt; status, 8);
     assert_eq!(rt; input.reads, 1025);
     assert!(rt; output.held() == b"input too long\n".as_slice());

@@ -3,16 +3,24 @@ ghost use Rattle.std.specs.Prelude.{◌≡◌, IfOk};
 ghost use Rattle.replay_script.specs.RightScripts.{IsRightScript};
 ghost use Rattle.series_table.specs.HttpTalks.{talking};
 ghost use Rattle.target_table.specs.Tables.{IsRunOver};
-ghost use Rattle.bridge_cli.specs.Rounds.{script_run, HasVisits};
+ghost use Rattle.bridge_cli.specs.Rounds.{script_run, IsScriptRun};
 
-use crate::visiting::{counted_visits, give_up, new_tracks};
-use bridge_ports::MemoryWire;
+use crate::visiting::{give_up, new_tracks, wires_of};
+use bridge_ports::{MemoryWire, Shelved};
 use label_sets::Memory;
 use replay_script::Script;
+use run_report::{TargetEnd, ends_of};
 use scraper_pool::{TableFault, Track, run_targets};
 use std::alloc::{AllocError, Global};
 use std::sync::Wait;
 use std::thread::Threads;
+
+/// What is left of a run that is over: how its targets ended, and their wires, both in order.
+#[derive(Drop)]
+pub(crate) struct ScriptRun {
+    pub(crate) ends: Vec<TargetEnd>,
+    pub(crate) wires: Vec<Shelved>,
+}
 
 /// The tracks of a script's targets once its run is over, by so many scrapers, but at most four.
 fn tracks_over<R: Threads + Wait + Sync>(
@@ -34,18 +42,25 @@ fn tracks_over<R: Threads + Wait + Sync>(
     }
 }
 
-/// Visits each target of a script once for each round, by so many scrapers, and tells how many visits of each were
-/// counted: fewer where memory was wanted.
-pub(crate) fn visits_made<R: Threads + Wait + Sync>(
+/// Visits each target of a script once for each round, by so many scrapers. Visits are missing where memory was wanted.
+pub(crate) fn run_script<R: Threads + Wait + Sync>(
     rt: &R,
     alloc: Global,
     script: &Script,
     scrapers: u32,
-) -> Result<Vec<u64>, Memory>
+) -> Result<ScriptRun, Memory>
     requires { IsRightScript script.now }
-    ensures { IfOk result (λ visits. HasVisits script.now visits.items) }
+    ensures { IfOk result (λ run. IsScriptRun script.now run.ends.items run.wires.items) }
 {
     let tracks = tracks_over(rt, alloc, script, scrapers)?;
-    let visits = counted_visits(alloc, tracks)?;
-    Ok(visits)
+    match ends_of(alloc, tracks.as_slice()) {
+        Ok(ends) => {
+            let wires = wires_of(alloc, tracks)?;
+            Ok(ScriptRun { ends, wires })
+        }
+        Err(AllocError) => {
+            give_up(tracks);
+            Err(AllocError)
+        }
+    }
 }

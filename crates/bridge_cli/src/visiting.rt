@@ -1,16 +1,15 @@
 //! The tracks of a script's targets, over wires that answer what the script says.
-ghost use Rattle.std.specs.Prelude.{◌≡◌, ◌+◌, ◌<◌, ◌≤◌, false, true, length, map, IfOk};
-ghost use Rattle.std.specs.List.{AllByRecursion};
+ghost use Rattle.std.specs.Prelude.{◌≡◌, ◌+◌, ◌<◌, ◌≤◌, false, true, length, IfOk};
+ghost use Rattle.std.specs.List.{AllZip};
 ghost use Rattle.bridge_ports.specs.Plans.{new_wire};
 ghost use Rattle.replay_script.specs.RightScripts.{IsRightHeader, IsRightScript};
 ghost use Rattle.replay_script.specs.ScriptRules.{most_targets};
 ghost use Rattle.replay_script.specs.WirePlans.{scrape_plan, post_plan};
 ghost use Rattle.series_table.specs.HttpTalks.{talking};
-ghost use Rattle.series_table.specs.Records.{IsTrack};
 ghost use Rattle.target_table.specs.Tables.{AreTracks, AreUnvisited};
-ghost use Rattle.bridge_cli.specs.Rounds.{script_place, script_followed, script_targets, visits_counted, IsUnvisited, TellsTalks};
+ghost use Rattle.bridge_cli.specs.Rounds.{script_place, script_followed, script_targets, AreWiresOf, IsUnvisited};
 
-use bridge_ports::{MemoryWire, Place};
+use bridge_ports::{MemoryWire, Place, Shelved};
 use label_sets::{List, Memory};
 use replay_script::{Header, Script, ScriptTarget, collector, default_reply, settings};
 use series_table::{Track, TrackFault};
@@ -115,17 +114,26 @@ pub(crate) fn new_tracks(alloc: Global, script: &Script) -> Result<Vec<Track<Mem
     Ok(tracks)
 }
 
-/// How many visits each track counted, in order. The tracks are given up.
-pub(crate) fn counted_visits(
+/// The wires of a track. That these say how many talks they made is for the proof alone: their talks follow their
+/// plans.
+fn track_wires(track: Track<MemoryWire>) -> Shelved
+    ensures wires { AreWiresOf track result }
+{
+    let (scrape, post) = track.into_wires();
+    let _scrapes = scrape.finished();
+    let _posts = post.finished();
+    Shelved { scrape, post }
+}
+
+/// The wires of tracks, in order.
+pub(crate) fn wires_of(
     alloc: Global,
     tracks: Vec<Track<MemoryWire>>,
-) -> Result<Vec<u64>, Memory>
-    ensures counted { IfOk result (λ visits. visits.items ≡ map visits_counted tracks.items) }
-    ensures tell { IfOk result (λ _. AllByRecursion TellsTalks tracks.items) }
-    ensures keep { IfOk result (λ _. AllByRecursion (IsTrack talking) tracks.items) }
+) -> Result<Vec<Shelved>, Memory>
+    ensures { IfOk result (λ wires. AllZip AreWiresOf tracks.items wires.items) }
 {
-    let mut visits = match Vec::with_capacity(alloc, tracks.len()) {
-        Ok(visits) => visits,
+    let mut wires = match Vec::with_capacity(alloc, tracks.len()) {
+        Ok(wires) => wires,
         Err(AllocError) => {
             give_up(tracks);
             return Err(AllocError);
@@ -133,11 +141,9 @@ pub(crate) fn counted_visits(
     };
     let mut left = tracks;
     for _ in 0..left.len() {
-        let track = left.take_last();
-        visits.push_reserved(track.counts().visits);
-        let (_scrape, _post) = track.into_wires();
+        wires.push_reserved(track_wires(left.take_last()));
     }
     left.destroy_empty();
-    visits.reverse();
-    Ok(visits)
+    wires.reverse();
+    Ok(wires)
 }

@@ -34,4 +34,13 @@ pub enum Command {
         /// Whether the federation page is printed behind the bodies.
         page: bool,
     },
+    /// The report of the visits of targets that a number stands for.
+    Load {
+        /// What stands on the pages of the targets, at most 1,000,000.
+        number: u32,
+        /// How many targets there are, from 1 to 64.
+        targets: u32,
+        /// How often each is visited, from 1 to 1,000; over all targets at most 20,000 times.
+        rounds: u32,
+    },
 }

@@ -1,10 +1,12 @@
 //! The program over a world, an input and an output.
-ghost use Rattle.std.specs.Prelude.{◌≡◌, ◌≢◌, ◌⊎◌, ℕ, List as Seq, map, string_bytes};
+ghost use Rattle.std.specs.Prelude.{◌≡◌, ◌≢◌, ◌⊎◌, true, ℕ, List as Seq, map, string_bytes};
 ghost use Rattle.std.specs.Cow.{cow_slice_items};
-ghost use Rattle.bridge_cli.specs.declared.status.Status.TheVariants.{NoForm, ReadFailed, WriteFailed, WantOfMemory};
-ghost use Rattle.bridge_cli.specs.CommandWords.{FitNoForm, AskForNo, WhereRead, reads_input, prints_pieces, takes_memory};
+ghost use Rattle.bridge_cli.specs.declared.words.Command.{Command as AnyCommand};
+ghost use Rattle.bridge_cli.specs.declared.status.Status.TheVariants.{Done, NoForm, ReadFailed, WriteFailed, WantOfMemory};
+ghost use Rattle.bridge_cli.specs.CommandWords.{IsCommand, FitNoForm, AskForNo, WhereRead, reads_input, prints_pieces, takes_memory};
 ghost use Rattle.bridge_cli.specs.Inputs.{TookAtMost, IsReadThrough};
-ghost use Rattle.bridge_cli.specs.ProgramOutputs.{Answered, AnsweredInPart, AnsweredInPieces, IsOnlyAnswer, TellsFault};
+ghost use Rattle.bridge_cli.specs.ProgramOutputs.{Answered, AnsweredInPart, AnsweredInPieces, IsOnlyAnswer, ShelvesVisits, TellsFault};
+ghost use Rattle.bridge_cli.specs.Shelves.{KeepsAllButShelf};
 ghost use Rattle.bridge_cli.specs.Statuses.{code_of, IsStatus, IsTold, IsUntold};
 ghost use Rattle.world_run.specs.Outside.{outside_of};
 ghost use Rattle.run_command.specs.RunReports.{MayKeepComing};
@@ -35,7 +37,8 @@ fn print_end<O: Sink>(end: &RunEnd, output: &mut O) -> u8
 /// Runs the program on the words of its command line, without its own name, and answers the status that it ends with.
 /// `run CONFIG` reads the configuration in the file of the path CONFIG, scrapes its targets and posts what they show over
 /// the wires of the world, serves the page of what they show at the door that the configuration has, and prints a report.
-/// All other words are those of [`bridge_cli::bridge`], which leaves the world as it is. Of `run` the statuses are:
+/// All other words are those of [`bridge_cli::bridge`], which uses of the world at most its shelf. Of `run` the statuses
+/// are:
 ///
 /// - 0, done: the output has the report;
 /// - 3, exactly where the world's count of faults of files rose: nothing was written;
@@ -100,13 +103,21 @@ pub fn bridge<
     ensures files_kept { W.files world.new ≡ W.files world.old }
     ensures coming_kept { (path : Seq ℕ) → AskToRun (map string_bytes words.now) path
         → MayKeepComing (W.files world.old path) (W.coming world.old) (W.coming world.new) }
-    ensures world_kept { AskForNoRun (map string_bytes words.now) → world.new ≡ world.old }
+
+    // The commands that visit targets over wires in memory put these on the shelf, once all was written; nothing else is
+    // done to the world.
+    ensures shelf { AskForNoRun (map string_bytes words.now) → result ≡ code_of Done → (command : AnyCommand) → IsCommand (map string_bytes words.now) command
+        → prints_pieces command ≡ true → ShelvesVisits command (I.left input.old) (O.held output.old) (O.held output.new) (W.world world.old).shelf (W.world world.new).shelf }
+    ensures world_kept { AskForNoRun (map string_bytes words.now) → AskForNo prints_pieces (map string_bytes words.now) → world.new ≡ world.old }
+    ensures all_but_shelf { AskForNoRun (map string_bytes words.now)
+        → KeepsAllButShelf (W.world world.old) (W.world world.new) (W.files world.old) (W.files world.new)
+        (W.home world.old) (W.home world.new) (W.given world.old) (W.given world.new) (W.coming world.old) (W.coming world.new) }
 {
     match run_path(words) {
         Some(path) => {
             let end = run_end(rt, alloc, path, world);
             print_end(&end, output)
         }
-        None => bridge_streams(rt, alloc, words, input, output),
+        None => bridge_streams(rt, alloc, words, world, input, output),
     }
 }

@@ -20,6 +20,10 @@ bridge run CONFIG
     scrapes the targets of the configuration in the file CONFIG, posts each scrape to its
     collector, and prints a report when all rounds are made
     bridge run examples/bridge.toml
+bridge load NUMBER TARGETS ROUNDS
+    visits TARGETS targets, 1 to 64, ROUNDS times each, 1 to 1000, but at most 20000 times in all, over pages that
+    the NUMBER, 0 to 1000000, stands for, and prints a report
+    bridge load 7 64 300
 bridge --help
     prints these lines
 bridge --version

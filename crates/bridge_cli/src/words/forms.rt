@@ -1,12 +1,15 @@
 //! The forms of the command line.
-ghost use Rattle.std.specs.Prelude.{◌≡◌, ◌≢◌, List, ℕ, [], ◌∷◌, map, codes, string_bytes, IfOk, IfSome, IfNone, OnErr};
+ghost use Rattle.std.specs.Prelude.{◌≡◌, ◌≢◌, ◌≤◌, List, ℕ, [], ◌∷◌, map, codes, string_bytes, IfOk, IfSome, IfNone, OnErr};
 ghost use Rattle.page_model.specs.declared.format.Format.{Format as AnyFormat};
 ghost use Rattle.bridge_cli.specs.CommandWords.{IsCommand, FitNoForm, AskFor, SaysScrapers, takes_memory};
+ghost use Rattle.std.specs.Fmt.{decimal};
+ghost use Rattle.load_pages.specs.GeneratedScripts.{most_load_number};
 ghost use Rattle.replay_script.specs.ScriptParts.{format_word};
 
 use super::Command;
 use super::target::target;
 use crate::limits::{MOST_HOST_BYTES, MOST_JOB_BYTES, MOST_NANOS, MOST_SCRAPERS};
+use load_pages::{MOST_NUMBER, is_load};
 use page_model::Format;
 use plain_words::{host_and_port, number};
 use std::alloc::{AllocError, Global};
@@ -127,6 +130,53 @@ fn three_words(verb: &str, scrapers: &str, page: &str) -> Option<Command>
     replay_page_by(scrapers)
 }
 
+/// The number that a word of a load says. The greatest first number is above the most targets and rounds, so one limit
+/// serves all three words, and `is_load` asks for the limit of each.
+fn load_number(word: &str) -> Option<u64>
+    ensures found { IfSome result (λ n. (word.now ≡ decimal n) × (n ≤ most_load_number)) }
+    ensures none { IfNone result ((n : ℕ) → n ≤ most_load_number → word.now ≢ decimal n) }
+{
+    number(word.as_bytes(), MOST_NUMBER)
+}
+
+/// The load that the words behind `load` ask for.
+fn load_by(number: &str, targets: &str, rounds: &str) -> Option<Command>
+    ensures found { IfSome result (IsCommand (codes "load" ∷ number.now ∷ targets.now ∷ rounds.now ∷ [])) }
+    ensures none { IfNone result (FitNoForm (codes "load" ∷ number.now ∷ targets.now ∷ rounds.now ∷ [])) }
+{
+    let number = match load_number(number) {
+        Some(number) => number,
+        None => return None,
+    };
+    let targets = match load_number(targets) {
+        Some(targets) => targets,
+        None => return None,
+    };
+    let rounds = match load_number(rounds) {
+        Some(rounds) => rounds,
+        None => return None,
+    };
+    if !is_load(number, targets, rounds) {
+        return None;
+    }
+    Some(Command::Load {
+        number: number as u32,
+        targets: targets as u32,
+        rounds: rounds as u32,
+    })
+}
+
+/// The command that four words ask for.
+fn four_words(verb: &str, number: &str, targets: &str, rounds: &str) -> Option<Command>
+    ensures found { IfSome result (IsCommand (verb.now ∷ number.now ∷ targets.now ∷ rounds.now ∷ [])) }
+    ensures none { IfNone result (FitNoForm (verb.now ∷ number.now ∷ targets.now ∷ rounds.now ∷ [])) }
+{
+    if verb != "load" {
+        return None;
+    }
+    load_by(number, targets, rounds)
+}
+
 /// The conversion that a format, a job, an instance and a time ask for.
 fn conversion(
     alloc: Global,
@@ -174,6 +224,12 @@ pub(crate) fn command(alloc: Global, words: &[String]) -> Result<Option<Command>
         [word] => Ok(lone_word(word.as_str())),
         [verb, word] => Ok(two_words(verb.as_str(), word.as_str())),
         [verb, scrapers, page] => Ok(three_words(verb.as_str(), scrapers.as_str(), page.as_str())),
+        [verb, number, targets, rounds] => Ok(four_words(
+            verb.as_str(),
+            number.as_str(),
+            targets.as_str(),
+            rounds.as_str(),
+        )),
         [verb, format, job, instance, time] => {
             if verb.as_str() != "convert" {
                 return Ok(None);

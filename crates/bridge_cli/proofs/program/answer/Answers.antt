@@ -1,5 +1,5 @@
 use Rattle.bridge_cli.proofs.AnswerLaws.{stop_through, stop_in_part, stop_fault}
-use Rattle.bridge_cli.proofs.PrintLaws.{stop_printed, stop_nothing, stop_whole}
+use Rattle.bridge_cli.proofs.PrintLaws.{stop_printed, stop_nothing, stop_whole, stop_unwritten, stop_unread}
 use Rattle.bridge_cli.proofs.program.answer.Goals as goal
 
 pub returns-in-Err-clause-text : goal.returns-in-Err-clause-text
@@ -18,3 +18,9 @@ returns-in-Err-clause-read_in_part g c = λ command is reads other.
 
 pub returns-in-Err-clause-read_faults : goal.returns-in-Err-clause-read_faults
 returns-in-Err-clause-read_faults g c = stop_fault _ _ c.in-Err.stop _ _ (stop_whole c.in-Err.stop _ _ c.stop_answer.ensures).1 c.in-Err.ensures.cause
+
+pub returns-in-Err-clause-statuses : goal.returns-in-Err-clause-statuses
+returns-in-Err-clause-statuses g c = stop_unwritten c.in-Err.stop _ _ c.stop_answer.ensures
+
+pub returns-in-Err-clause-unread : goal.returns-in-Err-clause-unread
+returns-in-Err-clause-unread g c = λ none. let unread = c.in-Err.ensures.unread none in (unread.0, stop_unread c.in-Err.stop _ _ c.stop_answer.ensures unread.1)

@@ -1,7 +1,7 @@
 use Rattle.std.proofs.Common.{inl, inr}
 use Rattle.bridge_cli.proofs.CommandLaws.{is_no_form}
 use Rattle.bridge_cli.proofs.AnswerLaws.{only_answer, form_told}
-use Rattle.bridge_cli.proofs.PrintLaws.{ended_status, ended_answered, ended_part, ended_read, ended_memory, ended_pieces, ended_ready, ended_unread, ended_through, ended_in_part, ended_fault, ended_no_form}
+use Rattle.bridge_cli.proofs.PrintLaws.{ended_status, ended_answered, ended_part, ended_read, ended_memory, ended_pieces, ended_ready, ended_unread, ended_through, ended_in_part, ended_fault, ended_no_form, ended_shelf}
 use Rattle.bridge_cli.proofs.program.bridge.Goals as goal
 
 pub returns-clause-statuses : goal.returns-clause-statuses
@@ -51,3 +51,9 @@ returns-clause-read_in_part g c = λ command is reads untold.
 pub returns-clause-read_faults : goal.returns-clause-read_faults
 returns-clause-read_faults g c =
     ended_fault _ _ _ _ _ _ _ c.answer-answer.ensures.text.printable c.answer-answer.ensures.statuses c.answer-answer.ensures.untold c.answer-answer.ensures.read_faults c.print.ensures.ended
+
+pub returns-clause-shelf : goal.returns-clause-shelf
+returns-clause-shelf g c = ended_shelf _ _ _ _ _ _ _ _ _ c.answer-answer.ensures.text c.print.ensures.ended c.print.ensures.shelf
+
+pub returns-clause-world_kept : goal.returns-clause-world_kept
+returns-clause-world_kept g c = λ none. c.print.ensures.unused (c.answer-answer.ensures.text.whole none)

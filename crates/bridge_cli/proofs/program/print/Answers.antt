@@ -1,6 +1,6 @@
 use Rattle.std.proofs.Common.{◌∙◌, ap}
 use Rattle.bridge_cli.specs.Statuses.{code_of}
-use Rattle.bridge_cli.proofs.PrintLaws.{print_done, print_front, print_cut, cut_fault}
+use Rattle.bridge_cli.proofs.PrintLaws.{print_done, print_front, print_cut, print_report_cut, cut_fault}
 use Rattle.bridge_cli.proofs.program.print.Goals as goal
 
 pub returns-in-Ok-clause-ended : goal.returns-in-Ok-clause-ended
@@ -19,3 +19,14 @@ returns-in-Err-print_script-clause-ended g c =
 
 pub returns-in-Err-print_script-clause-faults : goal.returns-in-Err-print_script-clause-faults
 returns-in-Err-print_script-clause-faults g c = cut_fault _ _ _ c.in-Err-print_script.cut c.in-Err-print_script.ensures.cause (c.code-in-Err-print_script.ensures ∙ ap code_of c.status.ensures)
+
+pub returns-in-Ok-print_report-clause-ended : goal.returns-in-Ok-print_report-clause-ended
+returns-in-Ok-print_report-clause-ended g c =
+    let next = c.in-Ok-print_report.ensures.printed in print_done _ _ _ _ _ _ next.0 c.in-Report.is next.1 next.2 c.code-in-Ok-print_report.ensures
+
+pub returns-in-Err-print_report-clause-ended : goal.returns-in-Err-print_report-clause-ended
+returns-in-Err-print_report-clause-ended g c =
+    print_report_cut _ _ c.in-Report.script _ _ _ c.in-Err-print_report.cut c.in-Report.is c.in-Err-print_report.ensures.printed (c.code-in-Err-print_report.ensures ∙ ap code_of c.status-in-Err-print_report.ensures)
+
+pub returns-in-Err-print_report-clause-faults : goal.returns-in-Err-print_report-clause-faults
+returns-in-Err-print_report-clause-faults g c = cut_fault _ _ _ c.in-Err-print_report.cut c.in-Err-print_report.ensures.cause (c.code-in-Err-print_report.ensures ∙ ap code_of c.status-in-Err-print_report.ensures)

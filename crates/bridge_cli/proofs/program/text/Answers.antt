@@ -4,6 +4,9 @@ use Rattle.bridge_cli.proofs.AnswerLaws.{words_stop, no_form_answer}
 use Rattle.bridge_cli.proofs.PrintLaws.{words_printed, where_read}
 use Rattle.bridge_cli.proofs.program.text.Goals as goal
 
+pub run-requires : goal.run-requires
+run-requires g c = (rw c.in-Some.is at c.in_ok-command.ensures.found).limits
+
 pub returns-in-Some-clause-text : goal.returns-in-Some-clause-text
 returns-in-Some-clause-text g c = IfOk-weaker c.run.result _ _ (λ p of. words_printed _ c.in-Some.command _ p (rw c.in-Some.is at c.in_ok-command.ensures.found) of) c.run.ensures.text
 

@@ -1,5 +1,5 @@
 use Rattle.std.proofs.Common.{◌≡◌, length, ap, ◌∙◌, arith}
-use Rattle.replay_script.specs.RightScripts.{IsOver}
+use Rattle.replay_script.specs.RightScripts.{IsRightReply}
 use Rattle.bridge_cli.proofs.ReplayLaws.{next_moment, rounds_few, all_at, place_in_same, printed_more, target_cut}
 use Rattle.bridge_cli.proofs.replaying.print_replies.Goals as goal
 
@@ -11,8 +11,8 @@ print_next-requires-clause-next g c =
 
 pub print_next-requires-clause-ended : goal.print_next-requires-clause-ended
 print_next-requires-clause-ended g c =
-    all_at IsOver c.args.target.now.scrapes c.loop-at.at c.index-replies-at.result c.requires.target.over
-    (place_in_same _ _ c.loop-at.at c.index-replies-at.result c.loop-at.invariant.1 c.loop-at-test.true c.index-replies-at.is)
+    (all_at IsRightReply c.args.target.now.scrapes c.loop-at.at c.index-replies-at.result c.requires.target.replies
+    (place_in_same _ _ c.loop-at.at c.index-replies-at.result c.loop-at.invariant.1 c.loop-at-test.true c.index-replies-at.is)).over
 
 pub loop-at-preserved : goal.loop-at-preserved
 loop-at-preserved g c =

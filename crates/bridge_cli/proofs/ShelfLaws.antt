@@ -1,0 +1,110 @@
+-- The wires of a script's run are those of its targets, and what stands on the shelf once they were handed in.
+use Rattle.std.proofs.Common.{◌≡◌, ℕ, suc, ◌+◌, ◌≤◌, Bool, true, false, List, [], ◌∷◌, ◌++◌, length, map, Option, Some, None, option_map, refl, sym, ap, subst, ◌∙◌, arith}
+use Rattle.std.specs.Prelude.{All}
+use Rattle.std.specs.List.{AllZip, AllByRecursion}
+use Rattle.bridge_ports.specs.declared.memory_world.Shelved.{Shelved}
+use Rattle.bridge_ports.specs.declared.talk.Talk.{Talk}
+use Rattle.bridge_ports.specs.Talks.{WireState}
+use Rattle.bridge_ports.specs.Worlds.{WorldState, ShelvedPair, put_on, with_shelved_pair}
+use Rattle.series_table.specs.HttpTalks.{talking}
+use Rattle.series_table.specs.Records.{Kept, BodiesOf, further_talks}
+use Rattle.target_table.specs.Tables.{HasAllVisits, IsTrackAt, AreTracks}
+use Rattle.run_report.specs.declared.target_end.TargetEnd.{TargetEnd}
+use Rattle.run_report.specs.Ends.{track_end}
+use Rattle.replay_script.specs.declared.header.Header.{Header}
+use Rattle.replay_script.specs.declared.script.ScriptTarget.{ScriptTarget}
+use Rattle.replay_script.specs.declared.script.Script.{Script}
+use Rattle.replay_script.specs.RightScripts.{IsRightTarget, IsRightScript}
+use Rattle.replay_script.specs.WirePlans.{scrape_plan}
+use Rattle.bridge_cli.specs.Rounds.{script_followed, script_targets, AreWiresOf, IsScriptRun, AreVisitedThrough}
+use Rattle.bridge_cli.specs.Shelves.{AreTalksOfReplies, IsShelvedPair, AreShelvedPairs, put_all, IsShelfOf, shelf_pair, IsFreePair, with_shelved}
+use Rattle.bridge_cli.proofs.TalkLaws.{track_told, track_posts}
+
+-- ---- pairs
+
+-- no talk follows those that were counted
+no_further : (further counted talks : List Talk) → talks ≡ further ++ counted → length further ≤ 0 → counted ≡ talks
+no_further [] counted talks are few = sym are
+no_further (talk ∷ further) counted talks are few = absurd (omega (arith, few))
+
+-- the pair of a track that had all its visits
+shelved_pair : (h : Header) (t : ScriptTarget) (place : ℕ) (k : Kept) (w : Shelved) → IsRightTarget h t → IsTrackAt talking (script_followed h t) place k → HasAllVisits h.rounds k → AreWiresOf k w → h.rounds ≤ k.counts.visits
+    → IsShelvedPair h (place + 1) t (shelf_pair w)
+shelved_pair h t place k w right at visits wires all = by k.halted refl
+  where
+    by : (halted : Bool) → k.halted ≡ halted → IsShelvedPair h (place + 1) t (shelf_pair w)
+    by true e = absurd (omega (arith, visits.left e, all))
+    by false e =
+        let told = track_told h t place k w right at visits wires in
+        let bodies : BodiesOf talking (script_followed h t) 0 w.scrape.talks w.post.talks told.events told.posted =
+        subst (λ b. BodiesOf talking (script_followed h t) (further_talks b) w.scrape.talks w.post.talks told.events told.posted) e told.bodies in
+        let few : length told.bodies.tells.further ≤ 0 = subst (λ b. length told.bodies.tells.further ≤ further_talks b) e told.bodies.tells.few in
+        record {
+          scrape_home = record { free = sym (ap (λ (s : WireState). s.stage) wires.scrape_is) ∙ at.track.scrape_wire.free; place = sym (ap (λ (s : WireState). s.place) wires.scrape_is) ∙ at.scrape_place };
+          post_home = record { free = sym (ap (λ (s : WireState). s.stage) wires.post_is) ∙ at.track.post_wire.free; place = sym (ap (λ (s : WireState). s.place) wires.post_is) ∙ at.post_place };
+          events = told.events;
+          posted = told.posted;
+          are = told.are;
+          all = omega (arith, told.many, right.scrapes, visits.all e);
+          bodies = bodies;
+          scraped = subst (AreTalksOfReplies (scrape_plan h t)) (no_further told.bodies.tells.further told.bodies.tells.counted w.scrape.talks told.bodies.tells.talks_are few) told.counted;
+          answered = track_posts h t k w right told;
+        }
+
+-- the pairs of tracks, in order
+shelved_pairs : (h : Header) (place : ℕ) (ts : List ScriptTarget) (ks : List Kept) (ws : List Shelved) → AllByRecursion (IsRightTarget h) ts → AreTracks talking place (script_targets h ts) ks → All (HasAllVisits h.rounds) ks
+    → AllZip AreWiresOf ks ws → AreVisitedThrough h.rounds (map track_end ks) → AreShelvedPairs h (place + 1) ts (map shelf_pair ws)
+shelved_pairs h place [] [] [] right are visits wires all = tt
+shelved_pairs h place (t ∷ ts) (k ∷ ks) (w ∷ ws) right are visits wires all = (
+  shelved_pair h t place k w right.0 are.0 (visits 0 k (omega arith)) wires.0 all.0,
+  shelved_pairs h (place + 1) ts ks ws right.1 are.1 (λ i d inside. visits (suc i) d (omega (arith, inside))) wires.1 all.1,
+)
+shelved_pairs h place [] [] (w ∷ ws) right are visits wires all = absurd wires
+shelved_pairs h place (t ∷ ts) (k ∷ ks) [] right are visits wires all = absurd wires
+shelved_pairs h place [] (k ∷ ks) ws right are visits wires all = absurd are
+shelved_pairs h place (t ∷ ts) [] ws right are visits wires all = absurd are
+
+-- no talk is under way on them
+free_of : (place : ℕ) (h : Header) (ts : List ScriptTarget) (ks : List Kept) (ws : List Shelved) → AreTracks talking place (script_targets h ts) ks → AllZip AreWiresOf ks ws → AllByRecursion IsFreePair ws
+free_of place h ts ks [] are wires = tt
+free_of place h ts [] (w ∷ ws) are wires = absurd wires
+free_of place h [] (k ∷ ks) (w ∷ ws) are wires = absurd are
+free_of place h (t ∷ ts) (k ∷ ks) (w ∷ ws) are wires = (
+  record {
+    scrape_free = sym (ap (λ (s : WireState). s.stage) wires.0.scrape_is) ∙ are.0.track.scrape_wire.free;
+    post_free = sym (ap (λ (s : WireState). s.stage) wires.0.post_is) ∙ are.0.track.post_wire.free;
+  },
+  free_of (place + 1) h ts ks ws are.1 wires.1,
+)
+
+pub free_pairs : (s : Script) (ends : List TargetEnd) (wires : List Shelved) → IsScriptRun s ends wires → AllByRecursion IsFreePair wires
+free_pairs s ends wires run = free_of 0 s.header s.targets run.tracks wires run.over.tracks_are run.wires_are
+
+-- ---- the shelf
+
+-- a shelf once wires were handed in
+shelf_with : (ws : List Shelved) (w : WorldState) → (with_shelved ws w).shelf ≡ option_map (put_all (map shelf_pair ws)) w.shelf
+shelf_with [] w = by w.shelf
+  where
+    by : (shelf : Option (List ShelvedPair)) → shelf ≡ option_map (put_all []) shelf
+    by None = refl
+    by (Some pairs) = refl
+shelf_with (p ∷ ps) w = shelf_with ps (with_shelved_pair p.scrape p.post w) ∙ by w.shelf
+  where
+    by : (shelf : Option (List ShelvedPair)) → option_map (put_all (map shelf_pair ps)) (option_map (put_on p.scrape p.post) shelf) ≡ option_map (put_all (map shelf_pair (p ∷ ps))) shelf
+    by None = refl
+    by (Some pairs) = refl
+
+-- nothing else of a world changed
+pub rest_with : (ws : List Shelved) (w : WorldState) → with_shelved ws w ≡ record w { shelf = (with_shelved ws w).shelf }
+rest_with [] w = refl
+rest_with (p ∷ ps) w = rest_with ps (with_shelved_pair p.scrape p.post w)
+
+-- the wires of a script's run, each of whose targets was visited through, were handed in
+pub script_shelved : (s : Script) (ends : List TargetEnd) (wires : List Shelved) (before after : WorldState) → IsRightScript s → IsScriptRun s ends wires → AreVisitedThrough s.header.rounds ends → after ≡ with_shelved wires before
+    → IsShelfOf s before.shelf after.shelf
+script_shelved s ends wires before after right run all is = record {
+  pairs = map shelf_pair wires;
+  are = shelved_pairs s.header 0 s.targets run.tracks wires right.targets run.over.tracks_are run.over.visited run.wires_are (subst (AreVisitedThrough s.header.rounds) run.ends_are all);
+  shelf = ap (λ (w : WorldState). w.shelf) is ∙ shelf_with wires before;
+}

@@ -1,0 +1,11 @@
+use Rattle.std.proofs.Common.{◌≡◌, ◌+◌, reverse}
+use Rattle.std.specs.List.{AllByRecursion}
+use Rattle.bridge_cli.specs.Shelves.{IsFreePair, with_shelved, KeepsAllButShelf}
+use Rattle.bridge_cli.proofs.shelving.shelve.Given as goal
+
+-- the world, once the wires that are left are handed in too, is that with all of them
+abbrev pub invariant-loop : goal.invariant-loop
+invariant-loop g l =
+    (with_shelved (reverse l.left.items) (g.W.World.world l.world) ≡ with_shelved l.fn.wires.items (g.W.World.world l.initial.world)) × AllByRecursion IsFreePair (reverse l.left.items) × (l.left.len + l.counter ≡ l.fn.wires.len)
+    × KeepsAllButShelf (g.W.World.world l.initial.world) (g.W.World.world l.world) (g.W.World.files l.initial.world) (g.W.World.files l.world) (g.W.World.home l.initial.world) (g.W.World.home l.world) (g.W.World.given l.initial.world) (g.W.World.given l.world)
+    (g.W.World.coming l.initial.world) (g.W.World.coming l.world)

@@ -1,0 +1,31 @@
+//! The wires of a run that is over are put on the shelf of the world.
+ghost use Rattle.std.specs.Prelude.{◌≡◌, OnOk};
+ghost use Rattle.std.specs.List.{AllByRecursion};
+ghost use Rattle.bridge_cli.specs.Shelves.{IsFreePair, with_shelved, KeepsAllButShelf};
+
+use bridge_ports::{Shelved, World};
+use label_sets::Memory;
+use std::alloc::{AllocError, Global};
+
+/// Puts pairs of wires on the shelf of a world, in order.
+pub(crate) fn shelve<W: World>(
+    alloc: Global,
+    wires: Vec<Shelved>,
+    world: &mut W,
+) -> Result<(), Memory>
+    requires { AllByRecursion IsFreePair wires.items }
+    ensures done { OnOk result (W.world world.new ≡ with_shelved wires.items (W.world world.old)) }
+    ensures kept { KeepsAllButShelf (W.world world.old) (W.world world.new) (W.files world.old) (W.files world.new)
+        (W.home world.old) (W.home world.new) (W.given world.old) (W.given world.new) (W.coming world.old) (W.coming world.new) }
+{
+    let mut left = wires;
+    left.reverse();
+    for _ in 0..left.len() {
+        let Shelved { scrape, post } = left.take_last();
+        match world.shelve(alloc, scrape, post) {
+            Ok(()) => {}
+            Err(AllocError) => return Err(AllocError),
+        }
+    }
+    Ok(())
+}
