@@ -21,6 +21,3 @@ pub use config_laws::{configs_are_right, numbers_are_right};
 pub use fault::{ConfigFault, Product};
 pub use fault_line::push_line;
 pub use reading::read;
-
-#[cfg(test)]
-mod tests;

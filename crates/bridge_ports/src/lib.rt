@@ -37,6 +37,3 @@ pub use world::World;
 /// A call on the outside failed; its count of faults tells so.
 #[derive(Clone, Copy, Debug, PartialEq, Eq)]
 pub struct Failed;
-
-#[cfg(test)]
-mod tests;

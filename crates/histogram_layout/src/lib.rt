@@ -8,6 +8,3 @@ pub mod laws;
 
 pub use buckets::{is_cumulative, layout};
 pub use intervals::Layout;
-
-#[cfg(test)]
-mod tests;

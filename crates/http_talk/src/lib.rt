@@ -10,8 +10,6 @@ mod part;
 mod reply;
 pub mod reply_laws;
 mod seen;
-#[cfg(test)]
-mod tests;
 mod texts;
 mod words;
 

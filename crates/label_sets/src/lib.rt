@@ -13,8 +13,6 @@ pub mod set_laws;
 mod shared;
 mod short_text;
 mod sorting;
-#[cfg(test)]
-mod tests;
 mod text;
 
 pub use bytes::Bytes;

@@ -15,6 +15,3 @@ pub use labels::{AfterLabel, LabelParts, after_label, label_of, own_labels, set_
 pub use line::LineRead;
 pub use quoted::{Escapes, QuotedValue, has_backslash, quoted_at, unescaped_text};
 pub use scan::{Cut, behind, behind_text, cut_chars, cut_name, front_len, is_word};
-
-#[cfg(test)]
-mod tests;

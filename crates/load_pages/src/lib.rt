@@ -4,8 +4,6 @@
 mod limits;
 mod pages;
 mod scripts;
-#[cfg(test)]
-mod tests;
 
 pub use limits::{MOST_NUMBER, is_load};
 pub use scripts::generated;

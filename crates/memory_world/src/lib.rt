@@ -5,8 +5,6 @@
 mod keyed;
 mod memory_files;
 mod memory_pairs;
-#[cfg(test)]
-mod tests;
 mod world;
 
 pub use world::MemoryWorld;

@@ -13,6 +13,3 @@ mod sample;
 pub use line::OpenLines;
 pub use open_writing::{page_of_families, write};
 pub use page::OpenPage;
-
-#[cfg(test)]
-mod tests;

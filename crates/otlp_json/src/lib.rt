@@ -15,8 +15,6 @@ mod points;
 mod requests;
 mod strings;
 mod summaries;
-#[cfg(test)]
-mod tests;
 mod values;
 
 use label_sets::Memory;

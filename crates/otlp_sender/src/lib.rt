@@ -5,8 +5,6 @@ mod answer;
 pub mod post_laws;
 mod posted;
 mod sending;
-#[cfg(test)]
-mod tests;
 
 pub use posted::{Posted, Try};
 pub use sending::post;

@@ -259,6 +259,3 @@ fn find_line_feed(piece: &[u8]) -> Option<usize>
 {
     memchr(b'\n', piece)
 }
-
-#[cfg(test)]
-mod tests;

@@ -8,8 +8,6 @@ mod served;
 pub mod serving_laws;
 mod shown_page;
 mod status;
-#[cfg(test)]
-mod tests;
 
 pub use conn::Conn;
 pub use reply::{reply_head, say_both};

@@ -9,6 +9,3 @@ mod whole_number;
 pub use cutting::cut_first;
 pub use places::{Place, host_and_port, is_visible_word};
 pub use whole_number::number;
-
-#[cfg(test)]
-mod tests;

@@ -30,6 +30,3 @@ pub use script_laws::scripts_are_right;
 pub use targets::target;
 pub use wires::{collector, default_reply, settings};
 pub use words::format_named;
-
-#[cfg(test)]
-mod tests;

@@ -4,8 +4,6 @@
 mod numbers;
 mod report;
 mod target_end;
-#[cfg(test)]
-mod tests;
 
 pub use report::{push_report, push_served};
 pub use target_end::{TargetEnd, ends_of, some_halted};

@@ -8,6 +8,3 @@ mod talk;
 
 pub use bridge_ports::Target;
 pub use one_scrape::{outcome, scrape};
-
-#[cfg(test)]
-mod tests;

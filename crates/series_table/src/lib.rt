@@ -5,8 +5,6 @@ mod aim;
 mod counts;
 mod making;
 mod point_counts;
-#[cfg(test)]
-mod tests;
 mod track;
 mod visited;
 

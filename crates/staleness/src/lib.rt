@@ -6,6 +6,3 @@ mod keys;
 mod series_gone;
 
 pub use series_gone::vanished;
-
-#[cfg(test)]
-mod tests;

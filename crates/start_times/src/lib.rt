@@ -13,6 +13,3 @@ mod values;
 pub use row::{Last, Row, Starts};
 pub use tracker::Tracker;
 pub use values::{created_at, has_start};
-
-#[cfg(test)]
-mod tests;

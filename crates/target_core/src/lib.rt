@@ -13,6 +13,3 @@ pub mod tree_laws;
 
 pub use bridge_ports::Target;
 pub use state::TargetState;
-
-#[cfg(test)]
-mod tests;

@@ -11,8 +11,6 @@ mod count;
 mod emit;
 mod emitter;
 mod last_integer;
-#[cfg(test)]
-mod tests;
 
 pub use emit::{Emit, length, write, write_line};
 pub use emitter::Emitter;

@@ -9,6 +9,3 @@ mod stamp;
 
 pub use line::TextLines;
 pub use page::TextPage;
-
-#[cfg(test)]
-mod tests;

@@ -1,0 +1,153 @@
+//! Tests of `packed_keys`.
+use label_sets::{Label, LabelSet, Memory, Name, Text};
+use packed_keys::{Keys, SampleKey, SeenKeys, SeenNames, SeenSets};
+use std::alloc::{AllocError, Global};
+use std::test::Fail;
+
+/// The set of labels that are written as `name=value`, with a blank between two.
+fn set(alloc: Global, written: &str) -> Result<LabelSet, Memory> {
+    let mut labels = Vec::new(alloc);
+    for pair in written.split_whitespace() {
+        if let Some((name, value)) = pair.split_once('=') {
+            labels.push(Label {
+                name: Name::from_str(alloc, name)?,
+                value: Text::from_str(alloc, value)?,
+            })?;
+        }
+    }
+    match LabelSet::build(alloc, labels, 64) {
+        Ok(set) => Ok(set),
+        Err(_) => Err(AllocError),
+    }
+}
+
+/// Whether a key of this name and these labels is new.
+fn is_new(alloc: Global, seen: &mut SeenKeys, name: &str, labels: &str) -> Result<bool, Memory> {
+    let name = Name::from_str(alloc, name)?;
+    let labels = set(alloc, labels)?;
+    seen.insert(&SampleKey { name, labels })
+}
+
+/// Whether the next key is one of this name and these labels.
+fn is_next(alloc: Global, keys: &mut Keys, name: &str, labels: &str) -> Result<bool, Memory> {
+    let labels = set(alloc, labels)?;
+    match keys.next(alloc)? {
+        Some(key) => Ok(key.name.as_str() == name && key.labels == labels),
+        None => Ok(false),
+    }
+}
+
+/// Puts in four keys, and answers which are new.
+fn four_put_in(alloc: Global, seen: &mut SeenKeys) -> Result<[bool; 4], Memory> {
+    let first = is_new(alloc, seen, "requests", "code=200 job=a")?;
+    let second = is_new(alloc, seen, "requests", "code=20 job=0a")?;
+    let again = is_new(alloc, seen, "requests", "job=a code=200")?;
+    let last = is_new(alloc, seen, "up", "")?;
+    Ok([first, second, again, last])
+}
+
+/// Reads them back but the second, and answers which are right.
+fn read_back(alloc: Global, keys: &mut Keys) -> Result<[bool; 3], Memory> {
+    let first = is_next(alloc, keys, "requests", "code=200 job=a")?;
+    keys.pass_over(1);
+    let last = is_next(alloc, keys, "up", "")?;
+    let end = keys.next(alloc)?.is_none();
+    Ok([first, last, end])
+}
+
+#[test]
+fn keys_are_seen_once_and_read_back(rt: HostRuntime) -> Result<(), Fail> {
+    let alloc = rt.alloc();
+    let mut seen = SeenKeys::new(alloc);
+    assert_eq!(rt; four_put_in(alloc, &mut seen)?, [true, true, false, true]);
+    assert_eq!(rt; seen.len(), 3);
+    assert_eq!(rt; read_back(alloc, &mut seen.into_keys())?, [true; 3]);
+    Ok(())
+}
+
+/// A text, and behind it another one 255 times.
+fn long(alloc: Global, text: &str, more: &str) -> Result<String, AllocError> {
+    let mut long = String::from_str(alloc, text)?;
+    for _ in 0..255 {
+        long.push_str(more)?;
+    }
+    Ok(long)
+}
+
+/// Whether one key of such a name and such a value is new, and is read back.
+fn is_kept(alloc: Global, name: &str, labels: &str) -> Result<bool, Memory> {
+    let mut seen = SeenKeys::new(alloc);
+    let new = is_new(alloc, &mut seen, name, labels)?;
+    let back = is_next(alloc, &mut seen.into_keys(), name, labels)?;
+    Ok(new && back)
+}
+
+#[test]
+fn long_parts_are_read_back(rt: HostRuntime) -> Result<(), Fail> {
+    let alloc = rt.alloc();
+    let name = long(alloc, "", "n")?;
+    let labels = long(alloc, "code=2 job=", "é")?;
+    assert!(rt; is_kept(alloc, name.as_str(), labels.as_str())?);
+    Ok(())
+}
+
+/// The place of a set without its `le`.
+fn place(alloc: Global, seen: &mut SeenSets, labels: &str) -> Result<usize, Memory> {
+    let labels = set(alloc, labels)?;
+    seen.insert_without(&labels, b"le")
+}
+
+/// The places of four sets without their `le`.
+fn four_places(alloc: Global, seen: &mut SeenSets) -> Result<[usize; 4], Memory> {
+    let first = place(alloc, seen, "job=a le=1")?;
+    let same = place(alloc, seen, "job=a le=2")?;
+    let other = place(alloc, seen, "job=b le=1")?;
+    let bare = place(alloc, seen, "job=a")?;
+    Ok([first, same, other, bare])
+}
+
+/// Whether the set at a place is the one that is written so.
+fn is_set(alloc: Global, seen: &SeenSets, at: usize, labels: &str) -> Result<bool, Memory> {
+    if at >= seen.len() {
+        return Ok(false);
+    }
+    Ok(seen.set(alloc, at)? == set(alloc, labels)?)
+}
+
+#[test]
+fn sets_are_seen_without_a_label(rt: HostRuntime) -> Result<(), Fail> {
+    let alloc = rt.alloc();
+    let mut seen = SeenSets::new(alloc);
+    assert_eq!(rt; four_places(alloc, &mut seen)?, [0, 0, 1, 0]);
+    assert_eq!(rt; seen.len(), 2);
+    assert!(rt; is_set(alloc, &seen, 1, "job=b")?);
+    Ok(())
+}
+
+/// Puts in two names, the first once more, and answers what each call finds.
+fn two_names(alloc: Global, seen: &mut SeenNames) -> Result<[Option<usize>; 4], Memory> {
+    let first = Name::from_str(alloc, "requests")?;
+    let second = Name::from_str(alloc, "request")?;
+    let new = seen.insert(&first)?;
+    let unknown = seen.find(&second);
+    let other = seen.insert(&second)?;
+    let known = seen.insert(&first)?;
+    Ok([new, unknown, other, known])
+}
+
+/// Whether the name at a place is this one.
+fn is_name(alloc: Global, seen: &SeenNames, at: usize, name: &str) -> Result<bool, Memory> {
+    if at >= seen.len() {
+        return Ok(false);
+    }
+    Ok(seen.name(alloc, at)?.as_str() == name)
+}
+
+#[test]
+fn names_are_seen_once(rt: HostRuntime) -> Result<(), Fail> {
+    let alloc = rt.alloc();
+    let mut seen = SeenNames::new(alloc);
+    assert_eq!(rt; two_names(alloc, &mut seen)?, [None, None, None, Some(0)]);
+    assert!(rt; is_name(alloc, &seen, 1, "request")?);
+    Ok(())
+}

@@ -1,0 +1,109 @@
+//! Tests of `text_emitter`.
+use exact_decimal::Number;
+use std::alloc::{AllocError, Global};
+use text_emitter::{Emit, Emitter, length, write, write_line};
+
+/// A sample of a page of OpenMetrics with a time, and the same number in JSON.
+#[derive(Drop)]
+struct Sample {
+    value: Number,
+    time: u64,
+}
+
+impl Emit for Sample {
+    ghost use Rattle.std.specs.Prelude.{◌++◌, codes};
+    ghost use Rattle.std.specs.Fmt.{decimal};
+    ghost use Rattle.exact_decimal.specs.Literals.{number_json, number_text};
+
+    ghost text = { λ s. codes "up " ++ number_text s.value ++ codes " " ++ decimal s.time ++ codes " " ++ decimal s.time ++ codes " # " ++ number_json s.value };
+
+    fn emit<E: Emitter>(&self, out: &mut E) {
+        out.put(b"up ");
+        out.put_open_number(&self.value);
+        out.put(b" ");
+        out.put_integer(self.time);
+        out.put(b" ");
+        out.put_integer(self.time);
+        out.put(b" # ");
+        out.put_json_number(&self.value);
+    }
+}
+
+fn number(token: &str) -> Number {
+    exact_decimal::read(token.as_bytes()).unwrap_or(Number::NotANumber)
+}
+
+fn text_of(alloc: Global, sample: &Sample) -> Result<Vec<u8>, AllocError> {
+    let mut out = Vec::from_slice(alloc, b"> ")?;
+    write(sample, &mut out)?;
+    Ok(out)
+}
+
+#[test]
+fn writes_behind_what_is_there(rt: HostRuntime) -> Result<(), AllocError> {
+    let rows = [
+        ("1.50", 0u64, "> up 1.5 0 0 # 1.5"),
+        ("-12e30", 9, "> up -1.2e31 9 9 # -1.2e31"),
+        ("+Inf", 10, "> up +Inf 10 10 # \"Infinity\""),
+        (
+            "-Inf",
+            u64::MAX,
+            "> up -Inf 18446744073709551615 18446744073709551615 # \"-Infinity\"",
+        ),
+        ("nan", 1000, "> up NaN 1000 1000 # \"NaN\""),
+    ];
+    for (token, time, expected) in rows {
+        let sample = Sample {
+            value: number(token),
+            time,
+        };
+        let out = text_of(rt.alloc(), &sample)?;
+        assert_eq!(rt; std::str::from_utf8(&out), Ok(expected));
+        assert_eq!(rt; length(&sample).saturating_add(2), expected.len() as u64);
+    }
+    Ok(())
+}
+
+#[test]
+fn writes_a_line(rt: HostRuntime) -> Result<(), AllocError> {
+    let sample = Sample {
+        value: number("7"),
+        time: 20,
+    };
+    let mut out = Vec::new(rt.alloc());
+    write_line(&sample, &mut out)?;
+    assert_eq!(rt; std::str::from_utf8(&out), Ok("up 7 20 20 # 7\n"));
+    Ok(())
+}
+
+// With the first allocation failing, nothing is written.
+#[test]
+fn writes_all_or_nothing(rt: HostRuntime) {
+    let sample = Sample {
+        value: number("7"),
+        time: 20,
+    };
+    let mut out = Vec::new(rt.alloc());
+    let expected: &[u8] = match write(&sample, &mut out) {
+        Ok(()) => b"up 7 20 20 # 7",
+        Err(_) => b"",
+    };
+    assert_eq!(rt; out.as_slice(), expected);
+}
+
+// With any allocation failing, what was there stays. The text is longer than the vector's first growths.
+#[test]
+fn keeps_what_was_there(rt: HostRuntime) -> Result<(), AllocError> {
+    let sample = Sample {
+        value: number("-1.25"),
+        time: u64::MAX,
+    };
+    let whole = "> up -1.25 18446744073709551615 18446744073709551615 # -1.25";
+    let mut out = Vec::from_slice(rt.alloc(), b"> ")?;
+    let expected: &str = match write(&sample, &mut out) {
+        Ok(()) => whole,
+        Err(_) => "> ",
+    };
+    assert_eq!(rt; std::str::from_utf8(&out), Ok(expected));
+    Ok(())
+}

@@ -1,0 +1,109 @@
+//! What no clause says: that tries are made with replies in memory, each named by what it came to.
+ghost use Rattle.std.specs.Prelude.{◌≡◌, IfOk};
+ghost use Rattle.bridge_ports.specs.declared.talk.Stage.TheVariants as stages;
+
+use bridge_ports::{End, MemoryReply, MemoryWire, Place, Wire};
+use label_sets::{Bytes, List};
+use otlp_sender::{Posted, Try, post};
+use std::alloc::{AllocError, Global};
+use std::test::Fail;
+
+const TEXT: &[u8] = b"POST / HTTP/1.1\r\n\r\n{}";
+
+const OK: &[u8] = b"HTTP/1.1 200 OK\r\nContent-Length: 2\r\n\r\n{}";
+
+const LATER: &[u8] = b"HTTP/1.1 503 Later\r\n\r\n";
+
+/// A wire that answers these replies, two bytes at a read, and whose calls of these numbers fail.
+fn wire(alloc: Global, plan: &[(&[u8], End)], failing: &[u64]) -> Result<MemoryWire, AllocError>
+    ensures { IfOk result (λ wire. wire.stage ≡ stages.Idle) }
+{
+    let mut replies = Vec::new(alloc);
+    for (got, end) in plan {
+        let reply = MemoryReply {
+            at: 7,
+            got: Bytes::from_slice(alloc, got)?,
+            end: *end,
+        };
+        if replies.push(reply).is_err() {
+            return Err(AllocError);
+        }
+    }
+    let place = Place {
+        number: 1,
+        post: true,
+    };
+    let failing = List::from_vec(Vec::from_slice(alloc, failing)?)?;
+    Ok(MemoryWire::new(alloc, place, List::from_vec(replies)?, None, 2, failing))
+}
+
+/// What three tries come to, and how many were made.
+fn posted(
+    alloc: Global,
+    plan: &[(&[u8], End)],
+    failing: &[u64],
+) -> Result<(Posted, u64), AllocError> {
+    let mut wire = wire(alloc, plan, failing)?;
+    wire.ready(alloc, 3, TEXT.len() as u64)?;
+    let posted = post(&mut wire, TEXT, 3);
+    Ok((posted, wire.finished()))
+}
+
+#[test]
+fn tries_by_their_replies(rt: HostRuntime) -> Result<(), Fail> {
+    let alloc = rt.alloc();
+    let mixed = posted(
+        alloc,
+        &[
+            (LATER, End::Ended),
+            (b"", End::ConnectFailed),
+            (OK, End::Ended),
+        ],
+        &[],
+    )?;
+    assert_eq!(rt; mixed, (Posted::Accepted(200), 3));
+    let refused = posted(alloc, &[(b"HTTP/1.1 400 No\r\n\r\n", End::Ended)], &[])?;
+    assert_eq!(rt; refused, (Posted::Refused(400), 1));
+    let later = posted(
+        alloc,
+        &[
+            (LATER, End::Ended),
+            (LATER, End::Ended),
+            (LATER, End::Ended),
+        ],
+        &[],
+    )?;
+    assert_eq!(rt; later, (Posted::GivenUp(Try::Status(503)), 3));
+    let nobody = posted(alloc, &[], &[])?;
+    assert_eq!(rt; nobody, (Posted::GivenUp(Try::Connect), 3));
+    let broken = posted(
+        alloc,
+        &[
+            (b"", End::Ended),
+            (b"", End::Ended),
+            (b"HTTP", End::ReadFailed),
+        ],
+        &[],
+    )?;
+    assert_eq!(rt; broken, (Posted::GivenUp(Try::Read), 3));
+    let headless = posted(
+        alloc,
+        &[(b"", End::Ended), (b"", End::Ended), (b"HTTQ", End::Ended)],
+        &[],
+    )?;
+    assert_eq!(rt; headless, (Posted::GivenUp(Try::NoHead), 3));
+    Ok(())
+}
+
+// A call that fails is named, and the next try is made.
+#[test]
+fn each_call_fails_in_turn(rt: HostRuntime) -> Result<(), Fail> {
+    let alloc = rt.alloc();
+    for number in 1..20u64 {
+        let plan: [(&[u8], End); 2] = [(OK, End::Ended), (OK, End::Ended)];
+        let (posted, made) = posted(alloc, &plan, &[number])?;
+        assert_eq!(rt; posted, Posted::Accepted(200));
+        assert_eq!(rt; made, 2);
+    }
+    Ok(())
+}

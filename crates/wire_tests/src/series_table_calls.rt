@@ -1,0 +1,203 @@
+//! What no clause says: that visits are made with replies in memory, what comes of each body, and where memory is
+//! wanted.
+ghost use Rattle.std.specs.Prelude.{◌≡◌, IfOk};
+ghost use Rattle.bridge_ports.specs.Plans.{seen_of};
+ghost use Rattle.series_table.specs.Records.{IsFresh};
+
+use bridge_ports::{Address, End, MemoryReply, MemoryWire, Place, Settings, Target, Wire};
+use label_sets::{Bytes, List, Memory, Text};
+use series_table::{Counts, Track, TrackFault, Visited};
+use std::alloc::{AllocError, Global};
+use std::test::Fail;
+
+const PAGE: &[u8] = b"HTTP/1.1 200 OK\r\n\r\nx 1\n";
+
+const REFUSED_PAGE: &[u8] = b"HTTP/1.1 404 No\r\n\r\n";
+
+const TAKEN: &[u8] = b"HTTP/1.1 200 OK\r\n\r\n";
+
+const LATER: &[u8] = b"HTTP/1.1 503 Later\r\n\r\n";
+
+const REFUSED: &[u8] = b"HTTP/1.1 400 No\r\n\r\n";
+
+const SETTINGS: Settings = Settings {
+    keep: 2,
+    tries: 3,
+    limit: 1_000,
+    max_page: 1_024,
+    interval: 10,
+};
+
+/// A reply, and how its talk ends.
+type Planned<'a> = (&'a [u8], End);
+
+/// A wire that answers these replies, past them that connections fail, and whose calls of these numbers fail.
+fn wire(
+    alloc: Global,
+    post: bool,
+    plan: &[Planned<'_>],
+    failing: &[u64],
+) -> Result<MemoryWire, AllocError>
+    ensures { IfOk result (λ wire. IsFresh (seen_of wire)) }
+{
+    let mut replies = Vec::new(alloc);
+    for (got, end) in plan {
+        let reply = MemoryReply {
+            at: 7,
+            got: Bytes::from_slice(alloc, got)?,
+            end: *end,
+        };
+        if replies.push(reply).is_err() {
+            return Err(AllocError);
+        }
+    }
+    let place = Place { number: 1, post };
+    let failing = List::from_vec(Vec::from_slice(alloc, failing)?)?;
+    Ok(MemoryWire::new(alloc, place, List::from_vec(replies)?, None, 4_096, failing))
+}
+
+fn address(alloc: Global) -> Result<Address, Memory> {
+    Ok(Address {
+        host: Bytes::from_slice(alloc, "h".as_bytes())?,
+        port: 1,
+        path: Bytes::from_slice(alloc, b"/p")?,
+    })
+}
+
+fn target(alloc: Global) -> Result<Target, Memory> {
+    let job = Text::from_str(alloc, "j")?;
+    let instance = Text::from_str(alloc, "h:1")?;
+    let address = Address {
+        host: Bytes::from_slice(alloc, "h".as_bytes())?,
+        port: 1,
+        path: Bytes::from_slice(alloc, b"/p")?,
+    };
+    Ok(Target::new(job, instance, address, false))
+}
+
+/// What visits came to: what a track counted, whether it is halted, and how many talks each wire has.
+#[derive(Clone, Copy, Debug, PartialEq, Eq)]
+struct Came {
+    counts: Counts,
+    halted: bool,
+    scrapes: u64,
+    posts: u64,
+}
+
+/// A visit, where there is one more.
+fn visit<W: Wire>(alloc: Global, track: &mut Track<W>) -> Visited {
+    if track.counts().visits >= 1_000_000 {
+        return Visited::Halted;
+    }
+    track.visit(alloc)
+}
+
+/// So many visits over these wires.
+fn visits(
+    alloc: Global,
+    scrape: MemoryWire,
+    post: MemoryWire,
+    rounds: u32,
+) -> Result<Came, AllocError>
+    requires scrape { IsFresh (seen_of scrape) }
+    requires post { IsFresh (seen_of post) }
+{
+    let (target, to) = (target(alloc)?, address(alloc)?);
+    let mut track = match Track::new(alloc, target, to, SETTINGS, scrape, post) {
+        Ok(track) => track,
+        Err(TrackFault::Memory(_scrape, _post)) => return Err(AllocError),
+    };
+    for _ in 0..rounds {
+        let _visited = visit(alloc, &mut track);
+    }
+    let counts = *track.counts();
+    let halted = track.halted();
+    let (scrape, post) = track.into_wires();
+    Ok(Came {
+        counts,
+        halted,
+        scrapes: scrape.finished(),
+        posts: post.finished(),
+    })
+}
+
+const GOOD: Planned<'static> = (PAGE, End::Ended);
+
+const OK: Planned<'static> = (TAKEN, End::Ended);
+
+const FULL: Planned<'static> = (LATER, End::Ended);
+
+/// What one visit with these posts comes to: taken, refused and given up bodies, and the talks.
+fn posted(alloc: Global, posts: &[Planned<'_>]) -> Result<(u64, u64, u64, u64), AllocError> {
+    let scrape = wire(alloc, false, &[GOOD], &[])?;
+    let post = wire(alloc, true, posts, &[])?;
+    let seen = visits(alloc, scrape, post, 1)?;
+    let counts = seen.counts;
+    Ok((counts.accepted, counts.refused, counts.given_up, seen.posts))
+}
+
+#[test]
+fn a_body_is_tried_while_it_may_be_taken(rt: HostRuntime) -> Result<(), Fail> {
+    let alloc = rt.alloc();
+    let nobody: Planned<'_> = (b"", End::ConnectFailed);
+    assert_eq!(rt; posted(alloc, &[FULL, nobody, OK])?, (1, 0, 0, 3));
+    assert_eq!(rt; posted(alloc, &[(REFUSED, End::Ended)])?, (0, 1, 0, 1));
+    assert_eq!(rt; posted(alloc, &[FULL, FULL, FULL])?, (0, 0, 1, 3));
+    Ok(())
+}
+
+#[test]
+fn scrapes_and_points_are_counted(rt: HostRuntime) -> Result<(), Fail> {
+    let alloc = rt.alloc();
+    let scrape = wire(alloc, false, &[GOOD, (REFUSED_PAGE, End::Ended)], &[])?;
+    let post = wire(alloc, true, &[OK, OK], &[])?;
+    let seen = visits(alloc, scrape, post, 2)?;
+    assert_eq!(rt; seen.counts.visits, 2);
+    assert_eq!(rt; seen.counts.failed, 1);
+    assert_eq!(rt; seen.counts.points, 5);
+    assert_eq!(rt; seen.counts.markers, 1);
+    assert_eq!(rt; seen.counts.accepted, 2);
+    Ok(())
+}
+
+/// Three visits, where the call of `ready` of this number answers want of memory.
+fn lean_at(alloc: Global, post_call: u32, scrape_call: u32) -> Result<Came, AllocError> {
+    let mut scrape = wire(alloc, false, &[GOOD, GOOD, GOOD], &[])?;
+    let mut post = wire(alloc, true, &[OK, OK, OK], &[])?;
+    scrape.lean_at(scrape_call);
+    post.lean_at(post_call);
+    visits(alloc, scrape, post, 3)
+}
+
+// A visit that finds no room for its posts posts nothing and is not counted, and no further one is made.
+#[test]
+fn each_ready_finds_no_memory(rt: HostRuntime) -> Result<(), Fail> {
+    let alloc = rt.alloc();
+    for call in 1..4u32 {
+        let before = u64::from(call.saturating_sub(1));
+        let seen = lean_at(alloc, call, 9)?;
+        assert_eq!(rt; (seen.counts.visits, seen.halted), (before, true));
+        assert_eq!(rt; (seen.scrapes, seen.posts), (u64::from(call), before));
+        let seen = lean_at(alloc, 9, call)?;
+        assert_eq!(rt; (seen.counts.visits, seen.halted), (before, true));
+        assert_eq!(rt; (seen.scrapes, seen.posts), (before, before));
+    }
+    let seen = lean_at(alloc, 9, 9)?;
+    assert_eq!(rt; (seen.counts.visits, seen.halted), (3, false));
+    assert_eq!(rt; (seen.scrapes, seen.posts), (3, 3));
+    Ok(())
+}
+
+// A call on the post wire that fails costs one try; each body is taken all the same. A visit has three calls.
+#[test]
+fn each_call_of_the_post_wire_fails(rt: HostRuntime) -> Result<(), Fail> {
+    let alloc = rt.alloc();
+    for call in 1..10u64 {
+        let scrape = wire(alloc, false, &[GOOD, GOOD, GOOD], &[])?;
+        let post = wire(alloc, true, &[OK, OK, OK, OK], &[call])?;
+        let seen = visits(alloc, scrape, post, 3)?;
+        assert_eq!(rt; (seen.counts.visits, seen.halted), (3, false));
+        assert_eq!(rt; (seen.counts.accepted, seen.posts), (3, 4));
+    }
+    Ok(())
+}
