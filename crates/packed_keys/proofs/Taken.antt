@@ -2,7 +2,7 @@
 use Rattle.std.proofs.Common.{◌≡◌, ℕ, ◌+◌, ◌-◌, ◌≤◌, ◌<◌, Bool, true, false, not, ◌&&◌, ◌||◌, List, [], ◌∷◌, ◌++◌, take, drop, get_or, length, filter, cond, Some, refl, sym, ap, subst, ◌∙◌, arith, append_assoc, zero, suc, Bor}
 use Rattle.std.specs.Prelude.{slice_get}
 use Rattle.std.specs.List.{IsDistinct, AllByRecursion}
-use Rattle.std.proofs.lemmas.List.{append-nil, take_more, take-append-drop, take-take, drop-take, take_rest}
+use Rattle.std.proofs.lemmas.List.{append-nil, take_more, take-append-drop, take-take, drop-take, take_rest, take-map, drop-map}
 use Rattle.std.proofs.lemmas.List.Elements.{filter-append}
 use Rattle.std.proofs.lemmas.List.Folds.{list_any-append}
 use Rattle.std.proofs.lemmas.Option.{slice_get_within, get_or_from_slice_get}
@@ -157,18 +157,7 @@ gone_of_parted points asked keys strays left p once =
     there true false e = absurd cc
     there false b e = refl
 
--- ---- steps of the loop
-
-pub stray_step : (asked keys strays left more : List SeriesKey) (key copied : SeriesKey) → copied ≡ key → more ≡ strays ++ copied ∷ [] → IsParted asked keys strays left → IsParted (asked ++ key ∷ []) keys more left
-stray_step asked keys strays left more key copied e m p = rw (m, e) (strayed asked keys strays left key p)
-
-pub near_step : (asked keys all strays left more : List SeriesKey) (from at : ℕ) (key : SeriesKey) → from ≤ at → slice_get keys at ≡ Some key → all ≡ keys → more ≡ left ++ take (at - from) (drop from all)
-    → IsParted asked (take from keys) strays left → IsParted (asked ++ key ∷ []) (take (at + 1) keys) strays more
-near_step asked keys all strays left more from at key le is e m p = rw (m, e, cut_at keys from at key le is) (taken_away asked (take from keys) strays left (take (at - from) (drop from keys)) key p)
-
-pub one_passed : (asked keys strays left : List SeriesKey) (at place : ℕ) (key : SeriesKey) → at < length asked → key ≡ get_or asked at key → IsParted (take at asked ++ key ∷ []) (take place keys) strays left → IsParted (take (at + 1) asked) (take place keys) strays left
-one_passed asked keys strays left at place key within is p =
-    subst (λ (ks : List SeriesKey). IsParted ks (take place keys) strays left) (sym (take_more asked at key within ∙ ap (λ (k : SeriesKey). take at asked ++ k ∷ []) (sym is))) p
+-- ---- keys behind references
 
 -- the key behind a reference, at its place
 pub behind_at : (refs : List (Bor SeriesKey)) (at : ℕ) (r : Bor SeriesKey) → r ≡ get_or refs at r → r.now ≡ get_or (keys_behind refs) at r.now
@@ -180,10 +169,34 @@ pub length-behind : (refs : List (Bor SeriesKey)) → length (keys_behind refs) 
 length-behind [] = refl
 length-behind (x ∷ refs) = ap suc (length-behind refs)
 
+-- one key more of those behind references
+pub more_behind : (refs : List (Bor SeriesKey)) (at : ℕ) (r : Bor SeriesKey) → at < length refs → r ≡ get_or refs at r → take (at + 1) (keys_behind refs) ≡ take at (keys_behind refs) ++ r.now ∷ []
+more_behind refs at r within is = take_more (keys_behind refs) at r.now (omega (arith, length-behind refs)) ∙ ap (λ (k : SeriesKey). take at (keys_behind refs) ++ k ∷ []) (sym (behind_at refs at r is))
+
+-- the keys behind a part of references are that part of the keys
+pub part_behind : (refs : List (Bor SeriesKey)) (count from : ℕ) → keys_behind (take count (drop from refs)) ≡ take count (drop from (keys_behind refs))
+part_behind refs count from = sym (ap (take count) (drop-map (λ (r : Bor SeriesKey). r.now) from refs) ∙ take-map (λ (r : Bor SeriesKey). r.now) count (drop from refs))
+
+-- ---- steps of the loop
+
+pub stray_step : (asked keys strays left more : List SeriesKey) (key copied : SeriesKey) → copied ≡ key → more ≡ strays ++ copied ∷ [] → IsParted asked keys strays left → IsParted (asked ++ key ∷ []) keys more left
+stray_step asked keys strays left more key copied e m p = rw (m, e) (strayed asked keys strays left key p)
+
+pub near_step : (asked : List SeriesKey) (refs : List (Bor SeriesKey)) (strays left more : List SeriesKey) (from at : ℕ) (key : SeriesKey) → from ≤ at → slice_get (keys_behind refs) at ≡ Some key → more ≡ left ++ keys_behind (take (at - from) (drop from refs))
+    → IsParted asked (take from (keys_behind refs)) strays left → IsParted (asked ++ key ∷ []) (take (at + 1) (keys_behind refs)) strays more
+near_step asked refs strays left more from at key le is m p =
+    let keys = keys_behind refs in
+    rw (m, part_behind refs (at - from) from, cut_at keys from at key le is) (taken_away asked (take from keys) strays left (take (at - from) (drop from keys)) key p)
+
+pub one_passed : (asked keys strays left : List SeriesKey) (at place : ℕ) (key : SeriesKey) → at < length asked → key ≡ get_or asked at key → IsParted (take at asked ++ key ∷ []) (take place keys) strays left → IsParted (take (at + 1) asked) (take place keys) strays left
+one_passed asked keys strays left at place key within is p =
+    subst (λ (ks : List SeriesKey). IsParted ks (take place keys) strays left) (sym (take_more asked at key within ∙ ap (λ (k : SeriesKey). take at asked ++ k ∷ []) (sym is))) p
+
 -- the keys behind the last place are left too
-pub parted_whole : (asked asks keys all strays list left more lefts : List SeriesKey) (from : ℕ) → asks ≡ asked → all ≡ keys → IsParted asks (take from keys) strays left → more ≡ left ++ take (length all - from) (drop from all)
-    → list ≡ strays → lefts ≡ more → IsParted asked keys list lefts
-parted_whole asked asks keys all strays list left more lefts from a e p m s l =
-    let rest : more ≡ left ++ drop from keys = m ∙ (ap (λ (ks : List SeriesKey). left ++ ks) (take_rest all from) ∙ ap (λ (ks : List SeriesKey). left ++ drop from ks) e) in
-    let own : IsParted asked (take from keys) strays left = subst (λ (ks : List SeriesKey). IsParted ks (take from keys) strays left) a p in
-    rw (s, l, rest) (subst (λ (ks : List SeriesKey). IsParted asked ks strays (left ++ drop from keys)) (take-append-drop from keys) (rest_left asked (take from keys) strays left (drop from keys) own))
+pub parted_whole : (asked : List SeriesKey) (refs : List (Bor SeriesKey)) (strays list left more lefts : List SeriesKey) (from count : ℕ) → count ≡ length refs - from → IsParted asked (take from (keys_behind refs)) strays left → more ≡ left ++ keys_behind (take count (drop from refs))
+    → list ≡ strays → lefts ≡ more → IsParted asked (keys_behind refs) list lefts
+parted_whole asked refs strays list left more lefts from count n p m s l =
+    let keys = keys_behind refs in
+    let whole : count ≡ length keys - from = n ∙ ap (λ (k : ℕ). k - from) (sym (length-behind refs)) in
+    let rest : more ≡ left ++ drop from keys = m ∙ ap (λ (ks : List SeriesKey). left ++ ks) (part_behind refs count from ∙ (ap (λ (k : ℕ). take k (drop from keys)) whole ∙ take_rest keys from)) in
+    rw (s, l, rest) (subst (λ (ks : List SeriesKey). IsParted asked ks strays (left ++ drop from keys)) (take-append-drop from keys) (rest_left asked (take from keys) strays left (drop from keys) p))

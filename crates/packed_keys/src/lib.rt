@@ -2,6 +2,7 @@
 //! was put in is read back, so that nobody has to keep it beside.
 #![tactic(auto)]
 
+mod key_row;
 mod keys;
 mod packing;
 mod parting;
@@ -10,8 +11,6 @@ mod seen_keys;
 mod seen_names;
 mod seen_sets;
 mod series_places;
-#[cfg(test)]
-mod tests;
 mod unpacking;
 
 pub use keys::Keys;

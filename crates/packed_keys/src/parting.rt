@@ -3,12 +3,9 @@ ghost use Rattle.std.specs.Prelude.{◌≡◌, ◌≤◌, ◌<◌, ◌++◌, ◌
 ghost use Rattle.label_sets.specs.declared.series_key.SeriesKey.{SeriesKey as Key};
 ghost use Rattle.packed_keys.specs.Partings.{IsParted, keys_behind};
 
-use crate::series_places::is_at;
+use crate::key_row::{KeyRefs, near};
 use label_sets::{List, Memory, SeriesKey};
 use std::alloc::Global;
-
-/// How many places are looked at for a key, from the one behind the key found last.
-const NEAR: usize = 4;
 
 /// What is left of two lists of keys, where keys that stand in both were taken away by pairs.
 #[derive(Drop)]
@@ -19,30 +16,12 @@ pub struct Parted {
     pub left: List<SeriesKey>,
 }
 
-/// The place of a key among the next ones from a place on, where it is near.
-pub(crate) fn near(keys: &List<SeriesKey>, from: usize, key: &SeriesKey) -> Option<usize>
-    ensures from { IfSome result (λ at. from ≤ at) }
-    ensures within { IfSome result (λ at. at < length keys.now) }
-    ensures place { IfSome result (λ at. slice_get keys.now at ≡ Some key.now) }
-{
-    for step in 0..NEAR {
-        let at = from.saturating_add(step);
-        if at >= keys.len() {
-            return None;
-        }
-        if is_at(keys, at, key) {
-            return Some(at);
-        }
-    }
-    None
-}
-
 /// Puts keys behind others.
-fn put_keys(out: &mut Vec<SeriesKey>, keys: &[SeriesKey]) -> Result<(), Memory>
-    ensures { OnOk result (out.new.items ≡ out.old.items ++ keys.now) }
+fn put_keys(out: &mut Vec<SeriesKey>, keys: &[&SeriesKey]) -> Result<(), Memory>
+    ensures { OnOk result (out.new.items ≡ out.old.items ++ keys_behind keys.now) }
 {
-    for key in keys {
-        out.push(key.copy()?)?;
+    for at in 0..keys.len() {
+        out.push(keys[at].copy()?)?;
     }
     Ok(())
 }
@@ -50,7 +29,7 @@ fn put_keys(out: &mut Vec<SeriesKey>, keys: &[SeriesKey]) -> Result<(), Memory>
 /// Takes away a key that is asked for, where it is near, and leaves the keys before it; else it is a stray. The
 /// answer is the place up to which keys were taken or left.
 fn take_away(
-    keys: &List<SeriesKey>,
+    keys: &[&SeriesKey],
     next: usize,
     key: &SeriesKey,
     strays: &mut Vec<SeriesKey>,
@@ -58,20 +37,20 @@ fn take_away(
 ) -> Result<usize, Memory>
     requires { next ≤ length keys.now }
     ensures next { IfOk result (λ place. place ≤ length keys.now) }
-    ensures parted { IfOk result (λ place. (asked : Seq Key) → IsParted asked (take next keys.now) strays.old.items left.old.items
-        → IsParted (asked ++ key.now ∷ []) (take place keys.now) strays.new.items left.new.items) }
+    ensures parted { IfOk result (λ place. (asked : Seq Key) → IsParted asked (take next (keys_behind keys.now)) strays.old.items left.old.items
+        → IsParted (asked ++ key.now ∷ []) (take place (keys_behind keys.now)) strays.new.items left.new.items) }
 {
-    let Some(at) = near(keys, next, key) else {
+    let Some(at) = near(&KeyRefs { keys }, next, key) else {
         strays.push(key.copy()?)?;
         return Ok(next);
     };
-    put_keys(left, &keys.as_slice()[next..at])?;
+    put_keys(left, &keys[next..at])?;
     Ok(at + 1)
 }
 
 /// Takes away the keys that are asked for, as far as they are near.
 fn take_near(
-    keys: &List<SeriesKey>,
+    keys: &[&SeriesKey],
     asked: &[&SeriesKey],
     strays: &mut Vec<SeriesKey>,
     left: &mut Vec<SeriesKey>,
@@ -79,7 +58,7 @@ fn take_near(
     requires strays { strays.old.items ≡ [] }
     requires left { left.old.items ≡ [] }
     ensures next { IfOk result (λ place. place ≤ length keys.now) }
-    ensures parted { IfOk result (λ place. IsParted (keys_behind asked.now) (take place keys.now) strays.new.items left.new.items) }
+    ensures parted { IfOk result (λ place. IsParted (keys_behind asked.now) (take place (keys_behind keys.now)) strays.new.items left.new.items) }
 {
     let mut next = 0usize;
     for at in 0..asked.len() {
@@ -91,14 +70,14 @@ fn take_near(
 
 /// Two lists of keys without pairs of equal ones: a key that is asked for is looked for among the few behind the
 /// one found last, so lists that have the same series in one order lose all but those that one of them lacks. No
-/// key is hashed, and of those that are asked for only the strays are copied. Want of memory is the only error.
-pub fn part(alloc: Global, keys: &List<SeriesKey>, asked: &[&SeriesKey]) -> Result<Parted, Memory>
-    ensures { IfOk result (λ parted. IsParted (keys_behind asked.now) keys.now parted.strays parted.left) }
+/// key is hashed, and only keys that are left are copied. Want of memory is the only error.
+pub fn part(alloc: Global, keys: &[&SeriesKey], asked: &[&SeriesKey]) -> Result<Parted, Memory>
+    ensures { IfOk result (λ parted. IsParted (keys_behind asked.now) (keys_behind keys.now) parted.strays parted.left) }
 {
     let mut strays = Vec::new(alloc);
     let mut left = Vec::new(alloc);
     let next = take_near(keys, asked, &mut strays, &mut left)?;
-    put_keys(&mut left, &keys.as_slice()[next..])?;
+    put_keys(&mut left, &keys[next..])?;
     let strays = List::from_vec(strays)?;
     let left = List::from_vec(left)?;
     Ok(Parted { strays, left })

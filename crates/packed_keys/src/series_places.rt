@@ -1,10 +1,9 @@
 //! Where the keys of series stand in a list.
 ghost use Rattle.std.specs.Prelude.{◌≡◌, IfOk, IfSome, slice_get, Some};
-ghost use Rattle.std.specs.Bool.{OnTrue};
 ghost use Rattle.packed_keys.specs.Places.{IsPlace, AreBytesOf};
 
+use crate::key_row::{is_at, near};
 use crate::packing::put_series;
-use crate::parting::near;
 use byte_table::ByteTable;
 use label_sets::{List, Memory, SeriesKey};
 use std::alloc::Global;
@@ -38,16 +37,6 @@ impl Model for SeriesPlaces {
     ghost view = { λ p. p.keys };
 
     ghost invariant = { λ p. spec.IfSome p.table (Are p.keys) };
-}
-
-/// Whether the key stands at this place.
-pub(crate) fn is_at(keys: &List<SeriesKey>, at: usize, key: &SeriesKey) -> bool
-    ensures { OnTrue result (slice_get keys.now at ≡ Some key.now) }
-{
-    match keys.as_slice().get(at) {
-        Some(other) => other == key,
-        None => false,
-    }
 }
 
 /// The place of a key from a place on, to the end.

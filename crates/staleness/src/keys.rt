@@ -6,7 +6,7 @@ ghost use Rattle.packed_keys.specs.Partings.{keys_behind};
 ghost use Rattle.page_model.specs.declared.page.Reading.{Reading as OneReading};
 ghost use Rattle.page_model.specs.Presence as presence;
 
-use label_sets::{List, Memory, SeriesKey};
+use label_sets::{Memory, SeriesKey};
 use page_model::{Page, Reading};
 use std::alloc::Global;
 
@@ -30,23 +30,4 @@ pub(crate) fn keys_of(alloc: Global, page: &Page) -> Result<Vec<&SeriesKey>, Mem
         put_keys(&mut keys, family.readings.as_slice())?;
     }
     Ok(keys)
-}
-
-/// The same keys, with one owner more.
-fn copies(alloc: Global, keys: &[&SeriesKey]) -> Result<List<SeriesKey>, Memory>
-    ensures { IfOk result (λ copies. copies ≡ keys_behind keys.now) }
-{
-    let mut copies = Vec::with_capacity(alloc, keys.len())?;
-    for at in 0..keys.len() {
-        copies.push(keys[at].copy()?)?;
-    }
-    List::from_vec(copies)
-}
-
-/// The keys of a page, in page order, with one owner more.
-pub(crate) fn copied_keys_of(alloc: Global, page: &Page) -> Result<List<SeriesKey>, Memory>
-    ensures { IfOk result (λ keys. keys ≡ presence.keys_of page.now) }
-{
-    let keys = keys_of(alloc, page)?;
-    copies(alloc, keys.as_slice())
 }

@@ -1,11 +1,12 @@
 //! The series of a page that the next page lacks.
 ghost use Rattle.std.specs.Prelude.{◌≡◌, filter, IfOk};
 ghost use Rattle.std.specs.Option.{option_copied};
+ghost use Rattle.packed_keys.specs.Partings.{keys_behind};
 ghost use Rattle.page_model.specs.Presence as presence;
 ghost use Rattle.staleness.specs.Vanished as spec;
 ghost use Rattle.staleness.specs.Vanished.{keys_gone, page_or_empty};
 
-use crate::keys::{copied_keys_of, keys_of};
+use crate::keys::keys_of;
 use label_sets::{Kind, List, Memory, SeriesKey};
 use packed_keys::{SeriesPlaces, part};
 use page_model::Page;
@@ -19,13 +20,13 @@ fn has_points(kind: Kind) -> bool
     !matches!(kind, Kind::GaugeHistogram)
 }
 
-/// The keys of a page with one owner more, or none.
-fn keys_of_some(alloc: Global, page: Option<&Page>) -> Result<List<SeriesKey>, Memory>
-    ensures { IfOk result (λ keys. keys ≡ presence.keys_of (page_or_empty (option_copied page.entry))) }
+/// The keys of a page where they are, or none.
+fn keys_of_some(alloc: Global, page: Option<&Page>) -> Result<Vec<&SeriesKey>, Memory>
+    ensures { IfOk result (λ keys. keys_behind keys.items ≡ presence.keys_of (page_or_empty (option_copied page.entry))) }
 {
     match page {
-        Some(page) => copied_keys_of(alloc, page),
-        None => Ok(List::new(alloc)),
+        Some(page) => keys_of(alloc, page),
+        None => Ok(Vec::new(alloc)),
     }
 }
 
@@ -65,7 +66,7 @@ pub fn vanished(alloc: Global, before: &Page, now: Option<&Page>) -> Result<List
 {
     let keys = keys_of(alloc, before)?;
     let others = keys_of_some(alloc, now)?;
-    let parted = part(alloc, &others, keys.as_slice())?;
+    let parted = part(alloc, others.as_slice(), keys.as_slice())?;
     let mut left = SeriesPlaces::of(alloc, parted.left);
     let gone = lacking(alloc, parted.strays.as_slice(), &mut left)?;
     List::from_vec(gone)

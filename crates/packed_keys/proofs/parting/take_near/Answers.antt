@@ -13,11 +13,11 @@ loop-at-preserved c =
     let asked = c.args.asked.now in
     record {
       next = c.in_ok-place.ensures.next;
-      parted = one_passed (keys_behind asked) c.args.keys.now c.take_away.new.strays.items c.take_away.new.left.items c.loop-at.at c.in_ok-place.place _ (omega (arith, length-behind asked)) (behind_at asked c.loop-at.at _ c.index-asked-at.is)
+      parted = one_passed (keys_behind asked) (keys_behind c.args.keys.now) c.take_away.new.strays.items c.take_away.new.left.items c.loop-at.at c.in_ok-place.place _ (omega (arith, length-behind asked)) (behind_at asked c.loop-at.at _ c.index-asked-at.is)
           (c.in_ok-place.ensures.parted (take c.loop-at.at (keys_behind asked)) c.loop-at.invariant.parted);
     }
 
 pub returns-clause-parted : goal.returns-clause-parted
 returns-clause-parted c =
     let asked = c.args.asked.now in
-    subst (λ (ks : List SeriesKey). IsParted ks (take c.loop-at.next c.args.keys.now) c.loop-at.strays.items c.loop-at.left.items) (take_all c.loop-at.at (keys_behind asked) (omega (arith, length-behind asked))) c.loop-at.invariant.parted
+    subst (λ (ks : List SeriesKey). IsParted ks (take c.loop-at.next (keys_behind c.args.keys.now)) c.loop-at.strays.items c.loop-at.left.items) (take_all c.loop-at.at (keys_behind asked) (omega (arith, length-behind asked))) c.loop-at.invariant.parted

@@ -6,5 +6,5 @@ use Rattle.packed_keys.proofs.parting.take_near.Given as goal
 abbrev pub invariant-loop-at : goal.invariant-loop-at
 invariant-loop-at l = record {
   next : l.next ≤ length l.fn.keys;
-  parted : IsParted (take l.at (keys_behind l.fn.asked)) (take l.next l.fn.keys) l.strays.items l.left.items;
+  parted : IsParted (take l.at (keys_behind l.fn.asked)) (take l.next (keys_behind l.fn.keys)) l.strays.items l.left.items;
 }

@@ -10,7 +10,10 @@ use Rattle.staleness.proofs.series_gone.vanished.Goals as goal
 pub returns : goal.returns
 returns c =
     let parted = c.in_ok-parted.parted in
-    all_gone c.from_vec.result c.args.before.now (page_or_empty (option_copied c.args.now)) c.in_ok-gone.gone.items c.in_ok-others.others (keys_behind c.in_ok-keys.keys.items) parted.strays parted.left
+    let keys = keys_behind c.in_ok-keys.keys.items in
+    let others = keys_behind c.in_ok-others.others.items in
+    all_gone c.from_vec.result c.args.before.now (page_or_empty (option_copied c.args.now)) c.in_ok-gone.gone.items others keys parted.strays parted.left
     c.in_ok-others.ensures c.in_ok-keys.ensures.keys c.in_ok-keys.ensures.once
-    (subst (λ (refs : List (Bor SeriesKey)). IsParted (keys_behind refs) c.in_ok-others.others parted.strays parted.left) c.as_slice.ensures.value c.in_ok-parted.ensures)
-    (c.in_ok-gone.ensures ∙ (ap (λ (xs : List SeriesKey). filter (is_lacking xs) c.as_slice-2.result.now) c.of-left.ensures ∙ ap (filter (is_lacking parted.left)) c.as_slice-2.ensures)) c.from_vec.ensures
+    (subst (λ (refs : List (Bor SeriesKey)). IsParted (keys_behind refs) others parted.strays parted.left) c.as_slice-2.ensures.value
+    (subst (λ (refs : List (Bor SeriesKey)). IsParted (keys_behind c.as_slice-2.result.now) (keys_behind refs) parted.strays parted.left) c.as_slice.ensures.value c.in_ok-parted.ensures))
+    (c.in_ok-gone.ensures ∙ (ap (λ (xs : List SeriesKey). filter (is_lacking xs) c.as_slice-3.result.now) c.of-left.ensures ∙ ap (filter (is_lacking parted.left)) c.as_slice-3.ensures)) c.from_vec.ensures
