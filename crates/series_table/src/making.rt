@@ -98,11 +98,17 @@ fn take_event<W: Wire>(
     }
 }
 
-/// The request that posts a tree's text.
-fn body_request(alloc: Global, to: &Address, tree: &Request) -> Result<Bytes, Memory>
+/// The request that posts a tree's text. The one before was so long: this one is written in room for it and an eighth
+/// more, so that a text that is much like it is not moved while it grows.
+fn body_request(
+    alloc: Global,
+    to: &Address,
+    tree: &Request,
+    last_len: usize,
+) -> Result<Bytes, Memory>
     ensures { IfOk result (λ text. text ≡ post_request to.now (request_text tree.now)) }
 {
-    let mut body = Vec::new(alloc);
+    let mut body = Vec::with_capacity(alloc, last_len.saturating_add(last_len / 8))?;
     write(tree, &mut body)?;
     post_text(alloc, to, body.as_slice())
 }
@@ -125,6 +131,7 @@ pub(crate) fn prepare<W: Wire>(
     post: &mut W,
     state: &mut TargetState,
     due: u64,
+    last_len: usize,
 ) -> Result<Prepared, Memory>
     requires free { (W.state wire.old).stage ≡ stages.Idle }
     requires post_free { (W.state post.old).stage ≡ stages.Idle }
@@ -135,7 +142,7 @@ pub(crate) fn prepare<W: Wire>(
     let Ok(taken) = take_event(alloc, aim, wire, state, due) else {
         return Err(AllocError);
     };
-    let Ok(text) = body_request(alloc, &aim.to, &taken.tree) else {
+    let Ok(text) = body_request(alloc, &aim.to, &taken.tree, last_len) else {
         return Err(AllocError);
     };
     let Ok((shown, second)) = shown_twice(state) else {

@@ -34,6 +34,8 @@ pub struct Track<W: Wire> {
     second: Option<Shown>,
     counts: Counts,
     halted: bool,
+    /// How long the last request was, in bytes: the next one mostly is about as long.
+    last_len: usize,
 }
 
 /// Why there is no track.
@@ -117,6 +119,7 @@ impl<W: Wire> Track<W> {
                 second: None,
                 counts: Counts::NONE,
                 halted: false,
+                last_len: 0,
             }),
             Err(_) => Err(TrackFault::Memory(scrape, post)),
         }
@@ -143,6 +146,7 @@ impl<W: Wire> Track<W> {
             &mut self.post,
             &mut self.state,
             due,
+            self.last_len,
         ) {
             Ok(made) => {
                 let posted = post(
@@ -150,6 +154,7 @@ impl<W: Wire> Track<W> {
                     made.text.as_slice(),
                     self.aim.settings.tries,
                 );
+                self.last_len = made.text.len();
                 self.first = Some(self.first.unwrap_or(made.reading));
                 self.counts = self.counts.with_visit(made.failed, made.points, posted);
                 self.shown = made.shown;
@@ -215,6 +220,7 @@ impl<W: Wire> Track<W> {
             second: _,
             counts: _,
             halted: _,
+            last_len: _,
         } = self;
         (scrape, post)
     }

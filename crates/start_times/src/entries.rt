@@ -27,14 +27,13 @@ impl Model for Entries {
 }
 
 impl Entries {
-    /// No series.
-    pub(crate) fn new(alloc: Global) -> Entries
-        ensures { result ≡ [] }
+    /// No series, with room for so many.
+    pub(crate) fn with_capacity(alloc: Global, count: usize) -> Result<Entries, Memory>
+        ensures { IfOk result (λ entries. entries ≡ []) }
     {
-        Entries {
-            keys: Vec::new(alloc),
-            rows: Vec::new(alloc),
-        }
+        let keys = Vec::with_capacity(alloc, count)?;
+        let rows = Vec::with_capacity(alloc, count)?;
+        Ok(Entries { keys, rows })
     }
 
     /// Puts a series with its row behind the others.

@@ -27,13 +27,13 @@ pub(crate) struct Sighting {
     pub(crate) found: Vec<bool>,
 }
 
-/// Nothing seen of a page, before which there were so many rows.
+/// Nothing seen of a page, before which there were so many rows: most pages make about as many again.
 pub(crate) fn nothing(alloc: Global, rows: usize) -> Result<Sighting, Memory>
     ensures { IfOk result (λ s. (s.starts.items ≡ []) × (s.entries ≡ []) × (s.found.items ≡ replicate rows false)) }
 {
     Ok(Sighting {
-        starts: Vec::new(alloc),
-        entries: Entries::new(alloc),
+        starts: Vec::with_capacity(alloc, rows)?,
+        entries: Entries::with_capacity(alloc, rows)?,
         found: vec![in alloc; false; rows]?,
     })
 }
