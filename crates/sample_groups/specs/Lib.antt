@@ -6,6 +6,7 @@ pub mod Finding
 pub mod PlaceOrder
 pub mod Kept
 pub mod Beside
+pub mod PartLists
 pub mod Placing
 pub mod Nearest
 pub mod Tables

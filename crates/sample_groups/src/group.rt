@@ -1,5 +1,5 @@
 //! What the samples of one group come to.
-ghost use Rattle.std.specs.Prelude.{◌≡◌, true, not, ◌++◌, [], ◌∷◌, Some, IfOk, OnOk, OnErr};
+ghost use Rattle.std.specs.Prelude.{◌≡◌, true, not, Some, IfOk};
 ghost use Rattle.label_sets.specs.declared.kind.Kind.TheVariants.{Counter, Summary, Histogram};
 ghost use Rattle.page_model.specs.Rules.{is_up};
 ghost use Rattle.sample_groups.specs.declared.part.Part.TheVariants as parts;
@@ -7,6 +7,7 @@ ghost use Rattle.sample_groups.specs.Groups.{empty_group, with_one, breaks_order
 ghost use Rattle.sample_groups.specs.Places.{has_place};
 
 use crate::part::Part;
+use crate::part_list::PartList;
 use crate::parts;
 use crate::places::{Places, more_places};
 use exact_decimal::{Decimal, Number, less};
@@ -21,13 +22,13 @@ use std::mem;
 #[derive(Drop)]
 pub(crate) struct Group {
     /// Its samples, in the order of their lines.
-    parts: Vec<Part>,
+    parts: PartList,
     /// The places of its quantiles, where they are too many to be looked through.
     places: Option<Box<Places>>,
 }
 
 // A summary may have as many groups as lines.
-const _: () = prove!(mem::size_of::<Group>() <= 40);
+const _: () = prove!(mem::size_of::<Group>() <= 88);
 
 impl Model for Group {
     ghost use Rattle.std.specs.Prelude.{filter_map};
@@ -36,9 +37,9 @@ impl Model for Group {
 
     ghost Value = { Gathered };
 
-    ghost view = { λ g. group_from g.parts.items };
+    ghost view = { λ g. group_from g.parts };
 
-    ghost invariant = { λ g. KnowsPlaces g.places (filter_map quantile_in g.parts.items) };
+    ghost invariant = { λ g. KnowsPlaces g.places (filter_map quantile_in g.parts) };
 }
 
 /// Whether the bucket isn't above the last one, or has fewer observations (OpenMetrics 1.0, "Histogram").
@@ -56,18 +57,6 @@ fn is_unbounded(bucket: &Bucket) -> bool
     ensures { result ≡ is_up bucket.now.le }
 {
     matches!(&bucket.le, Number::Up)
-}
-
-/// Adds a value. The first one takes room for one alone.
-fn put<T: Drop>(values: &mut Vec<T>, value: T) -> Result<(), Memory>
-    ensures ok { OnOk result (values.new.items ≡ values.old.items ++ value ∷ []) }
-    ensures err { OnErr result (values.new.items ≡ values.old.items) }
-{
-    if values.is_empty() {
-        values.reserve_exact(1)?;
-    }
-    values.push(value)?;
-    Ok(())
 }
 
 /// The value of a counter's group, where it has a total.
@@ -108,11 +97,11 @@ fn buckets_value(alloc: Global, parts: &[Part]) -> Result<Value, Memory>
 
 impl Group {
     /// A group without parts. It takes no memory.
-    pub(crate) fn new(alloc: Global) -> Group
+    pub(crate) fn new() -> Group
         ensures { result ≡ empty_group }
     {
         Group {
-            parts: Vec::new(alloc),
+            parts: PartList::new(),
             places: None,
         }
     }
@@ -128,14 +117,14 @@ impl Group {
     }
 
     /// Adds a bucket, unless it breaks the order.
-    fn add_bucket(&mut self, bucket: Bucket) -> Result<bool, Memory>
+    fn add_bucket(&mut self, alloc: Global, bucket: Bucket) -> Result<bool, Memory>
         ensures answer { IfOk result (λ added. added ≡ not (breaks_order self.old (parts.Bucket bucket))) }
         ensures added { IfOk result (λ added. added ≡ true → self.new ≡ with_one self.old (parts.Bucket bucket)) }
     {
         if breaks_last(parts::last_bucket(self.parts.as_slice()), &bucket) {
             return Ok(false);
         }
-        put(&mut self.parts, Part::Bucket(bucket))?;
+        self.parts.put(alloc, Part::Bucket(bucket))?;
         Ok(true)
     }
 
@@ -149,7 +138,7 @@ impl Group {
         }
         let places = self.places.take();
         let places = more_places(alloc, places, self.parts.as_slice(), &quantile.at)?;
-        put(&mut self.parts, Part::Quantile(quantile))?;
+        self.parts.put(alloc, Part::Quantile(quantile))?;
         self.places = places;
         Ok(true)
     }
@@ -160,22 +149,22 @@ impl Group {
         ensures added { IfOk result (λ added. added ≡ true → self.new ≡ with_one self.old part) }
     {
         match part {
-            Part::Bucket(bucket) => self.add_bucket(bucket),
+            Part::Bucket(bucket) => self.add_bucket(alloc, bucket),
             Part::Quantile(quantile) => self.add_quantile(alloc, quantile),
             Part::Sum(sum) => {
-                put(&mut self.parts, Part::Sum(sum))?;
+                self.parts.put(alloc, Part::Sum(sum))?;
                 Ok(true)
             }
             Part::Count(count) => {
-                put(&mut self.parts, Part::Count(count))?;
+                self.parts.put(alloc, Part::Count(count))?;
                 Ok(true)
             }
             Part::Total(total) => {
-                put(&mut self.parts, Part::Total(total))?;
+                self.parts.put(alloc, Part::Total(total))?;
                 Ok(true)
             }
             Part::Created(created) => {
-                put(&mut self.parts, Part::Created(created))?;
+                self.parts.put(alloc, Part::Created(created))?;
                 Ok(true)
             }
         }

@@ -67,7 +67,7 @@ impl Groups {
             }
             None => {
                 let shared = shared_labels(alloc, kind, labels)?;
-                let mut table = Table::of(alloc, shared);
+                let mut table = Table::of(shared);
                 let added = table.add(alloc, kind, labels, part)?;
                 self.table = Some(Box::new(alloc, table)?);
                 Ok(added)

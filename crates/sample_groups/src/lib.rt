@@ -7,13 +7,12 @@ mod group;
 mod groups;
 mod others;
 mod part;
+mod part_list;
 mod parts;
 mod places;
 mod reading;
 mod shared;
 mod table;
-#[cfg(test)]
-mod tests;
 
 pub use added::Added;
 pub use groups::Groups;

@@ -86,13 +86,13 @@ fn put_all(
 }
 
 /// Puts a group without parts behind the others, where the place is there.
-fn put_new(alloc: Global, groups: &mut Vec<Group>, place: usize)
+fn put_new(groups: &mut Vec<Group>, place: usize)
     requires { vec_len groups.old < vec_capacity groups.old }
     ensures new { place ≡ length groups.old.items → groups.new.items ≡ groups.old.items ++ empty_group ∷ [] }
     ensures other { (place ≡ length groups.old.items → ⊥) → groups.new.items ≡ groups.old.items }
 {
     if place == groups.len() {
-        groups.push(Group::new(alloc)).unwrap();
+        groups.push(Group::new()).unwrap();
     }
 }
 
@@ -113,7 +113,7 @@ fn place_in(
     // So that nothing can fail behind the set.
     groups.reserve(1)?;
     let place = insert_shared(alloc, sets, kind, labels)?;
-    put_new(alloc, groups, place);
+    put_new(groups, place);
     Ok(place)
 }
 

@@ -89,12 +89,12 @@ fn is_other_overtaken(
 
 impl Table {
     /// One group without parts. It takes no memory.
-    pub(crate) fn of(alloc: Global, labels: LabelSet) -> Table
+    pub(crate) fn of(labels: LabelSet) -> Table
         ensures { result ≡ (labels, empty_group) ∷ [] }
     {
         Table {
             first_labels: labels,
-            first: Group::new(alloc),
+            first: Group::new(),
             others: None,
         }
     }
