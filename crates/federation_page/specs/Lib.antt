@@ -3,3 +3,4 @@ pub mod Conflicts
 pub mod Founding
 pub mod Gathering
 pub mod Laws
+pub mod SetsMade

@@ -19,9 +19,10 @@ ghost use Rattle.federation_page.specs.Candidates.{
   stays,
 };
 ghost use Rattle.federation_page.specs.Conflicts.{joined_by};
+ghost use Rattle.federation_page.specs.SetsMade.{AreMadeFor};
 
 use crate::names::{federated_kind, federated_name};
-use crate::targets::with_target;
+use crate::target_sets::TargetSets;
 use exact_decimal::{Number, less, of};
 use label_sets::{Kind, List, Memory, Name, SeriesKey, Text};
 use page_model::{Family, Reading, Shown, Value};
@@ -147,20 +148,23 @@ fn stays(kind: Kind, reading: &Reading) -> bool
 fn reading_under(
     alloc: Global,
     shown: &Shown,
+    sets: &mut TargetSets,
     key: &Name,
     kind: Kind,
     reading: &Reading,
 ) -> Result<Reading, Memory>
     requires named { HasNames shown.now }
+    requires made { AreMadeFor shown.now sets.old.made.items }
     requires free { AreFreeLabels reading.now.key.labels }
-    ensures { IfOk result (λ r. r ≡ reading_under shown.now key.now kind reading.now) }
+    ensures made { OnOk result (AreMadeFor shown.now sets.new.made.items) }
+    ensures reading { IfOk result (λ r. r ≡ reading_under shown.now key.now kind reading.now) }
 {
     Ok(Reading {
         key: SeriesKey {
             name: key.copy()?,
             kind,
             unit: reading.key.unit.copy()?,
-            labels: with_target(alloc, shown, &reading.key.labels)?,
+            labels: sets.with_target(alloc, shown, &reading.key.labels)?,
         },
         value: reading.value.copy()?,
         created: reading.created,
@@ -186,19 +190,22 @@ fn first_that_stays(family: &Family) -> Option<&Reading>
 fn readings_under(
     alloc: Global,
     shown: &Shown,
+    sets: &mut TargetSets,
     key: &Name,
     kind: Kind,
     family: &Family,
 ) -> Result<Vec<Reading>, Memory>
     requires named { HasNames shown.now }
+    requires made { AreMadeFor shown.now sets.old.made.items }
     requires free { All (λ (r : OneReading). AreFreeLabels r.key.labels) family.now.readings }
-    ensures { IfOk result (λ readings. readings.items ≡ map (reading_under shown.now key.now kind) (filter (stays family.now.kind) family.now.readings)) }
+    ensures made { OnOk result (AreMadeFor shown.now sets.new.made.items) }
+    ensures readings { IfOk result (λ readings. readings.items ≡ map (reading_under shown.now key.now kind) (filter (stays family.now.kind) family.now.readings)) }
 {
     let readings = family.readings.as_slice();
     let mut kept = Vec::with_capacity(alloc, readings.len())?;
     for reading in readings {
         if stays(family.kind, reading) {
-            kept.push(reading_under(alloc, shown, key, kind, reading)?)?;
+            kept.push(reading_under(alloc, shown, sets, key, kind, reading)?)?;
         }
     }
     Ok(kept)
@@ -208,16 +215,19 @@ fn readings_under(
 fn named_candidate(
     alloc: Global,
     shown: &Shown,
+    sets: &mut TargetSets,
     key: &Name,
     family: &Family,
 ) -> Result<Candidate, Memory>
     requires named { HasNames shown.now }
+    requires made { AreMadeFor shown.now sets.old.made.items }
     requires free { All (λ (r : OneReading). AreFreeLabels r.key.labels) family.now.readings }
-    ensures { IfOk result (λ candidate. candidate ≡ named_candidate shown.now key.now family.now) }
+    ensures made { OnOk result (AreMadeFor shown.now sets.new.made.items) }
+    ensures candidate { IfOk result (λ candidate. candidate ≡ named_candidate shown.now key.now family.now) }
 {
     let name = Name::from_str(alloc, federated_name(family.kind, key.as_str()))?;
     let kind = federated_kind(family.kind, key.as_str());
-    let readings = readings_under(alloc, shown, key, kind, family)?;
+    let readings = readings_under(alloc, shown, sets, key, kind, family)?;
     Ok(Candidate {
         name,
         kind,
@@ -231,11 +241,14 @@ fn named_candidate(
 pub(crate) fn candidate_of(
     alloc: Global,
     shown: &Shown,
+    sets: &mut TargetSets,
     family: &Family,
 ) -> Result<Option<Candidate>, Memory>
     requires named { HasNames shown.now }
+    requires made { AreMadeFor shown.now sets.old.made.items }
     requires formed { (format : Format) × IsFormedFamily format Scraped family.now }
-    ensures { IfOk result (λ candidate. candidate ≡ candidate_of shown.now family.now) }
+    ensures made { OnOk result (AreMadeFor shown.now sets.new.made.items) }
+    ensures candidate { IfOk result (λ candidate. candidate ≡ candidate_of shown.now family.now) }
 {
     if is_left_out(family.kind, &family.name) {
         return Ok(None);
@@ -243,6 +256,6 @@ pub(crate) fn candidate_of(
     let Some(first) = first_that_stays(family) else {
         return Ok(None);
     };
-    let candidate = named_candidate(alloc, shown, &first.key.name, family)?;
+    let candidate = named_candidate(alloc, shown, sets, &first.key.name, family)?;
     Ok(Some(candidate))
 }

@@ -8,9 +8,11 @@ ghost use Rattle.federation_page.specs.Candidates.{HasNames, IsFormedTarget, can
 ghost use Rattle.federation_page.specs.Conflicts.{with_candidates, with_option};
 ghost use Rattle.federation_page.specs.Founding.{AreFounders};
 ghost use Rattle.federation_page.specs.Gathering.{gathered_families};
+ghost use Rattle.federation_page.specs.SetsMade.{AreMadeFor};
 
 use crate::candidates::candidate_of;
 use crate::conflicts::Founders;
+use crate::target_sets::TargetSets;
 use label_sets::{List, Memory};
 use page_model::{Family, Shown};
 use std::alloc::Global;
@@ -19,31 +21,40 @@ use std::alloc::Global;
 fn take_family(
     alloc: Global,
     founders: &mut Founders,
+    sets: &mut TargetSets,
     target: &Shown,
     family: &Family,
 ) -> Result<(), Memory>
     requires kept { AreFounders founders.old }
     requires named { HasNames target.now }
+    requires made { AreMadeFor target.now sets.old.made.items }
     requires formed { (format : Format) × IsFormedFamily format Scraped family.now }
     ensures kept { OnOk result (AreFounders founders.new) }
+    ensures made { OnOk result (AreMadeFor target.now sets.new.made.items) }
     ensures taken { OnOk result (founders.new.families.items ≡ with_option founders.old.families.items (candidate_of target.now family.now)) }
 {
-    match candidate_of(alloc, target, family)? {
+    match candidate_of(alloc, target, sets, family)? {
         Some(candidate) => founders.take(candidate),
         None => Ok(()),
     }
 }
 
 /// Takes the families of a target in page order.
-fn take_target(alloc: Global, founders: &mut Founders, target: &Shown) -> Result<(), Memory>
+fn take_target(
+    alloc: Global,
+    founders: &mut Founders,
+    sets: &mut TargetSets,
+    target: &Shown,
+) -> Result<(), Memory>
     requires kept { AreFounders founders.old }
     requires able { IsFormedTarget target.now }
     ensures kept { OnOk result (AreFounders founders.new) }
     ensures taken { OnOk result (founders.new.families.items ≡ with_candidates founders.old.families.items (candidates_of target.now)) }
 {
+    sets.clear();
     let families = target.page.families().as_slice();
     for family in families {
-        take_family(alloc, founders, target, family)?;
+        take_family(alloc, founders, sets, target, family)?;
     }
     Ok(())
 }
@@ -54,8 +65,9 @@ pub(crate) fn gathered_families(alloc: Global, shown: &[Shown]) -> Result<List<F
     ensures { IfOk result (λ families. families ≡ gathered_families (flat_map candidates_of shown.now)) }
 {
     let mut founders = Founders::new(alloc);
+    let mut sets = TargetSets::new(alloc)?;
     for target in shown {
-        take_target(alloc, &mut founders, target)?;
+        take_target(alloc, &mut founders, &mut sets, target)?;
     }
     founders.into_families()
 }
