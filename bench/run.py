@@ -1,17 +1,18 @@
 #!/usr/bin/env python3
-"""Tells what a scrape costs `bridge run`: a page of 20,000 samples with 5 labels each over loopback, posted to a
+"""Tells what a scrape costs `bridge run`: two pages of 20,000 samples, one after the other, over loopback, posted to a
 collector there, at interval 0; and beside it what a scrape of the same stub costs Prometheus (Debian's package), in the
-same run.
+same run. One page has families of 100 samples with 5 labels each, the other is like a node exporter's.
 
     python3 bench/run.py [ROUNDS]
 
-Of both the time of the processor is told, of the bridge also its peak memory. A scrape may cost the bridge as much as
-Prometheus, and 64 MiB.
+Of both the time of the processor is told, of the bridge also its peak memory. They take turns, and the least time of
+each counts. A scrape may cost the bridge as much as Prometheus, and 64 MiB.
 """
 
 import multiprocessing
 import os
 import socketserver
+import subprocess
 import sys
 import tempfile
 import time
@@ -26,6 +27,7 @@ import prometheus  # noqa: E402
 SAMPLES = 20_000
 TARGET, COLLECTOR, PROMETHEUS = 19_231, 19_232, 19_233
 MOST_MIB = 64
+TURNS = 3
 
 
 class Server(socketserver.TCPServer):
@@ -35,9 +37,13 @@ class Server(socketserver.TCPServer):
     request_queue_size = 64
 
 
-def serve_page(scrapes) -> None:
+def node_page() -> bytes:
+    """The page like a node exporter's."""
+    return subprocess.check_output(["sh", "-c", f'. "$0" && node_page {SAMPLES}', os.path.join(TOP, "bench", "workspace.sh")])
+
+
+def serve_page(body: bytes, scrapes) -> None:
     """Answers every request with the page, and counts them."""
-    body = page(SAMPLES)
     head = b"HTTP/1.1 200 OK\r\nContent-Type: text/plain; version=0.0.4\r\nContent-Length: %d\r\n\r\n" % len(body)
     reply = head + body
 
@@ -104,24 +110,33 @@ def cost_of_prometheus(folder: str, scrapes: int, served) -> float:
         prometheus.stop(running)
 
 
-def main() -> int:
+def is_cheap(name: str, body: bytes) -> bool:
+    """Tells the costs of a page, and whether they are as low as asked."""
     scrapes = rounds(50)
     served = multiprocessing.Value("i", 0)
-    servers = [
-        multiprocessing.Process(target=serve_page, args=(served,), daemon=True),
-        multiprocessing.Process(target=take_bodies, daemon=True),
-    ]
-    for server in servers:
-        server.start()
+    server = multiprocessing.Process(target=serve_page, args=(body, served), daemon=True)
+    server.start()
     time.sleep(1)
-    with tempfile.TemporaryDirectory() as folder:
-        took, peak = cost_of_run(folder, scrapes)
-        beside = cost_of_prometheus(folder, scrapes, served)
+    runs, besides = [], []
+    for _ in range(TURNS):
+        with tempfile.TemporaryDirectory() as folder:
+            runs.append(cost_of_run(folder, scrapes))
+            besides.append(cost_of_prometheus(folder, scrapes, served))
+    server.terminate()
+    server.join()
+    took, peak, beside = min(run[0] for run in runs), max(run[1] for run in runs), min(besides)
     print(
-        f"a scrape of {SAMPLES} samples: bridge run {took * 1e3:.0f} ms of the processor, {peak:.0f} MiB;"
-        f" Prometheus {beside * 1e3:.0f} ms; ratio {took / beside:.2f}"
+        f"a scrape of {SAMPLES} samples {name} ({len(body) / 1e6:.1f} MB): bridge run {took * 1e3:.1f} ms of the processor,"
+        f" {peak:.0f} MiB; Prometheus {beside * 1e3:.1f} ms; ratio {took / beside:.2f}"
     )
-    return 0 if took <= beside and peak <= MOST_MIB else 1
+    return took <= beside and peak <= MOST_MIB
+
+
+def main() -> int:
+    collector = multiprocessing.Process(target=take_bodies, daemon=True)
+    collector.start()
+    pages = {"in families of 100": page(SAMPLES), "like a node exporter's": node_page()}
+    return 0 if all([is_cheap(name, body) for name, body in pages.items()]) else 1
 
 
 if __name__ == "__main__":
