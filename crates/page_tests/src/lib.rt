@@ -3,30 +3,8 @@
 #![tactic(auto)]
 
 #[cfg(test)]
-mod histogram_layout_calls;
-#[cfg(test)]
-mod label_sets_calls;
-#[cfg(test)]
-mod line_scan_calls;
-#[cfg(test)]
 mod openmetrics_grammar_calls;
 #[cfg(test)]
-mod otlp_json_calls;
-#[cfg(test)]
-mod packed_keys_calls;
-#[cfg(test)]
-mod page_lines_calls;
-#[cfg(test)]
-mod plain_words_calls;
-#[cfg(test)]
 mod sample_groups_calls;
-#[cfg(test)]
-mod staleness_calls;
-#[cfg(test)]
-mod start_times_calls;
-#[cfg(test)]
-mod target_core_calls;
-#[cfg(test)]
-mod text_emitter_calls;
 #[cfg(test)]
 mod text_grammar_calls;

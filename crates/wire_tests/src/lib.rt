@@ -3,21 +3,11 @@
 #![tactic(auto)]
 
 #[cfg(test)]
-mod bridge_config_calls;
-#[cfg(test)]
-mod bridge_ports_calls;
-#[cfg(test)]
 mod http_talk_calls;
-#[cfg(test)]
-mod load_pages_calls;
-#[cfg(test)]
-mod memory_world_calls;
 #[cfg(test)]
 mod otlp_sender_calls;
 #[cfg(test)]
 mod page_server_calls;
-#[cfg(test)]
-mod replay_script_calls;
 #[cfg(test)]
 mod run_report_calls;
 #[cfg(test)]

@@ -8,7 +8,7 @@ use Rattle.bridge_ports.specs.declared.memory_world.MemoryListen.{MemoryListen}
 use Rattle.bridge_ports.specs.MemoryWorlds.{FileState}
 use Rattle.bridge_ports.specs.WorldMaking.{is_one_path, is_one_number, is_one_address, IsRightPair, IsRightListen, MayBeMade}
 use Rattle.memory_world.specs.WorldParts.{file_given, fresh_pair, listen_given}
-use Rattle.wire_tests.proofs.memory_world_calls.world.Goals as goal
+use Rattle.script_tests.proofs.memory_world_calls.world.Goals as goal
 
 none_is_distinct : {K : Type 0} (e : K → K → Bool) → IsDistinct e []
 unfolding IsDistinct

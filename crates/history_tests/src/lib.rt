@@ -1,0 +1,14 @@
+//! Tests of the crates below, each in a module of its name: what no clause says. They stand here, since a crate with
+//! tests is proved once more for them.
+#![tactic(auto)]
+
+#[cfg(test)]
+mod histogram_layout_calls;
+#[cfg(test)]
+mod otlp_json_calls;
+#[cfg(test)]
+mod staleness_calls;
+#[cfg(test)]
+mod start_times_calls;
+#[cfg(test)]
+mod target_core_calls;
