@@ -274,7 +274,7 @@ import time
 
 WORK, SAMPLES = sys.argv[1], 100 * int(sys.argv[2])
 MOST_RATIO = 2
-TURNS = (1, 9)
+TURNS = (1, 4)
 
 
 def seconds(form: str, turns: int) -> float:
@@ -299,7 +299,7 @@ def a_sample(few: float, many: float) -> float:
 
 
 least = {(form, turns): float("inf") for form in ("gather", "write") for turns in TURNS}
-for _ in range(9):
+for _ in range(7):
     for key in least:
         least[key] = min(least[key], seconds(*key))
 times = {form: a_sample(least[form, TURNS[0]], least[form, TURNS[1]]) for form in ("gather", "write")}
