@@ -12,7 +12,7 @@ use Rattle.http_talk.specs.declared.chunk_place.ChunkPlace.{ChunkPlace}
 use Rattle.http_talk.specs.declared.chunk_place.ChunkPlace.TheVariants as places
 use Rattle.http_talk.specs.Heads.{HeadRead, unfinished, missing, found, head_cause, format_of, framing_of, Framing, in_chunks, to_the_end, of_length, is_long}
 use Rattle.http_talk.specs.Chunks.{Chunks, with_bytes, with_byte, no_chunks, place_after, held_after, is_body_end, is_wrong, is_too_much, is_certain}
-use Rattle.http_talk.specs.Replies.{Judged, waits, goes_on, decided, Verdict, refused, whole, judged, head_judged, body_judged, sized_body, open_body, or_waits, chunks_verdict, IsJudged}
+use Rattle.http_talk.specs.Replies.{Judged, waits, goes_on, decided, refused, whole, judged, head_judged, body_judged, or_waits, chunks_verdict, IsJudged}
 use Rattle.http_talk.proofs.Short.{not_long}
 
 -- a body that is known has at most so many bytes

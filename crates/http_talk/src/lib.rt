@@ -17,4 +17,4 @@ pub use fault::{Body, Progress, ReplyFault};
 pub use head::status_of;
 pub use reply::Reply;
 pub use seen::HeadSeen;
-pub use texts::{get_text, post_text};
+pub use texts::{get_text, post_head, post_text};

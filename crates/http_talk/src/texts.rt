@@ -1,7 +1,7 @@
 //! The texts of requests (RFC 9112, sections 3 and 5).
-ghost use Rattle.std.specs.Prelude.{◌≡◌, ◌++◌, IfOk, codes, fold, length};
+ghost use Rattle.std.specs.Prelude.{◌≡◌, ◌++◌, IfOk, codes, fold};
 ghost use Rattle.std.specs.Fmt.{decimal};
-ghost use Rattle.http_talk.specs.Requests.{line, host_of, get_request, post_request};
+ghost use Rattle.http_talk.specs.Requests.{line, host_of, get_request, post_head, post_request};
 
 use bridge_ports::Address;
 use label_sets::{Bytes, Memory};
@@ -41,11 +41,11 @@ fn emit_host<E: Emitter>(out: &mut E, to: &Address)
 
 /// Emits the line that tells the length of a body.
 #[tactic(auto, unfolding(crate::specs::Requests::line))]
-fn emit_length<E: Emitter>(out: &mut E, body: &[u8])
-    ensures { out.new ≡ fold E.push out.old (line (codes "Content-Length: " ++ decimal (length body.now))) }
+fn emit_length<E: Emitter>(out: &mut E, len: u64)
+    ensures { out.new ≡ fold E.push out.old (line (codes "Content-Length: " ++ decimal len)) }
 {
     out.put(b"Content-Length: ");
-    out.put_integer(body.len() as u64);
+    out.put_integer(len);
     out.put(b"\r\n");
 }
 
@@ -72,6 +72,27 @@ impl Emit for Get<'_> {
     }
 }
 
+/// The head of a request that carries so many bytes to a collector.
+#[derive(Clone, Copy)]
+struct PostHead<'a> {
+    to: &'a Address,
+    len: u64,
+}
+
+impl Emit for PostHead<'_> {
+    ghost text = { λ head. post_head head.to.now head.len };
+
+    #[tactic(auto, unfolding(crate::specs::Requests::post_head))]
+    fn emit<E: Emitter>(&self, out: &mut E) {
+        emit_target(out, b"POST ", self.to);
+        emit_host(out, self.to);
+        emit_line(out, b"Content-Type: application/json");
+        emit_length(out, self.len);
+        emit_line(out, b"Connection: close");
+        emit_line(out, b"");
+    }
+}
+
 /// The request that carries a body to a collector.
 #[derive(Clone, Copy)]
 struct Post<'a> {
@@ -84,12 +105,11 @@ impl Emit for Post<'_> {
 
     #[tactic(auto, unfolding(crate::specs::Requests::post_request))]
     fn emit<E: Emitter>(&self, out: &mut E) {
-        emit_target(out, b"POST ", self.to);
-        emit_host(out, self.to);
-        emit_line(out, b"Content-Type: application/json");
-        emit_length(out, self.body);
-        emit_line(out, b"Connection: close");
-        emit_line(out, b"");
+        let head = PostHead {
+            to: self.to,
+            len: self.body.len() as u64,
+        };
+        head.emit(out);
         out.put(self.body);
     }
 }
@@ -108,6 +128,14 @@ pub fn get_text(alloc: Global, to: &Address) -> Result<Bytes, Memory>
     ensures { IfOk result (λ text. text ≡ get_request to.now) }
 {
     text_bytes(alloc, &Get { to })
+}
+
+/// The head of the request that carries a body of so many bytes in JSON to the collector at this address: what stands
+/// before the body, so that a long one can be sent from where it lies.
+pub fn post_head(alloc: Global, to: &Address, len: u64) -> Result<Bytes, Memory>
+    ensures { IfOk result (λ text. text ≡ post_head to.now len) }
+{
+    text_bytes(alloc, &PostHead { to, len })
 }
 
 /// The request that carries a body in JSON to the collector at this address.

@@ -78,6 +78,33 @@ broke_off text at w now new before after later rose = record {
   rose = subst (λ v. Rose v.faults new.faults) before rose;
 }
 
+-- ---- a text in two parts
+
+pub sent_parts : (front rest : List ℕ) (w now new : WireState) → now ≡ sent_on front w → new ≡ sent_on rest now → new ≡ sent_on (front ++ rest) w
+sent_parts front rest w now new before after = after ∙ ap (λ v. sent_on rest v) before ∙ sent_more front rest w
+
+-- a write failed in the first
+pub broke_front : (front rest : List ℕ) (w new : WireState) → BrokeOff front w new → BrokeOff (front ++ rest) w new
+broke_front front rest w new b = record {
+  sent = b.sent;
+  rest = b.rest ++ rest;
+  text_is = ap (λ xs. xs ++ rest) b.text_is ∙ append_assoc b.sent b.rest rest;
+  state = b.state;
+  later = b.later;
+  rose = b.rose;
+}
+
+-- a write failed in the second
+pub broke_rest : (front rest : List ℕ) (w now new : WireState) → now ≡ sent_on front w → BrokeOff rest now new → BrokeOff (front ++ rest) w new
+broke_rest front rest w now new before b = record {
+  sent = front ++ b.sent;
+  rest = b.rest;
+  text_is = ap (λ xs. front ++ xs) b.text_is ∙ sym (append_assoc front b.sent b.rest);
+  state = b.state ∙ ap (λ v. failed_at ends.WriteFailed new.faults (sent_on b.sent v)) before ∙ ap (λ v. failed_at ends.WriteFailed new.faults v) (sent_more front b.sent w);
+  later = subst (λ v. v.faults ≤ new.faults) before b.later;
+  rose = subst (λ v. Rose v.faults new.faults) before b.rose;
+}
+
 -- ---- bytes read behind others
 
 pub got_front : (buffer into : List ℕ) (filled room count : ℕ) → filled ≤ length buffer → count ≤ length into → take (filled + count) (put_mid filled room buffer into) ≡ take filled buffer ++ take count into

@@ -7,4 +7,4 @@ mod posted;
 mod sending;
 
 pub use posted::{Posted, Try};
-pub use sending::post;
+pub use sending::{post, post_parts};

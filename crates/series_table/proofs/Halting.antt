@@ -1,5 +1,5 @@
 -- A visit that finds no memory keeps what a track keeps.
-use Rattle.std.proofs.Common.{◌≡◌, ℕ, ◌≤◌, Bool, true, false, inl, inr, List, [], ◌∷◌, ◌++◌, length, Option, Some, None, is_some, refl, sym, ap, subst, ◌∙◌, arith}
+use Rattle.std.proofs.Common.{◌≡◌, Bool, true, false, inl, inr, List, [], ◌∷◌, Option, is_some, refl, sym, ap, subst, ◌∙◌, arith}
 use Rattle.std.specs.Prelude.{if◌then◌else◌}
 use Rattle.std.proofs.lemmas.Option.{same_Some}
 use Rattle.page_model.specs.declared.event.Shown.{Shown}
@@ -9,8 +9,8 @@ use Rattle.target_core.specs.States.{Following}
 use Rattle.scrape_client.specs.Scraping.{GrewByOne, IsCutShort}
 use Rattle.series_table.specs.declared.aim.Aim.{Aim}
 use Rattle.series_table.specs.declared.counts.Counts.{Counts}
-use Rattle.series_table.specs.Talking.{Talking, Followed}
-use Rattle.series_table.specs.Records.{Kept, IsTrack, IsFree, IsHalted, IsHalt, PostsWhatItsTalksTell, talks_of, further_talks}
+use Rattle.series_table.specs.Talking.{Talking}
+use Rattle.series_table.specs.Records.{Kept, IsTrack, IsHalted, IsHalt, PostsWhatItsTalksTell, talks_of}
 use Rattle.series_table.specs.Keeping.{followed_by, kept_by}
 use Rattle.series_table.proofs.Tellings.{tells_before, tells_both, tells_on}
 use Rattle.series_table.proofs.Histories.{talk_follows}

@@ -1,16 +1,15 @@
 -- What a target shows, and the pages of its scrapes.
-use Rattle.std.proofs.Common.{◌≡◌, ℕ, ◌≤◌, List, [], ◌∷◌, refl, sym, subst, arith}
+use Rattle.std.proofs.Common.{ℕ, List, [], ◌∷◌, refl, arith}
 use Rattle.page_model.specs.declared.event.Event.{Event}
 use Rattle.page_model.specs.declared.event.Outcome.{Outcome}
 use Rattle.page_model.specs.declared.event.Outcome.TheVariants as outcomes
-use Rattle.page_model.specs.declared.event.Shown.{Shown}
 use Rattle.page_model.specs.declared.format.Treatment.TheVariants.{Scraped}
 use Rattle.page_model.specs.declared.page.Page.{Page}
 use Rattle.page_model.specs.Presence.{page_of_outcome, empty_page}
 use Rattle.page_model.specs.Laws.{DistinctKeys, NothingIsRight}
 use Rattle.page_model.specs.Written.{text_setting}
 use Rattle.start_times.specs.Advancing.{HasDistinctKeys}
-use Rattle.start_times.specs.Scrapes.{scrapes_of, scrape_after}
+use Rattle.start_times.specs.Scrapes.{scrape_after}
 use Rattle.target_core.specs.Events.{latest_shown}
 use Rattle.scrape_client.specs.Scraping.{IsWithinLimit}
 use Rattle.series_table.specs.Talking.{Followed}

@@ -1,16 +1,13 @@
 -- What a scrape and the step behind it make.
-use Rattle.std.proofs.Common.{◌≡◌, ℕ, Bool, inl, inr, List, [], ◌∷◌, length, Option, Some, None, refl, sym, ap, subst, ◌∙◌}
+use Rattle.std.proofs.Common.{◌≡◌, ℕ, inr, ◌∷◌, length, Option, Some, None, ap, ◌∙◌}
 use Rattle.page_model.specs.declared.event.Event.{Event}
-use Rattle.page_model.specs.declared.event.Shown.{Shown}
 use Rattle.page_model.specs.Presence.{page_of_outcome}
 use Rattle.page_model.specs.Laws.{DistinctKeys, NothingIsRight}
 use Rattle.bridge_ports.specs.declared.talk.Address.{Address}
 use Rattle.bridge_ports.specs.Talks.{ToldTalks, Tells, WireState, made_ready}
-use Rattle.otlp_tree.specs.declared.tree.Request.{Request}
 use Rattle.otlp_json.specs.Texts.{request_text}
 use Rattle.http_talk.specs.Requests.{post_request}
-use Rattle.target_core.specs.Events.{request_after, latest_shown}
-use Rattle.target_core.specs.States.{Following, StandsFor, Steps}
+use Rattle.target_core.specs.States.{Following, Steps}
 use Rattle.scrape_client.specs.Scraping.{GrewByEvent, GrewByOne, IsScrape, IsCutShort}
 use Rattle.series_table.specs.declared.aim.Aim.{Aim}
 use Rattle.series_table.specs.declared.making.Taken.{Taken}

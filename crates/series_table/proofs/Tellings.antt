@@ -1,5 +1,5 @@
 -- What a wire tells before and after.
-use Rattle.std.proofs.Common.{◌≡◌, List, Option, Some, None, option_map, is_some, refl, sym, ap, subst, ◌∙◌}
+use Rattle.std.proofs.Common.{◌≡◌, List, Option, Some, None, option_map, is_some, refl, sym, subst, ◌∙◌}
 use Rattle.std.proofs.lemmas.Option.{none-some, same_Some}
 use Rattle.bridge_ports.specs.declared.talk.Talk.{Talk}
 use Rattle.bridge_ports.specs.Talks.{ToldTalks, Tells}

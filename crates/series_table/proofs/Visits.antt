@@ -1,12 +1,12 @@
 -- A visit that was made keeps what a track keeps, and is one event more.
-use Rattle.std.proofs.Common.{◌≡◌, ℕ, ◌+◌, ◌≤◌, ◌<◌, Bool, true, false, suc, List, [], ◌∷◌, ◌++◌, length, Option, Some, None, is_some, refl, sym, ap, subst, ◌∙◌, arith}
+use Rattle.std.proofs.Common.{◌≡◌, ℕ, ◌<◌, Bool, false, suc, List, ◌∷◌, length, Option, Some, refl, sym, ap, subst, ◌∙◌, arith}
 use Rattle.page_model.specs.declared.event.Event.{Event}
 use Rattle.page_model.specs.declared.event.Shown.{Shown}
 use Rattle.bridge_ports.specs.declared.talk.Talk.{Talk}
 use Rattle.bridge_ports.specs.Talks.{ToldTalks, Tells, WireState, AllowsTalks, made_ready}
 use Rattle.bridge_ports.specs.declared.talk.Stage.TheVariants as stages
-use Rattle.target_core.specs.Events.{request_after, latest_shown}
-use Rattle.target_core.specs.States.{Following, StandsFor}
+use Rattle.target_core.specs.Events.{request_after}
+use Rattle.target_core.specs.States.{Following}
 use Rattle.otlp_sender.specs.declared.posted.Posted.{Posted}
 use Rattle.otlp_sender.specs.declared.posted.Try.{Try}
 use Rattle.otlp_sender.specs.Posting.{IsPosting, GrewByRun, posted_of}
@@ -16,7 +16,7 @@ use Rattle.series_table.specs.declared.counts.Counts.{Counts}
 use Rattle.series_table.specs.declared.making.Prepared.{Prepared}
 use Rattle.series_table.specs.Talking.{Followed}
 use Rattle.series_table.specs.HttpTalks.{talking}
-use Rattle.series_table.specs.Emission.{IsHistoryOf, tracking_of, post_text_after}
+use Rattle.series_table.specs.Emission.{tracking_of, post_text_after}
 use Rattle.series_table.specs.Counting.{with_visit, visit_counts, has_failed}
 use Rattle.series_table.specs.Making.{IsMade, IsPrepared, point_counts}
 use Rattle.series_table.specs.Records.{Kept, IsTrack, IsDone, IsShownOf, BodiesOf, talks_of}

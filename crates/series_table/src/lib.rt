@@ -5,6 +5,7 @@ mod aim;
 mod counts;
 mod making;
 mod point_counts;
+mod post_text;
 mod track;
 mod visited;
 

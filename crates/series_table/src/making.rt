@@ -10,9 +10,9 @@ ghost use Rattle.series_table.specs.Making.{due_after, TakesEvent, ShowsTwice, P
 
 use crate::aim::Aim;
 use crate::point_counts::{PointCounts, of_tree};
+use crate::post_text::PostText;
 use bridge_ports::{Address, Wire};
-use http_talk::post_text;
-use label_sets::{Bytes, Memory};
+use label_sets::Memory;
 use otlp_json::write;
 use otlp_tree::Request;
 use page_model::{Event, Outcome, Shown, page_laws};
@@ -36,7 +36,7 @@ pub(crate) struct Prepared {
     pub(crate) failed: bool,
     pub(crate) points: PointCounts,
     /// The request that is posted.
-    pub(crate) text: Bytes,
+    pub(crate) text: PostText,
     pub(crate) shown: Shown,
     pub(crate) second: Shown,
 }
@@ -98,19 +98,19 @@ fn take_event<W: Wire>(
     }
 }
 
-/// The request that posts a tree's text. The one before was so long: this one is written in room for it and an eighth
-/// more, so that a text that is much like it is not moved while it grows.
+/// The request that posts a tree's text. The text before was so long: this one is written in room for it and an eighth
+/// more, so that one that is much like it is not moved while it grows.
 fn body_request(
     alloc: Global,
     to: &Address,
     tree: &Request,
     last_len: usize,
-) -> Result<Bytes, Memory>
+) -> Result<PostText, Memory>
     ensures { IfOk result (λ text. text ≡ post_request to.now (request_text tree.now)) }
 {
     let mut body = Vec::with_capacity(alloc, last_len.saturating_add(last_len / 8))?;
     write(tree, &mut body)?;
-    post_text(alloc, to, body.as_slice())
+    PostText::new(alloc, to, body)
 }
 
 /// What a state shows, twice.
@@ -148,7 +148,7 @@ pub(crate) fn prepare<W: Wire>(
     let Ok((shown, second)) = shown_twice(state) else {
         return Err(AllocError);
     };
-    match post.ready(alloc, aim.settings.tries, text.len() as u64) {
+    match post.ready(alloc, aim.settings.tries, text.len()) {
         Ok(()) => Ok(Prepared {
             reading: taken.reading,
             failed: taken.failed,

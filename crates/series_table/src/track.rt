@@ -14,7 +14,7 @@ use crate::making::{due_after, prepare};
 use crate::visited::Visited;
 use bridge_ports::{Address, Settings, Target, Wire};
 use label_sets::Memory;
-use otlp_sender::post;
+use otlp_sender::post_parts;
 use page_model::{Shown, page_laws};
 use std::alloc::Global;
 use std::marker::Model;
@@ -34,7 +34,7 @@ pub struct Track<W: Wire> {
     second: Option<Shown>,
     counts: Counts,
     halted: bool,
-    /// How long the last request was, in bytes: the next one mostly is about as long.
+    /// How long the last body was, in bytes: the next one mostly is about as long.
     last_len: usize,
 }
 
@@ -149,12 +149,9 @@ impl<W: Wire> Track<W> {
             self.last_len,
         ) {
             Ok(made) => {
-                let posted = post(
-                    &mut self.post,
-                    made.text.as_slice(),
-                    self.aim.settings.tries,
-                );
-                self.last_len = made.text.len();
+                let (head, body) = made.text.parts();
+                let posted = post_parts(&mut self.post, head, body, self.aim.settings.tries);
+                self.last_len = body.len();
                 self.first = Some(self.first.unwrap_or(made.reading));
                 self.counts = self.counts.with_visit(made.failed, made.points, posted);
                 self.shown = made.shown;

@@ -21,11 +21,11 @@ invariant_of-self g c =
     let made = c.in-Ok.made in
     let state = g.W.Wire.state in
     let few : inside.counts.visits < 1000000 = subst (λ (k : Kept). k.counts.visits < 1000000) (sym c.self.view_is) c.requires in
-    let done : IsPosting inside.aim.settings.tries made.text (state c.prepare.new.post) (state c.post-posted.new.wire) c.post-posted.result =
-    subst (λ (text : List ℕ). IsPosting inside.aim.settings.tries text (state c.prepare.new.post) (state c.post-posted.new.wire) c.post-posted.result) c.as_slice.ensures c.post-posted.ensures in
-    subst (λ (counts : Counts). IsTrack talking (kept_by inside.aim (state c.prepare.new.wire) (state c.post-posted.new.wire) c.prepare.new.state made.shown (Some made.second) counts inside.halted)) (sym c.with_visit-self-inside.ensures)
-    (track_goes_on inside.aim (state inside.scrape) (state c.prepare.new.wire) (state inside.post) (state c.prepare.new.post) (state c.post-posted.new.wire) inside.state c.prepare.new.state inside.shown inside.second inside.counts inside.halted
-    made c.in-Ok.ensures.0 c.post-posted.result c.self.invariant c.if-self.false few c.in-Ok.ensures.1 done)
+    let done : IsPosting inside.aim.settings.tries made.text (state c.prepare.new.post) (state c.post_parts-posted.new.wire) c.post_parts-posted.result =
+    subst (λ (text : List ℕ). IsPosting inside.aim.settings.tries text (state c.prepare.new.post) (state c.post_parts-posted.new.wire) c.post_parts-posted.result) c.parts.ensures c.post_parts-posted.ensures in
+    subst (λ (counts : Counts). IsTrack talking (kept_by inside.aim (state c.prepare.new.wire) (state c.post_parts-posted.new.wire) c.prepare.new.state made.shown (Some made.second) counts inside.halted)) (sym c.with_visit-self-inside.ensures)
+    (track_goes_on inside.aim (state inside.scrape) (state c.prepare.new.wire) (state inside.post) (state c.prepare.new.post) (state c.post_parts-posted.new.wire) inside.state c.prepare.new.state inside.shown inside.second inside.counts inside.halted
+    made c.in-Ok.ensures.0 c.post_parts-posted.result c.self.invariant c.if-self.false few c.in-Ok.ensures.1 done)
 
 pub invariant_of-self-in-Err : goal.invariant_of-self-in-Err
 invariant_of-self-in-Err g c =
@@ -40,13 +40,13 @@ returns-in-Ok-clause-visit g c =
     let made = c.in-Ok.made in
     let state = g.W.Wire.state in
     let few : inside.counts.visits < 1000000 = subst (λ (k : Kept). k.counts.visits < 1000000) (sym c.self.view_is) c.requires in
-    let done : IsPosting inside.aim.settings.tries made.text (state c.prepare.new.post) (state c.post-posted.new.wire) c.post-posted.result =
-    subst (λ (text : List ℕ). IsPosting inside.aim.settings.tries text (state c.prepare.new.post) (state c.post-posted.new.wire) c.post-posted.result) c.as_slice.ensures c.post-posted.ensures in
-    subst (λ (before : Kept). IsDone talking before (kept_by inside.aim (state c.prepare.new.wire) (state c.post-posted.new.wire) c.prepare.new.state made.shown (Some made.second) c.with_visit-self-inside.result inside.halted)) c.self.view_is
+    let done : IsPosting inside.aim.settings.tries made.text (state c.prepare.new.post) (state c.post_parts-posted.new.wire) c.post_parts-posted.result =
+    subst (λ (text : List ℕ). IsPosting inside.aim.settings.tries text (state c.prepare.new.post) (state c.post_parts-posted.new.wire) c.post_parts-posted.result) c.parts.ensures c.post_parts-posted.ensures in
+    subst (λ (before : Kept). IsDone talking before (kept_by inside.aim (state c.prepare.new.wire) (state c.post_parts-posted.new.wire) c.prepare.new.state made.shown (Some made.second) c.with_visit-self-inside.result inside.halted)) c.self.view_is
     (subst (λ (counts : Counts). IsDone talking (kept_by inside.aim (state inside.scrape) (state inside.post) inside.state inside.shown inside.second inside.counts inside.halted)
-    (kept_by inside.aim (state c.prepare.new.wire) (state c.post-posted.new.wire) c.prepare.new.state made.shown (Some made.second) counts inside.halted)) (sym c.with_visit-self-inside.ensures)
-    (visit_done inside.aim (state inside.scrape) (state c.prepare.new.wire) (state inside.post) (state c.prepare.new.post) (state c.post-posted.new.wire) inside.state c.prepare.new.state inside.shown inside.second inside.counts inside.halted
-    made c.in-Ok.ensures.0 c.post-posted.result c.self.invariant c.if-self.false few c.in-Ok.ensures.1 done))
+    (kept_by inside.aim (state c.prepare.new.wire) (state c.post_parts-posted.new.wire) c.prepare.new.state made.shown (Some made.second) counts inside.halted)) (sym c.with_visit-self-inside.ensures)
+    (visit_done inside.aim (state inside.scrape) (state c.prepare.new.wire) (state inside.post) (state c.prepare.new.post) (state c.post_parts-posted.new.wire) inside.state c.prepare.new.state inside.shown inside.second inside.counts inside.halted
+    made c.in-Ok.ensures.0 c.post_parts-posted.result c.self.invariant c.if-self.false few c.in-Ok.ensures.1 done))
 
 pub returns-in-Ok-clause-sentence : goal.returns-in-Ok-clause-sentence
 returns-in-Ok-clause-sentence g c = posts_what_talks_tell talking _ (invariant_of-self g c)
