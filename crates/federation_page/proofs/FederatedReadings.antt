@@ -4,7 +4,6 @@ use Rattle.std.specs.Prelude.{◌==◌, option_map}
 use Rattle.std.specs.List.{flat_map, AllByRecursion}
 use Rattle.std.proofs.lemmas.List.{length-append}
 use Rattle.label_sets.specs.declared.kind.Kind.{Kind}
-use Rattle.label_sets.specs.declared.kind.Kind.TheVariants as kinds
 use Rattle.label_sets.specs.declared.label.Label.{Label}
 use Rattle.label_sets.specs.declared.label_set.LabelSet.{LabelSet}
 use Rattle.label_sets.specs.Labels.{name_before, label_inserted}

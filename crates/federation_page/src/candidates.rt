@@ -85,6 +85,15 @@ impl Candidate {
         self.readings
     }
 
+    /// Makes room for so many readings in all.
+    pub(crate) fn make_room(&mut self, readings: usize) -> Result<(), Memory>
+        ensures { self.new ≡ self.old }
+    {
+        let more = readings.saturating_sub(self.readings.len());
+        self.readings.reserve(more)?;
+        Ok(())
+    }
+
     /// Takes the readings of another candidate behind its own, where both are one family.
     pub(crate) fn join(&mut self, other: Candidate) -> Result<(), Memory>
         ensures { OnOk result (self.new ≡ joined_by other self.old) }

@@ -105,8 +105,8 @@ impl Founders {
         Ok(())
     }
 
-    /// Adds a family of a name that none has, unless it shares a sample name.
-    fn take_new(&mut self, candidate: Candidate) -> Result<(), Memory>
+    /// Adds a family of a name that none has, unless it shares a sample name, with room for so many readings.
+    fn take_new(&mut self, candidate: Candidate, room: usize) -> Result<(), Memory>
         requires kept { AreFounders self.old }
         requires new { is_name_among self.old.names candidate.name ≡ false }
         ensures kept { OnOk result (AreFounders self.new) }
@@ -115,6 +115,8 @@ impl Founders {
         if self.shares_sample_name(&candidate)? {
             return Ok(());
         }
+        let mut candidate = candidate;
+        candidate.make_room(room)?;
         self.found(candidate)?;
         Ok(())
     }
@@ -130,15 +132,16 @@ impl Founders {
         Ok(())
     }
 
-    /// Adds a family, or its readings to the one that it is one with, unless it clashes.
-    pub(crate) fn take(&mut self, candidate: Candidate) -> Result<(), Memory>
+    /// Adds a family, or its readings to the one that it is one with, unless it clashes. A family that is new gets room
+    /// for so many readings.
+    pub(crate) fn take(&mut self, candidate: Candidate, room: usize) -> Result<(), Memory>
         requires kept { AreFounders self.old }
         ensures kept { OnOk result (AreFounders self.new) }
         ensures taken { OnOk result (self.new.families.items ≡ with_candidate self.old.families.items candidate) }
     {
         match self.names.find(candidate.name().as_bytes()) {
             Some(place) => self.join(place, candidate),
-            None => self.take_new(candidate),
+            None => self.take_new(candidate, room),
         }
     }
 

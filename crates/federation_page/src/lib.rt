@@ -16,6 +16,7 @@ mod candidates;
 mod conflicts;
 mod names;
 mod pages;
+mod rooms;
 mod target_sets;
 mod targets;
 #[cfg(test)]

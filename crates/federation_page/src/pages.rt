@@ -12,6 +12,7 @@ ghost use Rattle.federation_page.specs.SetsMade.{AreMadeFor};
 
 use crate::candidates::candidate_of;
 use crate::conflicts::Founders;
+use crate::rooms::Rooms;
 use crate::target_sets::TargetSets;
 use label_sets::{List, Memory};
 use page_model::{Family, Shown};
@@ -22,6 +23,7 @@ fn take_family(
     alloc: Global,
     founders: &mut Founders,
     sets: &mut TargetSets,
+    rooms: &Rooms,
     target: &Shown,
     family: &Family,
 ) -> Result<(), Memory>
@@ -34,7 +36,7 @@ fn take_family(
     ensures taken { OnOk result (founders.new.families.items ≡ with_option founders.old.families.items (candidate_of target.now family.now)) }
 {
     match candidate_of(alloc, target, sets, family)? {
-        Some(candidate) => founders.take(candidate),
+        Some(candidate) => founders.take(candidate, rooms.room(&family.name)),
         None => Ok(()),
     }
 }
@@ -44,6 +46,7 @@ fn take_target(
     alloc: Global,
     founders: &mut Founders,
     sets: &mut TargetSets,
+    rooms: &Rooms,
     target: &Shown,
 ) -> Result<(), Memory>
     requires kept { AreFounders founders.old }
@@ -54,7 +57,7 @@ fn take_target(
     sets.clear();
     let families = target.page.families().as_slice();
     for family in families {
-        take_family(alloc, founders, sets, target, family)?;
+        take_family(alloc, founders, sets, rooms, target, family)?;
     }
     Ok(())
 }
@@ -66,8 +69,9 @@ pub(crate) fn gathered_families(alloc: Global, shown: &[Shown]) -> Result<List<F
 {
     let mut founders = Founders::new(alloc);
     let mut sets = TargetSets::new(alloc)?;
+    let rooms = Rooms::of(alloc, shown)?;
     for target in shown {
-        take_target(alloc, &mut founders, &mut sets, target)?;
+        take_target(alloc, &mut founders, &mut sets, &rooms, target)?;
     }
     founders.into_families()
 }

@@ -111,13 +111,14 @@ fn candidate(alloc: Global, name: &str, kind: Kind, help: &str) -> Result<Candid
     })
 }
 
+/// Families of which one comes twice, and two clash. There is room for more readings of each than come, or for none.
 fn founded(alloc: Global) -> Result<List<Family>, Memory> {
     let mut founders = Founders::new(alloc);
-    founders.take(candidate(alloc, "y", Kind::Gauge, "first")?)?;
-    founders.take(candidate(alloc, "x", Kind::Summary, "")?)?;
-    founders.take(candidate(alloc, "y", Kind::Histogram, "")?)?;
-    founders.take(candidate(alloc, "x_sum", Kind::Unknown, "")?)?;
-    founders.take(candidate(alloc, "y", Kind::Gauge, "second")?)?;
+    founders.take(candidate(alloc, "y", Kind::Gauge, "first")?, 3)?;
+    founders.take(candidate(alloc, "x", Kind::Summary, "")?, 0)?;
+    founders.take(candidate(alloc, "y", Kind::Histogram, "")?, 3)?;
+    founders.take(candidate(alloc, "x_sum", Kind::Unknown, "")?, 1)?;
+    founders.take(candidate(alloc, "y", Kind::Gauge, "second")?, 3)?;
     founders.into_families()
 }
 

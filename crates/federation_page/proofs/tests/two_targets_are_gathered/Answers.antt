@@ -1,4 +1,4 @@
-use Rattle.std.proofs.Common.{◌≡◌, zero, suc, ◌&&◌, All, List, [], ◌∷◌, codes, bytes_eq, false, arith}
+use Rattle.std.proofs.Common.{◌≡◌, zero, suc, ◌&&◌, All, [], ◌∷◌, codes, bytes_eq, false, arith}
 use Rattle.std.specs.List.{IsDistinct}
 use Rattle.page_model.specs.declared.event.Shown.{Shown}
 use Rattle.federation_page.specs.Gathering.{is_one_target, IsShowable, AreShowable}
