@@ -14,7 +14,7 @@ use Rattle.bridge_ports.specs.declared.talk.Talk.{Talk}
 use Rattle.bridge_ports.specs.declared.talk.MemoryReply.{MemoryReply}
 use Rattle.bridge_ports.specs.Talks.{Plan, reply_of, no_reply, WireState}
 use Rattle.bridge_ports.specs.Plans.{IsTalkOf, EndsAs, AreTalksOf}
-use Rattle.http_talk.specs.Requests.{line, get_request, post_request}
+use Rattle.http_talk.specs.Requests.{line, get_request, post_head, post_request}
 use Rattle.http_talk.specs.Replies.{IsSent}
 use Rattle.http_talk.proofs.Laws.{whole_reply}
 use Rattle.otlp_sender.specs.declared.posted.Posted.{Posted}
@@ -89,7 +89,7 @@ unfolding get_request line
 get_some to e = true≢false (sym (ap is_empty e))
 
 post_some : (to : Address) (body : List ℕ) → post_request to body ≢ []
-unfolding post_request line
+unfolding post_request post_head line
 post_some to body e = true≢false (sym (ap is_empty e))
 
 -- ---- the talks of scrapes
