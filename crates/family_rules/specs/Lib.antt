@@ -2,6 +2,7 @@ pub mod LeftFamilies
 pub mod Rare
 pub mod KeyedValues
 pub mod GroupRuns
+pub mod GroupKeys
 pub mod Checking
 pub mod TakenLines
 pub mod Steps

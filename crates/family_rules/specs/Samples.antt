@@ -57,6 +57,10 @@ with_sample c key value = record c {
 abbrev pub with_part_in : Kind → LabelSet → Part → FamilySoFar → FamilySoFar
 with_part_in kind labels part f = record f { groups = with_part f.groups (shared_labels kind labels) part }
 
+-- the checker with other samples that it has seen
+abbrev pub with_seen : Checking → List (SampleKey × Number) → Checking
+with_seen c seen = record c { seen = seen }
+
 -- the current family has a part more in its groups
 abbrev pub with_part_at : Checking → Kind → LabelSet → Part → Checking
 with_part_at c kind labels part = with_current c (current_with (with_part_in kind labels part) c.current)
@@ -180,17 +184,24 @@ entered_by c kind labels = record c { runs = runs_with c.setting.format c.curren
 
 -- ---- a sample more
 
--- Interleaved or Duplicate, then what was told or Order, then TooMany
+-- Interleaved or Duplicate, then what was told or Order, then TooMany, of a sample with this key
+abbrev pub key_stop : Checking → Kind → SampleKey → Result (Option Part) Rule → Option Rule
+key_stop c kind key told =
+    if is_back c kind key.labels then Some rules.Interleaved
+    else if is_told_back c.setting.format kind key.labels told c.current then Some rules.Interleaved
+    else sample_stop c (own_samples c kind) key (part_stop kind key.labels told c.current)
+
+-- the current family has a sample with this key more
+abbrev pub with_key : Checking → Kind → SampleKey → Number → Result (Option Part) Rule → Checking
+with_key c kind key value told = with_sample (with_told (entered_by c kind key.labels) kind key.labels told) key value
+
+-- Interleaved or Duplicate, then what was told or Order, then TooMany, of a sample
 abbrev pub add_stop : Checking → Kind → Sample → Result (Option Part) Rule → Option Rule
-add_stop c kind s told = let labels = kept_labels c.setting.treatment s.labels in
-    if is_back c kind labels then Some rules.Interleaved
-    else if is_told_back c.setting.format kind labels told c.current then Some rules.Interleaved
-    else sample_stop c (own_samples c kind) (key_of c.setting s) (part_stop kind labels told c.current)
+add_stop c kind s told = key_stop c kind (key_of c.setting s) told
 
 -- the current family has the sample
 abbrev pub with_added : Checking → Kind → Sample → Result (Option Part) Rule → Checking
-with_added c kind s told = let labels = kept_labels c.setting.treatment s.labels in
-    with_sample (with_told (entered_by c kind labels) kind labels told) (key_of c.setting s) s.value
+with_added c kind s told = with_key c kind (key_of c.setting s) s.value told
 
 -- Interleaved or Suffix, of a sample whose name the current family's kind doesn't allow
 abbrev pub name_stop : Checking → Sample → Rule

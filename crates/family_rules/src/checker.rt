@@ -12,6 +12,7 @@ mod places;
 mod samples;
 
 use crate::family::{Current, Descriptor};
+use crate::group_keys::GroupKeys;
 use crate::keyed_values::KeyedValues;
 use crate::left::LeftFamilies;
 use crate::pages::families_in;
@@ -34,7 +35,11 @@ pub(crate) struct ItemChecker {
     current: Option<Current>,
     /// The groups of the current family, where the format has rule 12.
     runs: GroupRuns,
+    /// Which keys tell that a group of the current family is new.
+    group_keys: GroupKeys,
     seen: KeyedValues,
+    /// A page will be made, so that keys are kept as they are.
+    keeps: bool,
     samples: u32,
     /// A line `# EOF` was taken.
     ended: bool,
@@ -44,6 +49,7 @@ pub(crate) struct ItemChecker {
 
 impl Model for ItemChecker {
     ghost use Rattle.family_rules.specs.Checking.{Checking};
+    ghost use Rattle.family_rules.specs.GroupKeys.{TellTrue};
 
     ghost Value = { Checking };
 
@@ -57,6 +63,8 @@ impl Model for ItemChecker {
       ended = c.ended;
       stopped = c.stopped;
     } };
+
+    ghost invariant = { λ c. TellTrue c.group_keys c.current c.seen };
 }
 
 impl ItemChecker {
@@ -73,8 +81,7 @@ impl ItemChecker {
     ) -> Result<ItemChecker, Memory>
         ensures { IfOk result (λ c. Stands (record { format = format; treatment = treatment; limit = limit }) c []) }
     {
-        let seen = KeyedValues::new(alloc, true);
-        Ok(ItemChecker::over(alloc, format, treatment, limit, seen))
+        Ok(ItemChecker::over(alloc, format, treatment, limit, true))
     }
 
     /// The same, for a page that will be counted: it takes less memory, and `close` more time.
@@ -86,19 +93,17 @@ impl ItemChecker {
     ) -> Result<ItemChecker, Memory>
         ensures { IfOk result (λ c. Stands (record { format = format; treatment = treatment; limit = limit }) c []) }
     {
-        let seen = KeyedValues::new(alloc, false);
-        Ok(ItemChecker::over(alloc, format, treatment, limit, seen))
+        Ok(ItemChecker::over(alloc, format, treatment, limit, false))
     }
 
-    /// A checker that has taken no line and seen no key.
+    /// A checker that has taken no line.
     fn over(
         alloc: Global,
         format: Format,
         treatment: Treatment,
         limit: u32,
-        seen: KeyedValues,
+        keeps: bool,
     ) -> ItemChecker
-        requires { seen ≡ [] }
         ensures { Stands (record { format = format; treatment = treatment; limit = limit }) result [] }
     {
         ItemChecker {
@@ -109,7 +114,9 @@ impl ItemChecker {
             left: LeftFamilies::new(alloc),
             current: None,
             runs: GroupRuns::new(alloc),
-            seen,
+            group_keys: GroupKeys::NoGroups,
+            seen: KeyedValues::new(alloc, keeps),
+            keeps,
             samples: 0,
             ended: false,
             stopped: None,

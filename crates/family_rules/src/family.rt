@@ -70,7 +70,8 @@ impl FamilySoFar {
 
     /// Counts a sample more. A page has few enough samples that memory is never the answer in fact.
     pub fn count_sample(&mut self) -> Result<(), Memory>
-        ensures { OnOk result (self.new ≡ family_with_sample self.old) }
+        ensures counted { OnOk result (self.new ≡ family_with_sample self.old) }
+        ensures groups { self.new.groups ≡ self.old.groups }
     {
         match self.samples.checked_add(1) {
             Some(samples) => {
@@ -83,7 +84,8 @@ impl FamilySoFar {
 
     /// Keeps what a line says of it.
     pub fn describe(&mut self, alloc: Global, descriptor: Descriptor) -> Result<(), Memory>
-        ensures { OnOk result (self.new ≡ family_with descriptor self.old) }
+        ensures described { OnOk result (self.new ≡ family_with descriptor self.old) }
+        ensures groups { self.new.groups ≡ self.old.groups }
     {
         match descriptor {
             Descriptor::Help(text) => self.help = Some(text),

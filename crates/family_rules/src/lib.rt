@@ -5,6 +5,7 @@
 mod checker;
 mod exemplars;
 mod family;
+mod group_keys;
 mod keyed_values;
 mod left;
 mod page_checker;

@@ -56,7 +56,7 @@ fn put_label(out: &mut Vec<u8>, label: &Label) -> Result<(), Memory>
 }
 
 /// Adds the labels of a set, behind their number.
-fn put_labels(out: &mut Vec<u8>, labels: &LabelSet) -> Result<(), Memory>
+pub(crate) fn put_labels(out: &mut Vec<u8>, labels: &LabelSet) -> Result<(), Memory>
     ensures added { OnOk result (out.new.items ≡ out.old.items ++ labels_bytes labels.now) }
     ensures text { OnOk result (IsTextSet labels.now) }
 {

@@ -3,5 +3,6 @@ pub use Rattle.sample_groups.proofs.BesideLaws.{zip-snoc, present, beside_none, 
 pub use Rattle.sample_groups.proofs.Steps.{shared_group, one_part_more}
 pub use Rattle.sample_groups.proofs.Orders.{order_kept}
 pub use Rattle.sample_groups.proofs.Whole.{whole_kept}
+pub use Rattle.sample_groups.proofs.Beginning.{first_fits}
 pub use Rattle.sample_groups.proofs.Made.{readings_made}
 pub use Rattle.sample_groups.proofs.Cumulative.{AreRising, RiseToUp, whole_rise}

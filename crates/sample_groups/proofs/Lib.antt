@@ -11,5 +11,6 @@ pub mod Finds
 pub mod Adding
 pub mod Grown
 pub mod Placing
+pub mod Beginning
 pub mod BesideLaws
 pub mod Laws

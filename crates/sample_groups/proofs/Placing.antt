@@ -218,7 +218,7 @@ with_first labels first g es part own =
     ap (λ h. (first, with_one h part) ∷ es) (known_first labels first g es own)
     ∙ ap (λ b. cond b ((first, with_one (or_empty (known_group ((first, g) ∷ es) labels)) part) ∷ es) ((first, g) ∷ put_group es labels (with_one (or_empty (known_group ((first, g) ∷ es) labels)) part))) (sym own)
 
-with_other : (labels first : LabelSet) (g : Gathered) (es : List (LabelSet × Gathered)) (part : Part) → label_sets_eq labels first ≡ false → (first, g) ∷ with_part es labels part ≡ with_part ((first, g) ∷ es) labels part
+pub with_other : (labels first : LabelSet) (g : Gathered) (es : List (LabelSet × Gathered)) (part : Part) → label_sets_eq labels first ≡ false → (first, g) ∷ with_part es labels part ≡ with_part ((first, g) ∷ es) labels part
 unfolding with_part
 with_other labels first g es part other =
     ap (λ k. (first, g) ∷ put_group es labels (with_one (or_empty k) part)) (known_other labels first g es other)

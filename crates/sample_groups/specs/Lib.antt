@@ -8,6 +8,7 @@ pub mod Kept
 pub mod Beside
 pub mod PartLists
 pub mod Placing
+pub mod GroupSets
 pub mod Nearest
 pub mod Tables
 pub mod Families

@@ -106,6 +106,15 @@ impl Group {
         }
     }
 
+    /// A group of one part.
+    pub(crate) fn of(alloc: Global, part: Part) -> Result<Group, Memory>
+        ensures { IfOk result (λ group. group ≡ with_one empty_group part) }
+    {
+        let mut group = Group::new();
+        group.add(alloc, part)?;
+        Ok(group)
+    }
+
     /// Whether there is a quantile at this place.
     fn has_place(&self, at: &Decimal) -> bool
         ensures { result ≡ has_place self.now.quantiles at.now }

@@ -1,5 +1,5 @@
 //! The groups of one family, in the order of their first lines.
-ghost use Rattle.std.specs.Prelude.{◌≡◌, [], true, not, filter_map, IfOk};
+ghost use Rattle.std.specs.Prelude.{◌≡◌, [], true, not, filter_map, None, IfOk, OnOk};
 ghost use Rattle.std.specs.List.{list_all};
 ghost use Rattle.label_sets.specs.declared.label_set.LabelSet.{LabelSet as Labels};
 ghost use Rattle.sample_groups.specs.Groups.{Gathered, with_part, known_group, or_empty, breaks_order, is_overtaken, is_whole_group, reading_from, shared_labels};
@@ -43,6 +43,29 @@ impl Groups {
         ensures { result ≡ [] }
     {
         Groups { table: None }
+    }
+
+    /// Begins a group with a part of a sample whose labels are those of no group. All labels of the sample are the
+    /// group's: none tells it apart from others of its group, as with counters. `shared` says that the labels live on
+    /// beside the groups, where a copy of them takes least memory.
+    pub fn begin(
+        &mut self,
+        alloc: Global,
+        labels: &LabelSet,
+        part: Part,
+        shared: bool,
+    ) -> Result<(), Memory>
+        requires { known_group self.old labels.now ≡ None }
+        ensures { OnOk result (self.new ≡ with_part self.old labels.now part) }
+    {
+        match &mut self.table {
+            Some(table) => table.begin(alloc, labels, part, shared),
+            None => {
+                let table = Table::with(alloc, labels.copy()?, part)?;
+                self.table = Some(Box::new(alloc, table)?);
+                Ok(())
+            }
+        }
     }
 
     /// Adds a part of a sample with these labels to its group, unless it breaks the order of the group: a

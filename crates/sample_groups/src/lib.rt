@@ -4,6 +4,7 @@
 
 mod added;
 mod group;
+mod group_sets;
 mod groups;
 mod others;
 mod part;

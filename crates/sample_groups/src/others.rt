@@ -1,20 +1,20 @@
 //! The groups of a family behind its first one, found by their labels.
-ghost use Rattle.std.specs.Prelude.{◌≡◌, ◌<◌, [], ◌∷◌, ◌++◌, length, slice_get, vec_len, filter_map, Some, IfOk, OnOk, OnErr, IfSome};
+ghost use Rattle.std.specs.Prelude.{◌≡◌, ◌<◌, [], ◌∷◌, ◌++◌, length, slice_get, vec_len, filter_map, None, Some, IfOk, OnOk, OnErr, IfSome};
 ghost use Rattle.std.specs.List.{list_all, zip};
 ghost use Rattle.std.specs.Vec.{vec_capacity};
 ghost use Rattle.label_sets.specs.declared.label_set.LabelSet.{LabelSet as Labels};
 ghost use Rattle.label_sets.specs.Labels.{label_sets_eq};
 ghost use Rattle.sample_groups.specs.Beside.{AreBeside};
-ghost use Rattle.sample_groups.specs.Groups.{Gathered, empty_group, AddsPart, is_overtaken, is_whole_group, reading_named, shared_labels};
+ghost use Rattle.sample_groups.specs.Groups.{Gathered, empty_group, AddsPart, is_overtaken, is_whole_group, known_group, reading_named, shared_labels, with_part};
 ghost use Rattle.sample_groups.specs.Placing.{HasPlace};
 
 use crate::added::Added;
 use crate::group::Group;
+use crate::group_sets::GroupSets;
 use crate::part::Part;
 use crate::reading::put_reading;
-use crate::shared::{are_shared, insert_shared, shared_labels};
+use crate::shared::{are_shared, shared_labels};
 use label_sets::{Kind, LabelSet, Memory, Name, Text};
-use packed_keys::SeenSets;
 use page_model::Reading;
 use std::alloc::Global;
 use std::marker::Model;
@@ -26,10 +26,10 @@ pub(crate) struct Placed {
     labels: LabelSet,
 }
 
-/// Groups, each by the labels that its samples share, which are kept packed.
+/// Groups, each by the labels that its samples share.
 #[derive(Drop)]
 pub(crate) struct Others {
-    sets: SeenSets,
+    sets: GroupSets,
     groups: Vec<Group>,
     /// The group of the last part: the next part is mostly of the same group.
     nearest: Option<Placed>,
@@ -69,7 +69,7 @@ fn put_all(
     kind: Kind,
     name: &Name,
     unit: &Text,
-    sets: &SeenSets,
+    sets: &GroupSets,
     groups: Vec<Group>,
     readings: &mut Vec<Reading>,
 ) -> Result<(), Memory>
@@ -85,6 +85,14 @@ fn put_all(
     Ok(())
 }
 
+/// Puts a group behind the others.
+fn put(groups: &mut Vec<Group>, group: Group)
+    requires { vec_len groups.old < vec_capacity groups.old }
+    ensures { groups.new.items ≡ groups.old.items ++ group ∷ [] }
+{
+    groups.push(group).unwrap();
+}
+
 /// Puts a group without parts behind the others, where the place is there.
 fn put_new(groups: &mut Vec<Group>, place: usize)
     requires { vec_len groups.old < vec_capacity groups.old }
@@ -92,14 +100,14 @@ fn put_new(groups: &mut Vec<Group>, place: usize)
     ensures other { (place ≡ length groups.old.items → ⊥) → groups.new.items ≡ groups.old.items }
 {
     if place == groups.len() {
-        groups.push(Group::new()).unwrap();
+        put(groups, Group::new());
     }
 }
 
 /// The place of a sample's group, which is a new one behind the others where there was none.
 fn place_in(
     alloc: Global,
-    sets: &mut SeenSets,
+    sets: &mut GroupSets,
     groups: &mut Vec<Group>,
     kind: Kind,
     labels: &LabelSet,
@@ -112,18 +120,18 @@ fn place_in(
 {
     // So that nothing can fail behind the set.
     groups.reserve(1)?;
-    let place = insert_shared(alloc, sets, kind, labels)?;
+    let place = sets.insert(alloc, kind, labels)?;
     put_new(groups, place);
     Ok(place)
 }
 
 impl Others {
-    /// No groups. It takes no memory.
-    pub(crate) fn new(alloc: Global) -> Others
+    /// No groups. It takes no memory. `shared` says that labels of groups that begin live on beside these.
+    pub(crate) fn new(alloc: Global, shared: bool) -> Others
         ensures { result ≡ [] }
     {
         Others {
-            sets: SeenSets::new(alloc),
+            sets: GroupSets::new(alloc, shared),
             groups: Vec::new(alloc),
             nearest: None,
         }
@@ -167,6 +175,29 @@ impl Others {
             Some(place) => Ok(place),
             None => self.place_of(alloc, kind, labels),
         }
+    }
+
+    /// Begins a group with a part of a sample whose labels, all of which the group has, are those of no group.
+    pub(crate) fn begin(
+        &mut self,
+        alloc: Global,
+        labels: &LabelSet,
+        part: Part,
+    ) -> Result<(), Memory>
+        requires { known_group self.old labels.now ≡ None }
+        ensures { OnOk result (self.new ≡ with_part self.old labels.now part) }
+    {
+        let group = Group::of(alloc, part)?;
+        let nearest = Placed {
+            place: self.groups.len(),
+            labels: labels.copy()?,
+        };
+        // So that nothing can fail behind the set.
+        self.groups.reserve(1)?;
+        self.sets.push(alloc, labels)?;
+        put(&mut self.groups, group);
+        self.nearest = Some(nearest);
+        Ok(())
     }
 
     /// Adds a part of a sample of this kind with these labels to its group, unless it breaks the order of

@@ -1,8 +1,8 @@
 //! The groups of a family that has some, in the order of their first lines.
-ghost use Rattle.std.specs.Prelude.{◌≡◌, [], ◌∷◌, filter_map, length, nat_lt, IfOk};
+ghost use Rattle.std.specs.Prelude.{◌≡◌, [], ◌∷◌, filter_map, length, nat_lt, None, IfOk, OnOk};
 ghost use Rattle.std.specs.List.{list_all};
 ghost use Rattle.label_sets.specs.declared.label_set.LabelSet.{LabelSet as Labels};
-ghost use Rattle.sample_groups.specs.Groups.{Gathered, empty_group, AddsPart, is_overtaken, is_whole_group, reading_named, shared_labels};
+ghost use Rattle.sample_groups.specs.Groups.{Gathered, empty_group, with_one, with_part, known_group, AddsPart, is_overtaken, is_whole_group, reading_named, shared_labels};
 ghost use Rattle.sample_groups.specs.Tables.{others_in};
 
 use crate::added::Added;
@@ -54,10 +54,32 @@ fn add_other(
             Ok(added)
         }
         None => {
-            let mut first = Others::new(alloc);
+            let mut first = Others::new(alloc, false);
             let added = first.add(alloc, kind, labels, part)?;
             *others = Some(Box::new(alloc, first)?);
             Ok(added)
+        }
+    }
+}
+
+/// Begins one of the other groups, with labels that none of them has.
+fn begin_other(
+    alloc: Global,
+    others: &mut Option<Box<Others>>,
+    labels: &LabelSet,
+    part: Part,
+    shared: bool,
+) -> Result<(), Memory>
+    requires { known_group (others_in others.old) labels.now ≡ None }
+    ensures { OnOk result (others_in others.new ≡ with_part (others_in others.old) labels.now part) }
+{
+    match others {
+        Some(others) => others.begin(alloc, labels, part),
+        None => {
+            let mut first = Others::new(alloc, shared);
+            first.begin(alloc, labels, part)?;
+            *others = Some(Box::new(alloc, first)?);
+            Ok(())
         }
     }
 }
@@ -97,6 +119,31 @@ impl Table {
             first: Group::new(),
             others: None,
         }
+    }
+
+    /// One group of one part.
+    pub(crate) fn with(alloc: Global, labels: LabelSet, part: Part) -> Result<Table, Memory>
+        ensures { IfOk result (λ table. table ≡ (labels, with_one empty_group part) ∷ []) }
+    {
+        Ok(Table {
+            first_labels: labels,
+            first: Group::of(alloc, part)?,
+            others: None,
+        })
+    }
+
+    /// Begins a group with a part of a sample whose labels, all of which the group has, are those of no group.
+    pub(crate) fn begin(
+        &mut self,
+        alloc: Global,
+        labels: &LabelSet,
+        part: Part,
+        shared: bool,
+    ) -> Result<(), Memory>
+        requires { known_group self.old labels.now ≡ None }
+        ensures { OnOk result (self.new ≡ with_part self.old labels.now part) }
+    {
+        begin_other(alloc, &mut self.others, labels, part, shared)
     }
 
     /// Adds a part of a sample of this kind with these labels to its group, unless it breaks the order of

@@ -7,6 +7,7 @@ ghost use Rattle.family_rules.specs.Steps.{Takes, line_of, is_current_family, kn
 
 use super::ItemChecker;
 use crate::family::{Current, Descriptor, FamilySoFar};
+use crate::group_keys::GroupKeys;
 use crate::left::LeftFamilies;
 use crate::unit::has_bad_unit;
 use label_sets::{Kind, Memory, Name};
@@ -87,6 +88,7 @@ impl ItemChecker {
             family: FamilySoFar::new(self.alloc),
         };
         self.runs.clear(self.alloc);
+        self.group_keys = GroupKeys::NoGroups;
         let before = mem::replace(&mut self.current, Some(next));
         put_left(&mut self.left, before)
     }

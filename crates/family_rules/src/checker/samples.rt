@@ -1,14 +1,19 @@
 //! Samples of the family that goes on, and of one that they begin.
-ghost use Rattle.std.specs.Prelude.{◌≡◌, None, true, false, IfOk, OnOk};
+ghost use Rattle.std.specs.Prelude.{◌≡◌, Ok, Some, None, true, false, is_some, IfOk, OnOk};
+ghost use Rattle.label_sets.specs.declared.kind.Kind.TheVariants as kinds;
 ghost use Rattle.page_model.specs.Owners.{kept_labels};
 ghost use Rattle.page_model.specs.Rules.{is_open_metrics};
 ghost use Rattle.page_model.specs.declared.item.Item.TheVariants as items;
+ghost use Rattle.family_rules.specs.KeyedValues.{is_key_of, is_passed, samples_at_end};
 ghost use Rattle.family_rules.specs.GroupRuns.{has_runs};
-ghost use Rattle.family_rules.specs.Steps.{Takes, with_current, left_stop};
-ghost use Rattle.family_rules.specs.Samples.{TellsPart, is_current_sample, current_samples, own_samples, has_bad_exemplar, is_overtaken_in, is_back_in_groups, AnswersTold, with_counted, with_part_at, with_told, told_left, fits_order, is_back, entered_by, with_sample, with_added, seen_rule, sample_stop, add_stop, name_stop};
+ghost use Rattle.family_rules.specs.GroupKeys.{IsNewGroup, NameTells};
+ghost use Rattle.family_rules.specs.Steps.{Takes, current_with, with_current, left_stop};
+ghost use Rattle.family_rules.specs.Samples.{TellsPart, is_current_sample, current_samples, own_samples, with_seen, has_bad_exemplar, is_overtaken_in, is_back_in_groups, AnswersTold, with_counted, with_part_in, with_part_at, with_told, told_left, fits_order, is_back, entered_by, with_sample, with_added, seen_rule, sample_stop, key_stop, with_key, add_stop, name_stop};
 
 use super::ItemChecker;
 use crate::exemplars::is_bad_exemplar;
+use crate::family::Current;
+use crate::group_keys::GroupKeys;
 use crate::runs::{group_labels, has_own_runs, is_alone};
 use crate::sample_values::part_or_rule;
 use exact_decimal::Number;
@@ -16,6 +21,7 @@ use label_sets::{Kind, LabelSet, Memory, Name};
 use packed_keys::SampleKey;
 use page_model::{Format, Rule, Sample, Treatment, is_sample_name};
 use sample_groups::{Added, Part, is_grouped};
+use std::alloc::Global;
 
 /// What is told of a sample by the groups of the current family.
 #[derive(Drop)]
@@ -24,6 +30,23 @@ pub(crate) struct Told {
     pub back: bool,
     /// The rule that it breaks otherwise.
     pub broken: Option<Rule>,
+}
+
+/// Begins a group of the current family, a counter, with a part of a sample with these labels.
+fn begin_in(
+    alloc: Global,
+    current: &mut Option<Current>,
+    labels: &LabelSet,
+    part: Part,
+    shared: bool,
+) -> Result<(), Memory>
+    requires { IsNewGroup current.old labels.now }
+    ensures { OnOk result (current.new ≡ current_with (with_part_in kinds.Counter labels.now part) current.old) }
+{
+    match current {
+        Some(current) => current.family.groups.begin(alloc, labels, part, shared),
+        None => Ok(()),
+    }
 }
 
 impl ItemChecker {
@@ -80,12 +103,23 @@ impl ItemChecker {
         }
     }
 
+    /// Whether one of so many samples at the end has these labels, and the last one has not. What was seen is
+    /// forgotten.
+    fn take_passed(&mut self, own: u32, labels: &LabelSet) -> Result<bool, Memory>
+        ensures passed { IfOk result (λ passed. passed ≡ is_passed labels.now (samples_at_end own self.old.seen)) }
+        ensures rest { self.new ≡ with_seen self.old self.new.seen }
+    {
+        self.group_keys = GroupKeys::Unknown;
+        self.seen.take_passed(self.alloc, own, labels)
+    }
+
     /// The rule that a key breaks that was seen: 12, where it goes back to one of so many samples at the end, or
     /// 14. What was seen is forgotten.
     fn seen_rule(&mut self, own: u32, labels: &LabelSet) -> Result<Rule, Memory>
-        ensures { IfOk result (λ rule. rule ≡ seen_rule own labels.now self.old.seen) }
+        ensures rule { IfOk result (λ rule. rule ≡ seen_rule own labels.now self.old.seen) }
+        ensures rest { self.new ≡ with_seen self.old self.new.seen }
     {
-        let passed = self.seen.take_passed(self.alloc, own, labels)?;
+        let passed = self.take_passed(own, labels)?;
         if passed {
             return Ok(Rule::Interleaved);
         }
@@ -103,7 +137,9 @@ impl ItemChecker {
     ) -> Result<Option<Rule>, Memory>
         ensures broken { IfOk result (λ answer. answer ≡ sample_stop self.old own key broken) }
         ensures added { IfOk result (λ answer. answer ≡ None → self.new ≡ with_sample self.old key value) }
+        ensures rest { IfOk result (λ answer. is_some answer ≡ true → self.new ≡ with_seen self.old self.new.seen) }
     {
+        self.group_keys = GroupKeys::Unknown;
         let known = self.seen.insert(key, value)?;
         if let Some(known) = known {
             let rule = self.seen_rule(own, &known.labels)?;
@@ -201,6 +237,7 @@ impl ItemChecker {
         ensures added { IfOk result (λ added. added.fits ≡ true → self.new ≡ with_part_at self.old kind labels.now part) }
         ensures rest { OnOk result (self.new ≡ with_current self.old self.new.current) }
     {
+        self.group_keys = GroupKeys::Unknown;
         match &mut self.current {
             Some(current) => current.family.groups.add(self.alloc, kind, labels, part),
             None => Ok(Added {
@@ -222,6 +259,7 @@ impl ItemChecker {
         if !self.has_order() {
             return Ok(false);
         }
+        self.group_keys = GroupKeys::Unknown;
         match &mut self.current {
             Some(current) => current.family.groups.is_overtaken(self.alloc, kind, labels),
             None => Ok(false),
@@ -261,6 +299,79 @@ impl ItemChecker {
         }
     }
 
+    /// Adds a sample of the current family with this key, of which this was told, or answers the rule that it
+    /// breaks: 12, 14 to 18 or 20.
+    #[inline(always)]
+    fn add_keyed(
+        &mut self,
+        kind: Kind,
+        key: SampleKey,
+        value: Number,
+        told: Result<Option<Part>, Rule>,
+    ) -> Result<Option<Rule>, Memory>
+        ensures broken { IfOk result (λ answer. answer ≡ key_stop self.old kind key told) }
+        ensures added { IfOk result (λ answer. answer ≡ None → self.new ≡ with_key self.old kind key value told) }
+    {
+        let own = self.own_samples(kind);
+        let back = self.enter(kind, &key.labels)?;
+        if back {
+            return Ok(Some(Rule::Interleaved));
+        }
+        let met = self.add_told(kind, &key.labels, told)?;
+        if met.back {
+            return Ok(Some(Rule::Interleaved));
+        }
+        self.add_key(own, key, value, met.broken)
+    }
+
+    /// Begins a group of the current family with a part of a sample with this key.
+    fn begin_group(&mut self, key: SampleKey, part: Part) -> Result<(), Memory>
+        requires new { IsNewGroup self.now.current key.labels }
+        requires seen { is_key_of key self.now.seen ≡ true }
+        requires tells { NameTells key.name self.now.current self.now.seen }
+        ensures { OnOk result (self.new ≡ with_part_at self.old kinds.Counter key.labels part) }
+    {
+        self.group_keys = GroupKeys::Unknown;
+        begin_in(self.alloc, &mut self.current, &key.labels, part, self.keeps)?;
+        self.group_keys = GroupKeys::Of(key.name);
+        Ok(())
+    }
+
+    /// Adds a sample of the current family, a counter, whose key tells whether its group is new, or answers the rule
+    /// that it breaks: 12, 14 or 20.
+    fn add_first(
+        &mut self,
+        key: SampleKey,
+        value: Number,
+        part: Part,
+    ) -> Result<Option<Rule>, Memory>
+        requires { NameTells key.name self.now.current self.now.seen }
+        ensures broken { IfOk result (λ answer. answer ≡ key_stop self.old kinds.Counter key (Ok (Some part))) }
+        ensures added { IfOk result (λ answer. answer ≡ None → self.new ≡ with_key self.old kinds.Counter key value (Ok (Some part))) }
+    {
+        let first = SampleKey {
+            name: key.name.copy()?,
+            labels: key.labels.copy()?,
+        };
+        let broken = self.add_key(0, key, value, None)?;
+        if broken.is_some() {
+            let back = self.goes_back(Kind::Counter, &first.labels)?;
+            if back {
+                return Ok(Some(Rule::Interleaved));
+            }
+            return Ok(broken);
+        }
+        self.begin_group(first, part)?;
+        Ok(None)
+    }
+
+    /// Whether the keys of this name tell which groups of the current family, a counter, are new.
+    fn tells_groups(&self, kind: Kind, name: &Name) -> bool
+        ensures { result ≡ true → (kind ≡ kinds.Counter) × NameTells name.now self.now.current self.now.seen }
+    {
+        matches!(kind, Kind::Counter) && self.group_keys.tell(name)
+    }
+
     /// Adds a sample of the current family, of which this was told, or answers the rule that it breaks: 12, 14
     /// to 18 or 20.
     #[inline(always)]
@@ -280,16 +391,14 @@ impl ItemChecker {
             ..
         } = sample;
         let labels = self.kept_labels(labels)?;
-        let own = self.own_samples(kind);
-        let back = self.enter(kind, &labels)?;
-        if back {
-            return Ok(Some(Rule::Interleaved));
+        let key = SampleKey { name, labels };
+        if !self.tells_groups(kind, &key.name) {
+            return self.add_keyed(kind, key, value, told);
         }
-        let met = self.add_told(kind, &labels, told)?;
-        if met.back {
-            return Ok(Some(Rule::Interleaved));
+        match told {
+            Ok(Some(part)) => self.add_first(key, value, part),
+            told => self.add_keyed(kind, key, value, told),
         }
-        self.add_key(own, SampleKey { name, labels }, value, met.broken)
     }
 
     /// Takes a sample of the current family, and answers the rule that it breaks: 10, 12, 14 to 17 or 20.
@@ -320,7 +429,7 @@ impl ItemChecker {
         if back {
             return Ok(Rule::Interleaved);
         }
-        let passed = self.seen.take_passed(self.alloc, own, &labels)?;
+        let passed = self.take_passed(own, &labels)?;
         if passed {
             return Ok(Rule::Interleaved);
         }

@@ -10,18 +10,18 @@ use Rattle.sample_groups.proofs.others.place_in.Goals as goal
 use Rattle.sample_groups.proofs.others.place_in.Goals.{After-put_new}
 
 placed : (c : After-put_new)
-    → HasPlace (zip c.args.sets.now c.args.groups.now.items) (zip c.insert_shared.new.sets c.put_new.new.groups.items) (shared_labels c.args.kind c.args.labels.now) c.in_ok-place.place
-    × AreBeside label_sets_eq c.insert_shared.new.sets c.put_new.new.groups.items
+    → HasPlace (zip c.args.sets.now c.args.groups.now.items) (zip c.insert.new.self c.put_new.new.groups.items) (shared_labels c.args.kind c.args.labels.now) c.in_ok-place.place
+    × AreBeside label_sets_eq c.insert.new.self c.put_new.new.groups.items
 placed c =
     let labels = shared_labels c.args.kind c.args.labels.now in
     let same : c.reserve.new.self.items ≡ c.args.groups.now.items = c.in_ok-reserve.ensures.items in
-    let both = put_in c.args.sets.now c.insert_shared.new.sets c.reserve.new.self.items c.put_new.new.groups.items labels c.in_ok-place.place
+    let both = put_in c.args.sets.now c.insert.new.self c.reserve.new.self.items c.put_new.new.groups.items labels c.in_ok-place.place
     (subst (λ gs. AreBeside label_sets_eq c.args.sets.now gs) (sym same) c.requires) (record {
       entered = record { at = c.in_ok-place.ensures.place; sets = c.in_ok-place.ensures.sets };
       new = c.put_new.ensures.new;
       other = c.put_new.ensures.other;
     }) in
-    (subst (λ (gs : List Gathered). HasPlace (zip c.args.sets.now gs) (zip c.insert_shared.new.sets c.put_new.new.groups.items) labels c.in_ok-place.place) same both.0, both.1)
+    (subst (λ (gs : List Gathered). HasPlace (zip c.args.sets.now gs) (zip c.insert.new.self c.put_new.new.groups.items) labels c.in_ok-place.place) same both.0, both.1)
 
 pub returns-clause-place : goal.returns-clause-place
 returns-clause-place c = (placed c).0

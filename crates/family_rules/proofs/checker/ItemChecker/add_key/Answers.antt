@@ -11,7 +11,7 @@ returns-in-Some-clause-broken c =
     let seen = c.in_ok-known.ensures.samples ∙ ap (λ b. cond b c.self.inside.seen (c.self.inside.seen ++ (c.args.key, c.args.value) ∷ [])) (ap is_some c.in-Some.is) ∙ ap (λ (v : Checking). v.seen) c.self.view_is in
     stop_seen c.args.self.now c.args.own c.args.key c.args.broken
     (ap (λ (v : Checking). is_key_of c.args.key v.seen) (sym c.self.view_is) ∙ sym c.in_ok-known.ensures.known ∙ ap is_some c.in-Some.is)
-    c.in_ok-rule.rule (c.in_ok-rule.ensures ∙ (λ i. seen_rule c.args.own (key i).labels (seen i)))
+    c.in_ok-rule.rule (c.in_ok-rule.ensures.rule ∙ (λ i. seen_rule c.args.own (key i).labels (seen i)))
 
 pub returns-then-is_some-clause-broken : goal.returns-then-is_some-clause-broken
 returns-then-is_some-clause-broken c = stop_broken c.args.self.now c.args.own c.args.key c.args.broken

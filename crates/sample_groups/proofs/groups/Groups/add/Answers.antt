@@ -1,5 +1,5 @@
 use Rattle.std.proofs.Common.{◌≡◌, ◌∙◌, ap, sym, not}
-use Rattle.sample_groups.specs.Groups.{shared_labels, with_part, known_group, or_empty, breaks_order, is_overtaken}
+use Rattle.sample_groups.specs.Groups.{shared_labels, with_part, known_group, or_empty, breaks_order}
 use Rattle.sample_groups.specs.Families.{groups_in}
 use Rattle.sample_groups.proofs.Placing.{with_only}
 use Rattle.sample_groups.proofs.groups.Groups.add.Goals as goal

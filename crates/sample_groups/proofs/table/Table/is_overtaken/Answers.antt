@@ -1,7 +1,7 @@
 use Rattle.std.proofs.Common.{◌∙◌, ap, sym}
 use Rattle.sample_groups.specs.Groups.{shared_labels, is_overtaken}
 use Rattle.sample_groups.specs.Tables.{others_in}
-use Rattle.sample_groups.proofs.Placing.{overtaken_first, overtaken_other}
+use Rattle.sample_groups.proofs.Placing.{overtaken_first}
 use Rattle.sample_groups.proofs.table.Table.is_overtaken.Goals as goal
 
 pub returns-then-are_shared : goal.returns-then-are_shared

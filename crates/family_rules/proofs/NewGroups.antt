@@ -1,0 +1,226 @@
+-- Keys that tell which groups of a family are new.
+use Rattle.std.proofs.Common.{◌≡◌, ℕ, Bool, true, false, cond, not, ◌&&◌, ◌||◌, ◌+◌, List, [], ◌∷◌, ◌++◌, Option, Some, None, refl, sym, ap, subst, ◌∙◌}
+use Rattle.std.specs.Prelude.{nat_le, nat_lt, Ok, length}
+use Rattle.std.specs.Option.{option_or}
+use Rattle.std.specs.Cmp.Lexicographic.{bytes_decides}
+use Rattle.std.proofs.lemmas.List.Folds.{list_any-append}
+use Rattle.exact_decimal.specs.declared.number.Number.{Number}
+use Rattle.label_sets.specs.declared.kind.Kind.TheVariants.{Counter}
+use Rattle.label_sets.specs.declared.label_set.LabelSet.{LabelSet}
+use Rattle.label_sets.specs.Labels.{label_sets_eq}
+use Rattle.label_sets.proofs.Laws.{sets_decide}
+use Rattle.packed_keys.specs.declared.sample_key.SampleKey.{SampleKey}
+use Rattle.packed_keys.specs.Packing.{sample_key_eq}
+use Rattle.page_model.specs.declared.format.Format.{Format}
+use Rattle.page_model.specs.declared.format.Format.TheVariants as formats
+use Rattle.page_model.specs.declared.rule.Rule.{Rule}
+use Rattle.page_model.specs.declared.rule.Rule.TheVariants as rules
+use Rattle.page_model.specs.Rules.{is_open_metrics}
+use Rattle.sample_groups.specs.declared.part.Part.{Part}
+use Rattle.sample_groups.specs.Groups.{Gathered, known_group, or_empty, put_group, with_one, with_part, breaks_order, is_overtaken}
+use Rattle.sample_groups.proofs.Laws.{first_fits}
+use Rattle.family_rules.specs.declared.family.Current.{Current}
+use Rattle.family_rules.specs.declared.group_keys.GroupKeys.{GroupKeys}
+use Rattle.family_rules.specs.declared.group_keys.GroupKeys.TheVariants as told
+use Rattle.family_rules.specs.GroupRuns.{group_key}
+use Rattle.family_rules.specs.KeyedValues.{is_key_of}
+use Rattle.family_rules.specs.GroupKeys.{IsNewGroup, NameTells, TellTrue}
+use Rattle.family_rules.specs.Checking.{Checking}
+use Rattle.family_rules.specs.Steps.{current_with}
+use Rattle.family_rules.specs.Samples.{family_with_sample, current_samples, runs_with, with_sample, with_part_in, with_part_at, with_key, own_samples, seen_rule, sample_stop, order_stop, is_overtaken_in, is_back_in_groups, is_told_back, key_stop}
+
+-- ---- what is so of no family, of one without groups, and of one with the same groups
+
+pub none_tells : (keys : GroupKeys) (seen : List (SampleKey × Number)) → TellTrue keys None seen
+none_tells keys seen name t labels unseen = tt
+
+pub fresh_tells : (keys : GroupKeys) (k : Current) (seen : List (SampleKey × Number)) → k.family.groups ≡ [] → TellTrue keys (Some k) seen
+fresh_tells keys k seen e name t labels unseen = ap (λ g. known_group g labels) e
+
+pub unknown_tells : (current : Option Current) (seen : List (SampleKey × Number)) → TellTrue told.Unknown current seen
+unknown_tells current seen name t = absurd (let f : false ≡ true = t in cc)
+
+pub same_tells : (keys : GroupKeys) (k j : Current) (seen : List (SampleKey × Number)) → j.family.groups ≡ k.family.groups → TellTrue keys (Some k) seen → TellTrue keys (Some j) seen
+same_tells keys k j seen e old name t labels unseen = ap (λ g. known_group g labels) e ∙ old name t labels unseen
+
+-- ---- a sample more
+
+key_in_front : (key : SampleKey) (seen more : List (SampleKey × Number)) → is_key_of key (seen ++ more) ≡ false → is_key_of key seen ≡ false
+key_in_front key seen more h = by (is_key_of key seen) (sym (list_any-append (λ (e : SampleKey × Number). sample_key_eq key e.0) seen more) ∙ h)
+  where
+    by : (b : Bool) → (b || is_key_of key more) ≡ false → b ≡ false
+    by true e = e
+    by false e = refl
+
+keys_same : (key : SampleKey) → sample_key_eq key key ≡ true
+keys_same key = rw ((bytes_decides key.name key.name).1 refl, (sets_decide key.labels key.labels).1 refl) refl
+
+-- the key of the last sample is seen
+pub last_seen : (key : SampleKey) (seen : List (SampleKey × Number)) (value : Number) → is_key_of key (seen ++ (key, value) ∷ []) ≡ true
+last_seen key seen value = list_any-append (λ (e : SampleKey × Number). sample_key_eq key e.0) seen ((key, value) ∷ []) ∙ ap (λ b. is_key_of key seen || (b || false)) (keys_same key) ∙ by (is_key_of key seen)
+  where
+    by : (b : Bool) → (b || true) ≡ true
+    by true = refl
+    by false = refl
+
+-- a sample more tells no less
+pub more_tells : (name : List ℕ) (current : Option Current) (seen more : List (SampleKey × Number)) → NameTells name current seen → NameTells name (current_with family_with_sample current) (seen ++ more)
+more_tells name None seen more old labels unseen = tt
+more_tells name (Some k) seen more old labels unseen = old labels (key_in_front (group_key name labels) seen more unseen)
+
+-- the group of a key that is new
+pub new_here : (key : SampleKey) (current : Option Current) (seen : List (SampleKey × Number)) → NameTells key.name current seen → is_key_of key seen ≡ false → IsNewGroup current key.labels
+new_here key current seen old unseen = old key.labels unseen
+
+pub still_new : (current : Option Current) (labels : LabelSet) → IsNewGroup current labels → IsNewGroup (current_with family_with_sample current) labels
+still_new None labels h = tt
+still_new (Some k) labels h = h
+
+-- ---- a group that begins
+
+-- other labels are still those of no group
+known_put : (es : List (LabelSet × Gathered)) (labels other : LabelSet) (g : Gathered) → label_sets_eq other labels ≡ false → known_group es other ≡ None → known_group (put_group es labels g) other ≡ None
+known_put [] labels other g apart h = rw apart refl
+known_put (e ∷ es) labels other g apart h = by (label_sets_eq labels e.0) (label_sets_eq other e.0) refl h (known_put es labels other g apart)
+  where
+    by : (b c : Bool) → label_sets_eq other e.0 ≡ c → cond c (Some e.1) (known_group es other) ≡ None → (known_group es other ≡ None → known_group (put_group es labels g) other ≡ None)
+        → known_group (cond b ((e.0, g) ∷ es) (e ∷ put_group es labels g)) other ≡ None
+    by b true at h more = absurd (let f : Some e.1 ≡ None = h in cc)
+    by true false at h more = rw at h
+    by false false at h more = rw at (more h)
+
+-- labels of no sample are not those of one
+apart_labels : (key : SampleKey) (labels : LabelSet) (seen : List (SampleKey × Number)) → is_key_of key seen ≡ true → is_key_of (group_key key.name labels) seen ≡ false → label_sets_eq labels key.labels ≡ false
+apart_labels key labels seen here unseen = by (label_sets_eq labels key.labels) refl
+  where
+    by : (b : Bool) → label_sets_eq labels key.labels ≡ b → b ≡ false
+    by false e = refl
+    by true e =
+        let same : labels ≡ key.labels = (sets_decide labels key.labels).0 e in
+        sym here ∙ sym (ap (λ l. is_key_of (group_key key.name l) seen) same) ∙ unseen
+
+begun_in : (key : SampleKey) (part : Part) (current : Option Current) (seen : List (SampleKey × Number)) → is_key_of key seen ≡ true → NameTells key.name current seen
+    → NameTells key.name (current_with (with_part_in Counter key.labels part) current) seen
+unfolding with_part
+begun_in key part None seen here old labels unseen = tt
+begun_in key part (Some k) seen here old labels unseen =
+    known_put k.family.groups key.labels labels (with_one (or_empty (known_group k.family.groups key.labels)) part) (apart_labels key labels seen here unseen) (old labels unseen)
+
+pub begun_tells : (key : SampleKey) (part : Part) (current grown : Option Current) (seen : List (SampleKey × Number)) → is_key_of key seen ≡ true → NameTells key.name current seen
+    → grown ≡ current_with (with_part_in Counter key.labels part) current → TellTrue (told.Of key.name) grown seen
+begun_tells key part current grown seen here old is name t =
+    subst (λ n. NameTells n grown seen) ((bytes_decides key.name name).0 t) (subst (λ (o : Option Current). NameTells key.name o seen) (sym is) (begun_in key part current seen here old))
+
+-- ---- what a key answers that tells whether its group is new
+
+new_fits : (current : Option Current) (labels : LabelSet) (part : Part) → IsNewGroup current labels → order_stop Counter labels part current ≡ None
+new_fits None labels part h = refl
+new_fits (Some k) labels part h = ap (λ b. cond (not b) None (Some rules.Order)) (ap (λ g. breaks_order (or_empty g) part) h ∙ first_fits part)
+
+not_overtaken : (es : List (LabelSet × Gathered)) (labels : LabelSet) → known_group es labels ≡ None → is_overtaken es labels ≡ false
+not_overtaken [] labels h = refl
+not_overtaken (e ∷ es) labels h = by (label_sets_eq labels e.0) h (not_overtaken es labels)
+  where
+    by : (b : Bool) → cond b (Some e.1) (known_group es labels) ≡ None → (known_group es labels ≡ None → is_overtaken es labels ≡ false) → cond b (nat_lt 0 (length es)) (is_overtaken es labels) ≡ false
+    by true h more = absurd (let f : Some e.1 ≡ None = h in cc)
+    by false h more = more h
+
+new_stays : (current : Option Current) (labels : LabelSet) → IsNewGroup current labels → is_overtaken_in Counter labels current ≡ false
+new_stays None labels h = refl
+new_stays (Some k) labels h = not_overtaken k.family.groups labels h
+
+-- no samples are asked of a counter
+none_own : (c : Checking) → own_samples c Counter ≡ 0
+none_own c = by (is_open_metrics c.setting.format)
+  where
+    by : (b : Bool) → cond (b && false) (current_samples c.current) 0 ≡ 0
+    by true = refl
+    by false = refl
+
+-- a counter's sample goes back to its group by the groups of its family, where the format has the rule
+back_in : (f : Format) (labels : LabelSet) (part : Part) (current : Option Current) → is_back_in_groups f Counter labels current ≡ is_told_back f Counter labels (Ok (Some part)) current
+back_in formats.Text labels part current = by (is_overtaken_in Counter labels current)
+  where
+    by : (b : Bool) → false ≡ (b && false)
+    by true = refl
+    by false = refl
+back_in formats.OpenMetrics labels part current = by (is_overtaken_in Counter labels current)
+  where
+    by : (b : Bool) → b ≡ (b && true)
+    by true = refl
+    by false = refl
+
+-- where it doesn't go back, it answers what its key does
+key_alone : (c : Checking) (key : SampleKey) (part : Part) → NameTells key.name c.current c.seen
+    → sample_stop c (own_samples c Counter) key (order_stop Counter key.labels part c.current) ≡ sample_stop c 0 key None
+unfolding sample_stop
+key_alone c key part old = ap (λ n. sample_stop c n key (order_stop Counter key.labels part c.current)) (none_own c) ∙ by (is_key_of key c.seen) refl
+  where
+    past : Option Rule
+    past = cond (nat_le c.setting.limit c.samples) (Some rules.TooMany) None
+
+    by : (b : Bool) → is_key_of key c.seen ≡ b → cond b (Some (seen_rule 0 key.labels c.seen)) (option_or (order_stop Counter key.labels part c.current) past) ≡ cond b (Some (seen_rule 0 key.labels c.seen)) past
+    by true e = refl
+    by false e = ap (λ o. option_or o past) (new_fits c.current key.labels part (old key.labels e))
+
+stop_cond : (c : Checking) (key : SampleKey) (part : Part) (back : Bool) → NameTells key.name c.current c.seen → is_told_back c.setting.format Counter key.labels (Ok (Some part)) c.current ≡ back
+    → key_stop c Counter key (Ok (Some part)) ≡ cond back (Some rules.Interleaved) (sample_stop c 0 key None)
+stop_cond c key part back old told = ap (λ b. cond b (Some rules.Interleaved) (sample_stop c (own_samples c Counter) key (order_stop Counter key.labels part c.current))) told
+    ∙ ap (λ (o : Option Rule). cond back (Some rules.Interleaved) o) (key_alone c key part old)
+
+-- it goes back, or answers what its key does
+pub first_stop : (c : Checking) (key : SampleKey) (part : Part) (back : Bool) → NameTells key.name c.current c.seen → back ≡ is_back_in_groups c.setting.format Counter key.labels c.current
+    → cond back (Some rules.Interleaved) (sample_stop c 0 key None) ≡ key_stop c Counter key (Ok (Some part))
+first_stop c key part back old told = sym (stop_cond c key part back old (sym (back_in c.setting.format key.labels part c.current) ∙ sym told))
+
+-- a key that breaks no rule is new
+unseen_here : (c : Checking) (key : SampleKey) → sample_stop c 0 key None ≡ None → is_key_of key c.seen ≡ false
+unfolding sample_stop
+unseen_here c key h = by (is_key_of key c.seen) h
+  where
+    by : (b : Bool) → cond b (Some (seen_rule 0 key.labels c.seen)) (cond (nat_le c.setting.limit c.samples) (Some rules.TooMany) None) ≡ None → b ≡ false
+    by true e = absurd (let f : Some (seen_rule 0 key.labels c.seen) ≡ None = e in cc)
+    by false e = refl
+
+module _ (c mid : Checking) (key : SampleKey) (value : Number) (part : Part) (old : NameTells key.name c.current c.seen) (stop : None ≡ sample_stop c 0 key None) (step : mid ≡ with_sample c key value) where
+  unseen : is_key_of key c.seen ≡ false
+  unseen = unseen_here c key (sym stop)
+
+  pub group_new : IsNewGroup mid.current key.labels
+  unfolding with_sample
+  group_new = subst (λ (m : Checking). IsNewGroup m.current key.labels) (sym step) (still_new c.current key.labels (old key.labels unseen))
+
+  pub key_seen : is_key_of key mid.seen ≡ true
+  unfolding with_sample
+  key_seen = ap (λ (m : Checking). is_key_of key m.seen) step ∙ last_seen key c.seen value
+
+  pub name_tells : NameTells key.name mid.current mid.seen
+  unfolding with_sample
+  name_tells = subst (λ (m : Checking). NameTells key.name m.current m.seen) (sym step) (more_tells key.name c.current c.seen ((key, value) ∷ []) old)
+
+  pub first_none : None ≡ key_stop c Counter key (Ok (Some part))
+  first_none = stop ∙ sym (stop_cond c key part false old (by (new_stays c.current key.labels (old key.labels unseen))))
+    where
+      by : is_overtaken_in Counter key.labels c.current ≡ false → is_told_back c.setting.format Counter key.labels (Ok (Some part)) c.current ≡ false
+      by e = ap (λ b. b && is_open_metrics c.setting.format) e
+
+  pub first_added : (d : Checking) → d ≡ with_part_at mid Counter key.labels part → d ≡ with_key c Counter key value (Ok (Some part))
+  unfolding with_sample
+  first_added d grown = grown ∙ ap (λ (m : Checking). with_part_at m Counter key.labels part) step ∙ (λ i. record {
+    setting = c.setting;
+    left = c.left;
+    current = swapped c.current i;
+    runs = c.runs;
+    seen = c.seen ++ (key, value) ∷ [];
+    samples = c.samples + 1;
+    ended = c.ended;
+    stopped = c.stopped;
+  }) ∙ ap (λ r. with_sample (record c { runs = r; current = current_with (with_part_in Counter key.labels part) c.current }) key value) (sym (same_runs c.current))
+    where
+      swapped : (o : Option Current) → current_with (with_part_in Counter key.labels part) (current_with family_with_sample o) ≡ current_with family_with_sample (current_with (with_part_in Counter key.labels part) o)
+      swapped None = refl
+      swapped (Some k) = refl
+
+      same_runs : (o : Option Current) → runs_with c.setting.format o Counter key.labels c.runs ≡ c.runs
+      same_runs None = refl
+      same_runs (Some k) = refl

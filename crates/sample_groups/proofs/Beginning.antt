@@ -1,0 +1,104 @@
+-- A group that begins: its labels are those of no other.
+use Rattle.std.proofs.Common.{◌≡◌, ℕ, zero, suc, ◌+◌, ◌<◌, Bool, true, false, cond, ◌||◌, List, [], ◌∷◌, ◌++◌, length, take, slice_get, get_or, Some, None, refl, sym, ap, ◌∙◌, arith}
+use Rattle.std.specs.List.{list_any, zip, IsDistinct}
+use Rattle.std.proofs.lemmas.List.{take_more}
+use Rattle.label_sets.specs.declared.label_set.LabelSet.{LabelSet}
+use Rattle.label_sets.specs.Labels.{label_sets_eq}
+use Rattle.label_sets.proofs.Laws.{sets_decide}
+use Rattle.packed_keys.specs.Packing.{with_set}
+use Rattle.sample_groups.specs.declared.part.Part.{Part}
+use Rattle.sample_groups.specs.declared.part.Part.TheVariants as parts
+use Rattle.sample_groups.specs.Beside.{AreBeside}
+use Rattle.sample_groups.specs.Groups.{Gathered, empty_group, group_from, with_one, or_empty, known_group, put_group, with_part, breaks_order}
+use Rattle.sample_groups.proofs.BesideLaws.{zip-snoc, suc_same, first_apart_from, distinct_rest, beside_more}
+
+-- ---- packing
+
+got_at : (xs : List LabelSet) (i : ℕ) (x : LabelSet) → slice_get xs i ≡ Some x → x ≡ get_or xs i x
+got_at [] i x e = absurd (let no : None ≡ Some x = e in cc)
+got_at (y ∷ xs) zero x e = let same : y ≡ x = (let is : Some y ≡ Some x = e in cc) in sym same
+got_at (y ∷ xs) (suc i) x e = got_at xs i x e
+
+-- a set is none of those in front of it
+fresh_at : (xs : List LabelSet) (i : ℕ) (x : LabelSet) → IsDistinct label_sets_eq xs → slice_get xs i ≡ Some x → list_any (label_sets_eq x) (take i xs) ≡ false
+fresh_at [] i x d e = absurd (let no : None ≡ Some x = e in cc)
+fresh_at (y ∷ ys) zero x d e = refl
+fresh_at (y ∷ ys) (suc i) x d e =
+    let apart : label_sets_eq x y ≡ false = first_apart_from label_sets_eq sets_decide ys i y x d e in
+    let rest : list_any (label_sets_eq x) (take i ys) ≡ false = fresh_at ys i x (distinct_rest label_sets_eq sets_decide y ys d) e in
+    λ j. apart j || rest j
+
+-- one set more is packed
+pub packed_more : (xs : List LabelSet) (i : ℕ) (x : LabelSet) (old new : List LabelSet) → IsDistinct label_sets_eq xs → i < length xs → slice_get xs i ≡ Some x → old ≡ take i xs → new ≡ with_set old x → new ≡ take (i + 1) xs
+packed_more xs i x old new d within at before after =
+    after ∙ ap (λ l. with_set l x) before ∙ ap (λ b. cond b (take i xs) (take i xs ++ x ∷ [])) (fresh_at xs i x d at)
+    ∙ ap (λ y. take i xs ++ y ∷ []) (got_at xs i x at) ∙ sym (take_more xs i x within)
+
+-- a set that is new is put behind the others
+pub put_behind : (old new : List LabelSet) (x : LabelSet) → list_any (label_sets_eq x) old ≡ false → new ≡ with_set old x → new ≡ old ++ x ∷ []
+put_behind old new x fresh is = is ∙ ap (λ b. cond b old (old ++ x ∷ [])) fresh
+
+-- ---- a group that begins
+
+-- the first part of a group fits
+pub first_fits : (p : Part) → breaks_order empty_group p ≡ false
+unfolding group_from
+first_fits (parts.Bucket b) = refl
+first_fits (parts.Quantile q) = refl
+first_fits (parts.Sum n) = refl
+first_fits (parts.Count n) = refl
+first_fits (parts.Total n) = refl
+first_fits (parts.Created n) = refl
+
+-- labels of no group are none of those of the groups
+pub unknown_labels : (ss : List LabelSet) (gs : List Gathered) (labels : LabelSet) → length ss ≡ length gs → known_group (zip ss gs) labels ≡ None → list_any (label_sets_eq labels) ss ≡ false
+unknown_labels [] gs labels e h = refl
+unknown_labels (s ∷ ss) [] labels e h = absurd (omega arith)
+unknown_labels (s ∷ ss) (g ∷ gs) labels e h = by (label_sets_eq labels s) h (unknown_labels ss gs labels (suc_same (length ss) (length gs) e))
+  where
+    by : (b : Bool) → cond b (Some g) (known_group (zip ss gs) labels) ≡ None → (known_group (zip ss gs) labels ≡ None → list_any (label_sets_eq labels) ss ≡ false) → (b || list_any (label_sets_eq labels) ss) ≡ false
+    by true h more = absurd (let no : Some g ≡ None = h in cc)
+    by false h more = more h
+
+-- a group of such labels is put behind the others
+put_unknown : (es : List (LabelSet × Gathered)) (labels : LabelSet) (g : Gathered) → known_group es labels ≡ None → put_group es labels g ≡ es ++ (labels, g) ∷ []
+put_unknown [] labels g h = refl
+put_unknown (e ∷ es) labels g h = by (label_sets_eq labels e.0) h (put_unknown es labels g)
+  where
+    by : (b : Bool) → cond b (Some e.1) (known_group es labels) ≡ None → (known_group es labels ≡ None → put_group es labels g ≡ es ++ (labels, g) ∷ []) → cond b ((e.0, g) ∷ es) (e ∷ put_group es labels g) ≡ e ∷ (es ++ (labels, g) ∷ [])
+    by true h more = absurd (let no : Some e.1 ≡ None = h in cc)
+    by false h more = ap (λ l. e ∷ l) (more h)
+
+-- and then they are the groups with that part
+pub begun_with : (ss after : List LabelSet) (gs grown : List Gathered) (old : List (LabelSet × Gathered)) (labels : LabelSet) (g : Gathered) (part : Part) → zip ss gs ≡ old → length ss ≡ length gs → known_group old labels ≡ None
+    → after ≡ ss ++ labels ∷ [] → grown ≡ gs ++ g ∷ [] → g ≡ with_one empty_group part → zip after grown ≡ with_part old labels part
+unfolding with_part
+begun_with ss after gs grown old labels g part is many new sets groups first =
+    (λ i. zip (sets i) (groups i)) ∙ zip-snoc ss gs labels g many ∙ ap (λ l. l ++ (labels, g) ∷ []) is ∙ sym (put_unknown old labels g new)
+    ∙ ap (put_group old labels) (first ∙ ap (λ k. with_one (or_empty k) part) (sym new))
+
+-- each group still stands beside its labels
+pub begun_beside : (ss after : List LabelSet) (gs grown : List Gathered) (old : List (LabelSet × Gathered)) (labels : LabelSet) (g : Gathered) → AreBeside label_sets_eq ss gs → zip ss gs ≡ old → known_group old labels ≡ None
+    → after ≡ ss ++ labels ∷ [] → grown ≡ gs ++ g ∷ [] → AreBeside label_sets_eq after grown
+begun_beside ss after gs grown old labels g b is new sets groups =
+    let fresh : list_any (label_sets_eq labels) ss ≡ false = unknown_labels ss gs labels b.many (ap (λ l. known_group l labels) is ∙ new) in
+    rw (sets, groups) (beside_more label_sets_eq sets_decide ss gs labels g b fresh)
+
+-- the labels of the last group
+pub last_labels : (ss : List LabelSet) (labels : LabelSet) → slice_get (ss ++ labels ∷ []) (length ss) ≡ Some labels
+last_labels [] labels = refl
+last_labels (s ∷ ss) labels = last_labels ss labels
+
+-- ---- the first group, and the others
+
+pub unknown_other : (labels first : LabelSet) (g : Gathered) (es : List (LabelSet × Gathered)) → known_group ((first, g) ∷ es) labels ≡ None → (label_sets_eq labels first ≡ false) × (known_group es labels ≡ None)
+unknown_other labels first g es h = by (label_sets_eq labels first) h
+  where
+    by : (b : Bool) → cond b (Some g) (known_group es labels) ≡ None → (b ≡ false) × (known_group es labels ≡ None)
+    by true h = absurd (let no : Some g ≡ None = h in cc)
+    by false h = (refl, h)
+
+-- a family's first part
+pub first_with : (labels : LabelSet) (part : Part) → (labels, with_one empty_group part) ∷ [] ≡ with_part [] labels part
+unfolding with_part
+first_with labels part = refl
