@@ -1,8 +1,10 @@
 -- Keys that tell which groups of a family are new.
-use Rattle.std.proofs.Common.{◌≡◌, ℕ, Bool, true, false, cond, not, ◌&&◌, ◌||◌, ◌+◌, List, [], ◌∷◌, ◌++◌, Option, Some, None, refl, sym, ap, subst, ◌∙◌}
-use Rattle.std.specs.Prelude.{nat_le, nat_lt, Ok, length}
+use Rattle.std.proofs.Common.{◌≡◌, ℕ, Bool, true, false, cond, not, ◌&&◌, ◌||◌, ◌+◌, List, [], ◌∷◌, ◌++◌, Option, Some, None, refl, sym, ap, subst, ◌∙◌, map, ◌-◌, arith, length-append}
+use Rattle.std.specs.Prelude.{nat_le, nat_lt, Ok, length, slice_get, option_map}
 use Rattle.std.specs.Option.{option_or}
 use Rattle.std.specs.Cmp.Lexicographic.{bytes_decides}
+use Rattle.std.specs.List.{zip}
+use Rattle.std.proofs.lemmas.List.{map-append}
 use Rattle.std.proofs.lemmas.List.Folds.{list_any-append}
 use Rattle.exact_decimal.specs.declared.number.Number.{Number}
 use Rattle.label_sets.specs.declared.kind.Kind.TheVariants.{Counter}
@@ -18,6 +20,7 @@ use Rattle.page_model.specs.declared.rule.Rule.TheVariants as rules
 use Rattle.page_model.specs.Rules.{is_open_metrics}
 use Rattle.sample_groups.specs.declared.part.Part.{Part}
 use Rattle.sample_groups.specs.Groups.{Gathered, known_group, or_empty, put_group, with_one, with_part, breaks_order, is_overtaken}
+use Rattle.sample_groups.specs.LastSeen.{EndsWith}
 use Rattle.sample_groups.proofs.Laws.{first_fits}
 use Rattle.family_rules.specs.declared.family.Current.{Current}
 use Rattle.family_rules.specs.declared.group_keys.GroupKeys.{GroupKeys}
@@ -62,6 +65,29 @@ last_seen key seen value = list_any-append (λ (e : SampleKey × Number). sample
     by : (b : Bool) → (b || true) ≡ true
     by true = refl
     by false = refl
+
+last_at : {A : Type 0} (xs : List A) (y : A) → slice_get (xs ++ y ∷ []) (length (xs ++ y ∷ []) - 1) ≡ Some y
+last_at {A = A} xs y =
+    let more : length (xs ++ y ∷ []) ≡ length xs + 1 = length-append xs (y ∷ []) in
+    let at : length (xs ++ y ∷ []) - 1 ≡ length xs = omega (arith, more) in
+    ap (slice_get (xs ++ y ∷ [])) at ∙ here xs
+  where
+    here : (zs : List A) → slice_get (zs ++ y ∷ []) (length zs) ≡ Some y
+    here [] = refl
+    here (z ∷ zs) = here zs
+
+-- and it is the last one
+pub last_labels : (key : SampleKey) (seen : List (SampleKey × Number)) (value : Number) → EndsWith (map (λ (e : SampleKey × Number). e.0) (seen ++ (key, value) ∷ [])) key.labels
+last_labels key seen value =
+    let keys : List SampleKey = map (λ (e : SampleKey × Number). e.0) seen in
+    ap (λ (l : List SampleKey). option_map (λ (k : SampleKey). k.labels) (slice_get l (length l - 1))) (map-append (λ (e : SampleKey × Number). e.0) seen ((key, value) ∷ []))
+    ∙ ap (option_map (λ (k : SampleKey). k.labels)) (last_at keys key)
+
+-- the keys of keys and values
+pub zipped_keys : (keys : List SampleKey) (values : List Number) → length values ≡ length keys → map (λ (e : SampleKey × Number). e.0) (zip keys values) ≡ keys
+zipped_keys [] values e = refl
+zipped_keys (k ∷ keys) [] e = absurd (omega arith)
+zipped_keys (k ∷ keys) (v ∷ values) e = ap (λ (l : List SampleKey). k ∷ l) (zipped_keys keys values (omega (arith, e)))
 
 -- a sample more tells no less
 pub more_tells : (name : List ℕ) (current : Option Current) (seen more : List (SampleKey × Number)) → NameTells name current seen → NameTells name (current_with family_with_sample current) (seen ++ more)
@@ -193,6 +219,10 @@ module _ (c mid : Checking) (key : SampleKey) (value : Number) (part : Part) (ol
   pub key_seen : is_key_of key mid.seen ≡ true
   unfolding with_sample
   key_seen = ap (λ (m : Checking). is_key_of key m.seen) step ∙ last_seen key c.seen value
+
+  pub key_last : EndsWith (map (λ (e : SampleKey × Number). e.0) mid.seen) key.labels
+  unfolding with_sample
+  key_last = subst (λ (m : Checking). EndsWith (map (λ (e : SampleKey × Number). e.0) m.seen) key.labels) (sym step) (last_labels key c.seen value)
 
   pub name_tells : NameTells key.name mid.current mid.seen
   unfolding with_sample

@@ -38,8 +38,6 @@ pub(crate) struct ItemChecker {
     /// Which keys tell that a group of the current family is new.
     group_keys: GroupKeys,
     seen: KeyedValues,
-    /// A page will be made, so that keys are kept as they are.
-    keeps: bool,
     samples: u32,
     /// A line `# EOF` was taken.
     ended: bool,
@@ -116,7 +114,6 @@ impl ItemChecker {
             runs: GroupRuns::new(alloc),
             group_keys: GroupKeys::NoGroups,
             seen: KeyedValues::new(alloc, keeps),
-            keeps,
             samples: 0,
             ended: false,
             stopped: None,

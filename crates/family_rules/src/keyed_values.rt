@@ -1,7 +1,8 @@
 //! The values of a page's samples in one list, each by its key. Keys are packed, so that one that comes twice is
 //! found, and kept as they are where a page will be made of them, since reading them back takes longer.
-ghost use Rattle.std.specs.Prelude.{◌≡◌, ◌++◌, [], ◌∷◌, drop, length, IfOk, IfSome, OnOk, List, is_some, if◌then◌else◌};
+ghost use Rattle.std.specs.Prelude.{◌≡◌, ◌++◌, [], ◌∷◌, drop, length, map, IfOk, IfSome, OnOk, List, is_some, if◌then◌else◌};
 ghost use Rattle.std.specs.Vec.Iter.{into_iter_items};
+ghost use Rattle.exact_decimal.specs.declared.number.Number.{Number as AnyNumber};
 ghost use Rattle.packed_keys.specs.declared.sample_key.SampleKey.{SampleKey as AnyKey};
 ghost use Rattle.family_rules.specs.KeyedValues.{is_key_of, is_passed, samples_at_end, keys_to_come, AreKept, HasRoomForKey, ComesNext};
 
@@ -75,6 +76,16 @@ impl KeyedValues {
         ensures { result ≡ length self.now }
     {
         self.values.len()
+    }
+
+    /// The keys, packed, where they are not kept as they are.
+    pub fn packed_keys(&self) -> Option<&SeenKeys>
+        ensures { IfSome result (λ keys. keys.now ≡ map (λ (e : AnyKey × AnyNumber). e.0) self.now) }
+    {
+        match &self.kept {
+            Some(_) => None,
+            None => Some(&self.seen),
+        }
     }
 
     /// Adds a sample, and answers its key where that isn't new.

@@ -6,4 +6,5 @@ pub mod Taken
 pub mod Put
 pub mod Read
 pub mod Seen
+pub mod Spans
 pub mod Series

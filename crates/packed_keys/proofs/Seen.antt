@@ -1,5 +1,5 @@
 -- Packed keys and sets put into a table.
-use Rattle.std.proofs.Common.{◌≡◌, ℕ, suc, ◌+◌, ◌<◌, Bool, true, false, not, ◌||◌, List, [], ◌∷◌, ◌++◌, length, map, drop, get_or, refl, sym, ap, ◌∙◌, subst, arith, add-one, drop-cons, Bor}
+use Rattle.std.proofs.Common.{◌≡◌, ℕ, zero, suc, ◌+◌, ◌<◌, Bool, true, false, not, ◌||◌, List, [], ◌∷◌, ◌++◌, length, map, drop, get_or, refl, sym, ap, ◌∙◌, subst, arith, add-one, drop-cons, Bor}
 use Rattle.std.specs.Prelude.{IsUtf8, Result, Ok, Err, IfOk, OnErr, MatchOption, Option, Some, None, slice_get, is_none, unwrap_or, option_map, if◌then◌else◌}
 use Rattle.std.specs.List.{list_any, All, AllByRecursion}
 use Rattle.std.specs.Option.{option_eq, option_copied}
@@ -132,3 +132,14 @@ pub stays_there : (old : List (List ℕ)) (ls : List Label) (at : ℕ) (read : O
 stays_there old ls at read string is got same packed =
     let there : slice_get old at ≡ Some (labels_bytes ls) = sym got ∙ (read_equal read string same ∙ ap Some packed) in
     (set_at old ls at there, sets_are old old ls (Some at) is (there, refl))
+
+-- the key at a place, by its bytes
+pub key_here : (strings : List (List ℕ)) (at : ℕ) (key : SampleKey) → slice_get (map key_at strings) at ≡ Some key → key_at (get_or strings at []) ≡ key
+key_here [] at key e = absurd (let no : None ≡ Some key = e in cc)
+key_here (b ∷ bs) zero key e = let is : Some (key_at b) ≡ Some key = e in let same : key_at b ≡ key = cc in same
+key_here (b ∷ bs) (suc i) key e = key_here bs i key e
+
+-- and its labels
+pub labels_here : (bytes : List ℕ) (key : SampleKey) → key_at bytes ≡ key → labels_in (part_at bytes).1 ≡ key.labels
+unfolding key_at
+labels_here bytes key is = ap (λ (k : SampleKey). k.labels) is

@@ -4,7 +4,7 @@
 
 mod key_row;
 mod keys;
-mod packed_set;
+mod packed_sets;
 mod packing;
 mod parting;
 mod sample_key;
@@ -15,7 +15,7 @@ mod series_places;
 mod unpacking;
 
 pub use keys::Keys;
-pub use packed_set::PackedSet;
+pub use packed_sets::PackedSets;
 pub use packing::kind_byte;
 pub use parting::{Parted, part};
 pub use sample_key::SampleKey;

@@ -1,11 +1,14 @@
 //! The keys of samples that were seen, each once.
-ghost use Rattle.std.specs.Prelude.{◌≡◌, ◌++◌, [], ◌∷◌, length, not, IfOk, OnErr, if◌then◌else◌};
+ghost use Rattle.std.specs.Prelude.{◌≡◌, ◌<◌, ◌++◌, [], ◌∷◌, length, not, IfOk, OnErr, if◌then◌else◌, slice_get, Some};
 ghost use Rattle.std.specs.List.{list_any};
-ghost use Rattle.packed_keys.specs.Packing.{sample_key_eq};
+ghost use Rattle.packed_keys.specs.declared.sample_key.SampleKey.{SampleKey as AnyKey};
+ghost use Rattle.packed_keys.specs.Packing.{sample_key_eq, labels_in};
+ghost use Rattle.packed_keys.specs.Texts.{IsPackedSet};
 
 use crate::keys::Keys;
 use crate::packing::put_key;
 use crate::sample_key::SampleKey;
+use crate::unpacking::read_part;
 use byte_table::ByteTable;
 use label_sets::Memory;
 use std::alloc::Global;
@@ -61,6 +64,16 @@ impl SeenKeys {
         put_key(&mut self.packed, key)?;
         let found = self.table.insert(self.packed.as_slice())?;
         Ok(found.is_none())
+    }
+
+    /// The labels of the key at a place, as bytes.
+    pub(crate) fn packed_labels(&self, at: usize) -> &[u8]
+        requires { at < length self.now }
+        ensures set { IsPackedSet result.now }
+        ensures labels { (key : AnyKey) → slice_get self.now at ≡ Some key → labels_in result.now ≡ key.labels }
+    {
+        let (_name, labels) = read_part(self.table.at(at));
+        labels
     }
 
     /// The keys, to be read one after the other.

@@ -9,6 +9,7 @@ pub mod Beside
 pub mod PartLists
 pub mod Placing
 pub mod GroupSets
+pub mod LastSeen
 pub mod Nearest
 pub mod Tables
 pub mod Families

@@ -1,13 +1,14 @@
 //! The labels of groups, in the order of the groups.
-ghost use Rattle.std.specs.Prelude.{◌≡◌, ◌++◌, ◌∷◌, ◌<◌, [], false, length, IfOk, OnOk, OnErr, slice_get, Some};
+ghost use Rattle.std.specs.Prelude.{◌≡◌, ◌++◌, ◌∷◌, ◌<◌, [], false, length, IfOk, IfSome, OnOk, OnErr, slice_get, Some};
 ghost use Rattle.std.specs.List.{list_any, IsDistinct};
 ghost use Rattle.label_sets.specs.Labels.{label_sets_eq};
 ghost use Rattle.packed_keys.specs.Packing.{with_set};
 ghost use Rattle.sample_groups.specs.Groups.{shared_labels};
+ghost use Rattle.sample_groups.specs.LastSeen.{EndsWith};
 
 use crate::shared::insert_shared;
 use label_sets::{Kind, LabelSet, Memory};
-use packed_keys::{PackedSet, SeenSets};
+use packed_keys::{PackedSets, SeenKeys, SeenSets};
 use std::alloc::Global;
 use std::marker::Model;
 
@@ -17,7 +18,7 @@ enum Held {
     /// As they came, and shared: nothing was looked for among them.
     Shared(Vec<LabelSet>),
     /// As they came, packed, where nobody shares them.
-    Packed(Vec<PackedSet>),
+    Packed(PackedSets),
     /// In a table, so that they are found.
     Seen(SeenSets),
 }
@@ -39,6 +40,22 @@ impl Model for GroupSets {
     ghost view = { λ s. sets_held s.held };
 }
 
+/// Puts a set behind the others, which are packed.
+fn push_packed(
+    sets: &mut PackedSets,
+    labels: &LabelSet,
+    seen: Option<&SeenKeys>,
+) -> Result<(), Memory>
+    requires { IfSome seen (λ keys. EndsWith keys.now labels.now) }
+    ensures ok { OnOk result (sets.new ≡ sets.old ++ labels.now ∷ []) }
+    ensures err { OnErr result (sets.new ≡ sets.old) }
+{
+    match seen {
+        Some(keys) => sets.push_seen(keys, keys.len() - 1),
+        None => sets.push(labels),
+    }
+}
+
 impl GroupSets {
     /// No labels. They take no memory. `shared` says that the labels that will come live on beside these.
     pub(crate) fn new(alloc: Global, shared: bool) -> GroupSets
@@ -47,7 +64,7 @@ impl GroupSets {
         let held = if shared {
             Held::Shared(Vec::new(alloc))
         } else {
-            Held::Packed(Vec::new(alloc))
+            Held::Packed(PackedSets::new(alloc))
         };
         GroupSets { held }
     }
@@ -70,14 +87,21 @@ impl GroupSets {
     {
         match &self.held {
             Held::Shared(sets) => sets[at].copy(),
-            Held::Packed(sets) => sets[at].set(alloc),
+            Held::Packed(sets) => sets.set(alloc, at),
             Held::Seen(sets) => sets.set(alloc, at),
         }
     }
 
-    /// Puts a set behind the others, which is none of them.
-    pub(crate) fn push(&mut self, alloc: Global, labels: &LabelSet) -> Result<(), Memory>
-        requires { list_any (label_sets_eq labels.now) self.old ≡ false }
+    /// Puts a set behind the others, which is none of them. It need not be packed where a key was seen last that
+    /// has it.
+    pub(crate) fn push(
+        &mut self,
+        alloc: Global,
+        labels: &LabelSet,
+        seen: Option<&SeenKeys>,
+    ) -> Result<(), Memory>
+        requires new { list_any (label_sets_eq labels.now) self.old ≡ false }
+        requires seen { IfSome seen (λ keys. EndsWith keys.now labels.now) }
         ensures ok { OnOk result (self.new ≡ self.old ++ labels.now ∷ []) }
         ensures err { OnErr result (self.new ≡ self.old) }
     {
@@ -86,10 +110,7 @@ impl GroupSets {
                 let labels = labels.copy()?;
                 sets.push(labels)?;
             }
-            Held::Packed(sets) => {
-                let labels = PackedSet::of(alloc, labels)?;
-                sets.push(labels)?;
-            }
+            Held::Packed(sets) => push_packed(sets, labels, seen)?,
             Held::Seen(sets) => {
                 insert_shared(alloc, sets, Kind::Counter, labels)?;
             }

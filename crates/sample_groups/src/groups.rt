@@ -1,7 +1,8 @@
 //! The groups of one family, in the order of their first lines.
-ghost use Rattle.std.specs.Prelude.{◌≡◌, [], true, not, filter_map, None, IfOk, OnOk};
+ghost use Rattle.std.specs.Prelude.{◌≡◌, [], true, not, filter_map, None, IfOk, IfSome, OnOk};
 ghost use Rattle.std.specs.List.{list_all};
 ghost use Rattle.label_sets.specs.declared.label_set.LabelSet.{LabelSet as Labels};
+ghost use Rattle.sample_groups.specs.LastSeen.{EndsWith};
 ghost use Rattle.sample_groups.specs.Groups.{Gathered, with_part, known_group, or_empty, breaks_order, is_overtaken, is_whole_group, reading_from, shared_labels};
 
 use crate::added::Added;
@@ -10,6 +11,7 @@ use crate::reading::key_name;
 use crate::shared::shared_labels;
 use crate::table::Table;
 use label_sets::{Kind, LabelSet, List, Memory, Name, Text};
+use packed_keys::SeenKeys;
 use page_model::{Format, Reading};
 use std::alloc::Global;
 use std::marker::Model;
@@ -46,20 +48,22 @@ impl Groups {
     }
 
     /// Begins a group with a part of a sample whose labels are those of no group. All labels of the sample are the
-    /// group's: none tells it apart from others of its group, as with counters. `shared` says that the labels live on
-    /// beside the groups, where a copy of them takes least memory.
+    /// group's: none tells it apart from others of its group, as with counters. They are packed already
+    /// where a key was `seen` last that has them; otherwise they live on beside the groups, and are shared.
+    /// Nothing is said of the groups any more where memory was wanted.
     pub fn begin(
         &mut self,
         alloc: Global,
         labels: &LabelSet,
         part: Part,
-        shared: bool,
+        seen: Option<&SeenKeys>,
     ) -> Result<(), Memory>
-        requires { known_group self.old labels.now ≡ None }
+        requires seen { IfSome seen (λ keys. EndsWith keys.now labels.now) }
+        requires new { known_group self.old labels.now ≡ None }
         ensures { OnOk result (self.new ≡ with_part self.old labels.now part) }
     {
         match &mut self.table {
-            Some(table) => table.begin(alloc, labels, part, shared),
+            Some(table) => table.begin(alloc, labels, part, seen),
             None => {
                 let table = Table::with(alloc, labels.copy()?, part)?;
                 self.table = Some(Box::new(alloc, table)?);

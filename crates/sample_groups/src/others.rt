@@ -6,6 +6,7 @@ ghost use Rattle.label_sets.specs.declared.label_set.LabelSet.{LabelSet as Label
 ghost use Rattle.label_sets.specs.Labels.{label_sets_eq};
 ghost use Rattle.sample_groups.specs.Beside.{AreBeside};
 ghost use Rattle.sample_groups.specs.Groups.{Gathered, empty_group, AddsPart, is_overtaken, is_whole_group, known_group, reading_named, shared_labels, with_part};
+ghost use Rattle.sample_groups.specs.LastSeen.{EndsWith};
 ghost use Rattle.sample_groups.specs.Placing.{HasPlace};
 
 use crate::added::Added;
@@ -15,6 +16,7 @@ use crate::part::Part;
 use crate::reading::put_reading;
 use crate::shared::{are_shared, shared_labels};
 use label_sets::{Kind, LabelSet, Memory, Name, Text};
+use packed_keys::SeenKeys;
 use page_model::Reading;
 use std::alloc::Global;
 use std::marker::Model;
@@ -183,8 +185,10 @@ impl Others {
         alloc: Global,
         labels: &LabelSet,
         part: Part,
+        seen: Option<&SeenKeys>,
     ) -> Result<(), Memory>
-        requires { known_group self.old labels.now ≡ None }
+        requires new { known_group self.old labels.now ≡ None }
+        requires seen { IfSome seen (λ keys. EndsWith keys.now labels.now) }
         ensures { OnOk result (self.new ≡ with_part self.old labels.now part) }
     {
         let group = Group::of(alloc, part)?;
@@ -194,7 +198,7 @@ impl Others {
         };
         // So that nothing can fail behind the set.
         self.groups.reserve(1)?;
-        self.sets.push(alloc, labels)?;
+        self.sets.push(alloc, labels, seen)?;
         put(&mut self.groups, group);
         self.nearest = Some(nearest);
         Ok(())

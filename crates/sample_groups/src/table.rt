@@ -1,8 +1,9 @@
 //! The groups of a family that has some, in the order of their first lines.
-ghost use Rattle.std.specs.Prelude.{◌≡◌, [], ◌∷◌, filter_map, length, nat_lt, None, IfOk, OnOk};
+ghost use Rattle.std.specs.Prelude.{◌≡◌, [], ◌∷◌, filter_map, length, nat_lt, None, IfOk, IfSome, OnOk};
 ghost use Rattle.std.specs.List.{list_all};
 ghost use Rattle.label_sets.specs.declared.label_set.LabelSet.{LabelSet as Labels};
 ghost use Rattle.sample_groups.specs.Groups.{Gathered, empty_group, with_one, with_part, known_group, AddsPart, is_overtaken, is_whole_group, reading_named, shared_labels};
+ghost use Rattle.sample_groups.specs.LastSeen.{EndsWith};
 ghost use Rattle.sample_groups.specs.Tables.{others_in};
 
 use crate::added::Added;
@@ -12,6 +13,7 @@ use crate::part::Part;
 use crate::reading::put_reading;
 use crate::shared::are_shared;
 use label_sets::{Kind, LabelSet, List, Memory, Name, Text};
+use packed_keys::SeenKeys;
 use page_model::Reading;
 use std::alloc::Global;
 use std::marker::Model;
@@ -68,16 +70,17 @@ fn begin_other(
     others: &mut Option<Box<Others>>,
     labels: &LabelSet,
     part: Part,
-    shared: bool,
+    seen: Option<&SeenKeys>,
 ) -> Result<(), Memory>
-    requires { known_group (others_in others.old) labels.now ≡ None }
+    requires seen { IfSome seen (λ keys. EndsWith keys.now labels.now) }
+    requires new { known_group (others_in others.old) labels.now ≡ None }
     ensures { OnOk result (others_in others.new ≡ with_part (others_in others.old) labels.now part) }
 {
     match others {
-        Some(others) => others.begin(alloc, labels, part),
+        Some(others) => others.begin(alloc, labels, part, seen),
         None => {
-            let mut first = Others::new(alloc, shared);
-            first.begin(alloc, labels, part)?;
+            let mut first = Others::new(alloc, seen.is_none());
+            first.begin(alloc, labels, part, seen)?;
             *others = Some(Box::new(alloc, first)?);
             Ok(())
         }
@@ -138,12 +141,13 @@ impl Table {
         alloc: Global,
         labels: &LabelSet,
         part: Part,
-        shared: bool,
+        seen: Option<&SeenKeys>,
     ) -> Result<(), Memory>
-        requires { known_group self.old labels.now ≡ None }
+        requires seen { IfSome seen (λ keys. EndsWith keys.now labels.now) }
+        requires new { known_group self.old labels.now ≡ None }
         ensures { OnOk result (self.new ≡ with_part self.old labels.now part) }
     {
-        begin_other(alloc, &mut self.others, labels, part, shared)
+        begin_other(alloc, &mut self.others, labels, part, seen)
     }
 
     /// Adds a part of a sample of this kind with these labels to its group, unless it breaks the order of

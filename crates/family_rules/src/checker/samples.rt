@@ -1,5 +1,8 @@
 //! Samples of the family that goes on, and of one that they begin.
-ghost use Rattle.std.specs.Prelude.{◌≡◌, Ok, Some, None, true, false, is_some, IfOk, OnOk};
+ghost use Rattle.std.specs.Prelude.{◌≡◌, Ok, Some, None, true, false, is_some, map, IfOk, IfSome, OnOk};
+ghost use Rattle.exact_decimal.specs.declared.number.Number.{Number as AnyNumber};
+ghost use Rattle.packed_keys.specs.declared.sample_key.SampleKey.{SampleKey as AnyKey};
+ghost use Rattle.sample_groups.specs.LastSeen.{EndsWith};
 ghost use Rattle.label_sets.specs.declared.kind.Kind.TheVariants as kinds;
 ghost use Rattle.page_model.specs.Owners.{kept_labels};
 ghost use Rattle.page_model.specs.Rules.{is_open_metrics};
@@ -18,7 +21,7 @@ use crate::runs::{group_labels, has_own_runs, is_alone};
 use crate::sample_values::part_or_rule;
 use exact_decimal::Number;
 use label_sets::{Kind, LabelSet, Memory, Name};
-use packed_keys::SampleKey;
+use packed_keys::{SampleKey, SeenKeys};
 use page_model::{Format, Rule, Sample, Treatment, is_sample_name};
 use sample_groups::{Added, Part, is_grouped};
 use std::alloc::Global;
@@ -38,13 +41,14 @@ fn begin_in(
     current: &mut Option<Current>,
     labels: &LabelSet,
     part: Part,
-    shared: bool,
+    seen: Option<&SeenKeys>,
 ) -> Result<(), Memory>
-    requires { IsNewGroup current.old labels.now }
+    requires new { IsNewGroup current.old labels.now }
+    requires seen { IfSome seen (λ keys. EndsWith keys.now labels.now) }
     ensures { OnOk result (current.new ≡ current_with (with_part_in kinds.Counter labels.now part) current.old) }
 {
     match current {
-        Some(current) => current.family.groups.begin(alloc, labels, part, shared),
+        Some(current) => current.family.groups.begin(alloc, labels, part, seen),
         None => Ok(()),
     }
 }
@@ -328,11 +332,18 @@ impl ItemChecker {
     fn begin_group(&mut self, key: SampleKey, part: Part) -> Result<(), Memory>
         requires new { IsNewGroup self.now.current key.labels }
         requires seen { is_key_of key self.now.seen ≡ true }
+        requires last { EndsWith (map (λ (e : AnyKey × AnyNumber). e.0) self.now.seen) key.labels }
         requires tells { NameTells key.name self.now.current self.now.seen }
         ensures { OnOk result (self.new ≡ with_part_at self.old kinds.Counter key.labels part) }
     {
         self.group_keys = GroupKeys::Unknown;
-        begin_in(self.alloc, &mut self.current, &key.labels, part, self.keeps)?;
+        begin_in(
+            self.alloc,
+            &mut self.current,
+            &key.labels,
+            part,
+            self.seen.packed_keys(),
+        )?;
         self.group_keys = GroupKeys::Of(key.name);
         Ok(())
     }

@@ -1,11 +1,14 @@
-use Rattle.std.proofs.Common.{◌∙◌, sym, subst, false}
+use Rattle.std.proofs.Common.{◌∙◌, map, sym, subst, false}
+use Rattle.exact_decimal.specs.declared.number.Number.{Number}
+use Rattle.packed_keys.specs.declared.sample_key.SampleKey.{SampleKey}
+use Rattle.sample_groups.specs.LastSeen.{EndsWith}
 use Rattle.label_sets.specs.declared.kind.Kind.TheVariants.{Counter}
 use Rattle.label_sets.specs.declared.label_set.LabelSet.{LabelSet}
 use Rattle.family_rules.specs.KeyedValues.{is_key_of}
 use Rattle.family_rules.specs.GroupKeys.{IsNewGroup, NameTells}
 use Rattle.family_rules.specs.Samples.{is_back_in_groups, with_part_at}
 use Rattle.family_rules.proofs.Taking.{is_no_rule}
-use Rattle.family_rules.proofs.NewGroups.{first_stop, group_new, key_seen, name_tells, first_none, first_added}
+use Rattle.family_rules.proofs.NewGroups.{first_stop, group_new, key_seen, key_last, name_tells, first_none, first_added}
 use Rattle.family_rules.proofs.checker.ItemChecker.add_first.Goals as goal
 
 pub returns-then-is_some-clause-broken : goal.returns-then-is_some-clause-broken
@@ -25,6 +28,12 @@ begin_group-requires-clause-seen c =
     let none = is_no_rule c.in_ok-broken.broken (sym c.is_some.ensures ∙ c.if-is_some.false) in
     (λ i. is_key_of (record { name = c.in_ok-copy.ensures i; labels = c.in_ok-copy-2.ensures i }) c.add_key.new.self.seen)
     ∙ key_seen c.args.self.now c.add_key.new.self c.args.key c.args.value c.args.part c.requires (sym none ∙ c.in_ok-broken.ensures.broken) (c.in_ok-broken.ensures.added none)
+
+pub begin_group-requires-clause-last : goal.begin_group-requires-clause-last
+begin_group-requires-clause-last c =
+    let none = is_no_rule c.in_ok-broken.broken (sym c.is_some.ensures ∙ c.if-is_some.false) in
+    subst (λ (labels : LabelSet). EndsWith (map (λ (e : SampleKey × Number). e.0) c.add_key.new.self.seen) labels) (sym c.in_ok-copy-2.ensures)
+    (key_last c.args.self.now c.add_key.new.self c.args.key c.args.value c.args.part c.requires (sym none ∙ c.in_ok-broken.ensures.broken) (c.in_ok-broken.ensures.added none))
 
 pub begin_group-requires-clause-tells : goal.begin_group-requires-clause-tells
 begin_group-requires-clause-tells c =

@@ -11,6 +11,6 @@ pub returns : goal.returns
 returns c =
     let t = c.self.inside in
     let labels = c.args.labels.now in
-    let apart = unknown_other labels t.first_labels t.first (others_in t.others) (ap (λ (l : List (LabelSet × Gathered)). known_group l labels) c.self.view_is ∙ c.requires) in
+    let apart = unknown_other labels t.first_labels t.first (others_in t.others) (ap (λ (l : List (LabelSet × Gathered)). known_group l labels) c.self.view_is ∙ c.requires.new) in
     on_ok_weaker c.begin_other.result (λ grown. ap (λ (l : List (LabelSet × Gathered)). (t.first_labels, t.first) ∷ l) grown ∙ with_other labels t.first_labels t.first (others_in t.others) c.args.part apart.0
     ∙ ap (λ (l : List (LabelSet × Gathered)). with_part l labels c.args.part) c.self.view_is) c.begin_other.ensures
