@@ -14,7 +14,8 @@ use Rattle.bridge_cli.specs.Inputs.{TookAtMost, IsReadThrough}
 use Rattle.bridge_cli.specs.Stops.{StopCause, no_form_text}
 use Rattle.bridge_cli.specs.PageInputs.{StopLeaves}
 use Rattle.bridge_cli.specs.Answers.{IsFixedAnswer, Answers, IsAnswer, no_form, answers}
-use Rattle.bridge_cli.specs.ProgramOutputs.{WroteFront, HasAnswer, Answered, IsOnlyAnswer, TellsFault}
+use Rattle.bridge_ports.specs.Writing.{WroteFront}
+use Rattle.bridge_cli.specs.ProgramOutputs.{HasAnswer, Answered, IsOnlyAnswer, TellsFault}
 use Rattle.bridge_cli.specs.StopAnswers.{IsStopAnswer, said, wanting, StopsAs}
 use Rattle.bridge_cli.proofs.CommandLaws.{one_answer, same_input}
 

@@ -1,5 +1,5 @@
 -- The laws that have a line for each command, and what follows: words ask for one command, and there is one answer.
-use Rattle.std.proofs.Common.{◌≡◌, ◌≢◌, ℕ, true, false, cond, List, [], ◌∷◌, Option, Some, None, refl, sym, ap, subst, ◌∙◌, arith}
+use Rattle.std.proofs.Common.{◌≡◌, ◌≢◌, ℕ, true, false, cond, List, [], ◌∷◌, ◌++◌, Option, Some, None, refl, sym, ap, subst, ◌∙◌, arith}
 use Rattle.std.specs.Prelude.{codes, bytes_eq, IsSome}
 use Rattle.std.specs.Fmt.{decimal}
 use Rattle.std.specs.Str.Parse.{digits_value}
@@ -10,6 +10,13 @@ use Rattle.page_model.specs.declared.format.Format.TheVariants.{Text, OpenMetric
 use Rattle.bridge_cli.specs.declared.words.Command.{Command}
 use Rattle.bridge_cli.specs.declared.words.Command.TheVariants.{Help, Version, Check, Convert, Replay, Load}
 use Rattle.replay_script.specs.ScriptParts.{format_word}
+use Rattle.page_model.specs.declared.page.Page.{Page}
+use Rattle.page_model.specs.declared.event.Outcome.TheVariants as outcomes
+use Rattle.bridge_ports.specs.Targets.{Scraped}
+use Rattle.start_times.specs.Scrapes.{moment_after}
+use Rattle.otlp_tree.specs.declared.tree.Request.{Request}
+use Rattle.target_core.specs.Events.{event_request}
+use Rattle.otlp_json.specs.Texts.{request_text}
 use Rattle.bridge_cli.specs.Statuses.{code_of}
 use Rattle.bridge_cli.specs.CommandWords.{words_of, IsInLimits, IsCommand, FitNoForm, AskFor, reads_input, prints_pieces, takes_memory}
 use Rattle.bridge_cli.specs.Inputs.{IsInput}
@@ -78,6 +85,12 @@ told (Check format) limits = ap Check (format_told format)
 told (Convert format target nanos) limits =
     ap (λ f. Convert f (target_of target.job target.instance) (digits_value 10 (decimal nanos))) (format_told format)
     ∙ ap (λ t. Convert format t (digits_value 10 (decimal nanos))) (told_target target limits.0) ∙ ap (Convert format target) (decimal_is_IsNumeral nanos (omega (arith, limits.1))).1
+
+-- the text of the tree of a page's event, and an LF, are what `convert` prints of the page
+pub tree_text : (target : Scraped) (nanos : ℕ) (page : Page) (request : Request) → request ≡ event_request target (moment_after None nanos) (outcomes.Page page)
+    → request_text request ++ codes "\n" ≡ converted_text target nanos page
+unfolding converted_text
+tree_text target nanos page request is = ap (λ r. request_text r ++ codes "\n") is
 
 -- a command has one answer; where it reads nothing, to all bytes
 command_once : (command : Command) (bytes others : List ℕ) (s r : ℕ) (t u : List ℕ) → (reads_input command ≡ true → bytes ≡ others) → Answers command bytes s t → Answers command others r u

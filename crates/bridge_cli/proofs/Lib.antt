@@ -5,7 +5,6 @@ mod PageLaws
 mod PageAnswerLaws
 mod ScriptAnswerLaws
 mod ReplayLaws
-mod SampleLaws
 mod ShownLaws
 mod VisitLaws
 mod TalkLaws

@@ -28,7 +28,8 @@ use Rattle.bridge_cli.specs.PageAnswers.{page_setting, IsPageAnswer, page_done, 
 use Rattle.bridge_cli.specs.PageInputs.{IsFed, WasFed, IsFedWhole, HoldsPage, HoldsCounts, StopLeaves, Leaves}
 use Rattle.bridge_cli.specs.ProgramOutputs.{HasAnswer}
 use Rattle.bridge_cli.specs.StopAnswers.{StopsAs}
-use Rattle.bridge_cli.proofs.IoLaws.{consumes_none, consumes_twice, consumes_keeps, all_taken}
+use Rattle.bridge_ports.proofs.Laws.{consumes_none, consumes_twice, consumes_keeps}
+use Rattle.bridge_cli.proofs.IoLaws.{all_taken}
 
 -- a fault that stands however the bytes go on is theirs
 pub fault_of : (f : Format) (bytes : List ℕ) (line : ℕ) (rule : Rule) → Refuses (page_setting f) bytes (faults.Refused line rule) → FirstFault (page_setting f) bytes (line, rule)

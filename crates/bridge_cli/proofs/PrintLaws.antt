@@ -1,11 +1,11 @@
 -- From what is to be printed, and how printing ended, to what the program answers.
-use Rattle.std.proofs.Common.{◌≡◌, ◌≢◌, ℕ, Bool, true, false, List, [], Option, Some, None, Err, refl, sym, subst, ◌∙◌, ◌⊎◌, inl, inr, arith}
+use Rattle.std.proofs.Common.{◌≡◌, ◌≢◌, ℕ, Bool, true, false, List, [], Option, Some, None, Result, Ok, Err, OnOk, OnErr, refl, sym, subst, ◌∙◌, ◌⊎◌, inl, inr, arith}
 use Rattle.std.specs.Prelude.{⊤}
 use Rattle.std.specs.Io.KnownBytes.{Appends}
 use Rattle.std.proofs.lemmas.Bool.{true≢false}
 use Rattle.replay_script.specs.declared.script.Script.{Script}
 use Rattle.bridge_cli.specs.declared.answer.Printed.{Printed}
-use Rattle.bridge_cli.specs.declared.answer.Printed.TheVariants.{Whole, Bodies, Report}
+use Rattle.bridge_cli.specs.declared.answer.Printed.TheVariants.{Whole, Tree, Bodies, Report}
 use Rattle.bridge_cli.specs.declared.replaying.Cut.{Cut}
 use Rattle.bridge_cli.specs.declared.replaying.Cut.TheVariants as cuts
 use Rattle.bridge_cli.specs.declared.status.Status.{Status}
@@ -25,7 +25,8 @@ use Rattle.bridge_cli.specs.CommandWords.{IsCommand, FitNoForm, AskForNo, WhereR
 use Rattle.bridge_cli.specs.StopAnswers.{IsStopAnswer, StopsAs}
 use Rattle.bridge_cli.specs.StopAnswers as stop_answers
 use Rattle.bridge_cli.specs.Answers.{Answers, IsAnswer, no_form, answers, IsCutAnswer, whole, cut_off, script_done, IsReportAnswer}
-use Rattle.bridge_cli.specs.ProgramOutputs.{WroteFront, HasAnswer, Answered, AnsweredInPart, AnsweredInPieces, ShelvesVisits, TellsFault}
+use Rattle.bridge_ports.specs.Writing.{WroteFront}
+use Rattle.bridge_cli.specs.ProgramOutputs.{HasAnswer, Answered, AnsweredInPart, AnsweredInPieces, ShelvesVisits, TellsFault}
 use Rattle.bridge_cli.specs.Printed.{cut_status, CutCause, PrintsScript, PrintsReport, Gives, GivesPart, IsNothing, IsPrintable, IsWhole, Ended, printed, stopped, wanting, IsPartOf, part_of_whole, part_of_some, AnswersVisits, IsShelved, IsPrintedOf, IsPrintedFor, IsStopPrinted, HoldsScript, HasPartOf}
 use Rattle.bridge_cli.proofs.CommandLaws.{one_command, pieces_take}
 use Rattle.bridge_cli.proofs.AnswerLaws.{any_bytes, words_answer, stop_told, stop_untold, told_or_not, no_front, tells_fault}
@@ -36,17 +37,36 @@ use Rattle.bridge_cli.proofs.AnswerLaws.{any_bytes, words_answer, stop_told, sto
 pub same_text : (Says : List ℕ → ℕ → List ℕ → Type 0) (left : Option (List ℕ)) (status : ℕ) (made text : List ℕ) → HasAnswer Says left status made → text ≡ made → HasAnswer Says left status text
 same_text Says left status made text has same = let At : List ℕ → Type 0 = λ t. HasAnswer Says left status t in subst At (sym same) has
 
+-- a front may be printed of what is printed whole
+whole_part : (p : Printed) (text : List ℕ) → IsWhole p → GivesPart p text → Gives p text
+whole_part (Whole t) text is e = e
+whole_part (Tree request) text is e = e
+whole_part (Bodies script scrapers page) text is e = absurd is
+whole_part (Report script) text is e = absurd is
+
+-- it can be printed
+whole_printable : (p : Printed) → IsWhole p → IsPrintable statuses.Done p
+whole_printable (Whole t) is = tt
+whole_printable (Tree request) is = tt
+whole_printable (Bodies script scrapers page) is = absurd is
+whole_printable (Report script) is = absurd is
+
+-- and its command visits nothing
+whole_visits : (command : Command) (left : Option (List ℕ)) (p : Printed) → IsWhole p → prints_pieces command ≡ false → AnswersVisits command left p
+whole_visits command left (Whole t) is none = none
+whole_visits command left (Tree request) is none = none
+whole_visits command left (Bodies script scrapers page) is none = absurd is
+whole_visits command left (Report script) is none = absurd is
+
 -- a text that a command made
 pub whole_printed : (command : Command) (left : Option (List ℕ)) (p : Printed) → IsWhole p → prints_pieces command ≡ false → ((text : List ℕ) → Gives p text → HasAnswer (Answers command) left (code_of statuses.Done) text) → IsPrintedOf command left p
-whole_printed command left (Whole t) is none gives = record {
+whole_printed command left p is none gives = record {
   gives = gives;
-  parts = λ text e. let has = gives text e in record { bytes = has.bytes; on_input = has.on_input; says = part_of_whole (code_of statuses.Done) text has.says };
-  printable = tt;
-  whole = λ _. tt;
-  visits = none;
+  parts = λ text e. let has = gives text (whole_part p text is e) in record { bytes = has.bytes; on_input = has.on_input; says = part_of_whole (code_of statuses.Done) text has.says };
+  printable = whole_printable p is;
+  whole = λ _. is;
+  visits = whole_visits command left p is none;
 }
-whole_printed command left (Bodies script scrapers page) is none gives = absurd is
-whole_printed command left (Report script) is none gives = absurd is
 
 -- the bodies of a script
 pub bodies_printed : (said : Option ℕ) (page : Bool) (left : Option (List ℕ)) (script : Script) (scrapers : ℕ) → HoldsScript left script → IsPrintedOf (Replay said page) left (Bodies script scrapers page)
@@ -102,6 +122,7 @@ words_printed words command left p is of = record {
 -- the answer to a stop
 -- the answer of a stop as a text
 pub stop_whole : (stop : Stop) (status : Status) (p : Printed) → IsStopPrinted stop status p → (text : List ℕ) × IsStopAnswer stop status text
+stop_whole stop status (Tree request) is = absurd is
 stop_whole stop status (Bodies script scrapers page) is = absurd is
 stop_whole stop status (Report script) is = absurd is
 stop_whole stop status (Whole t) is = (_, is)
@@ -148,6 +169,7 @@ stop_unread stop status p is unread = let answer = stop_whole stop status p is i
     by stops.Read u e = u
 
 pub stop_printed : (words : List (List ℕ)) (left : Option (List ℕ)) (stop : Stop) (status : Status) (p : Printed) → IsStopPrinted stop status p → StopsAs (IsAnswer words) left stop → IsPrintedFor words left status p
+stop_printed words left stop status (Tree request) is stops = absurd is
 stop_printed words left stop status (Bodies script scrapers page) is stops = absurd is
 stop_printed words left stop status (Report script) is stops = absurd is
 stop_printed words left stop status (Whole t) is stops = record {
@@ -162,6 +184,7 @@ stop_printed words left stop status (Whole t) is stops = record {
     says told text e = same_text (IsAnswer words) left (code_of status) _ text (stop_told (IsAnswer words) left stop status _ is stops told) e
 
 pub stop_nothing : (stop : Stop) (status : Status) (p : Printed) → IsStopPrinted stop status p → IsUntold (code_of status) → IsNothing p
+stop_nothing stop status (Tree request) is untold = absurd is
 stop_nothing stop status (Bodies script scrapers page) is untold = absurd is
 stop_nothing stop status (Report script) is untold = absurd is
 stop_nothing stop status (Whole t) is untold = stop_untold stop status _ is untold
@@ -171,11 +194,13 @@ stop_nothing stop status (Whole t) is untold = stop_untold stop status _ is unto
 -- nothing is left of nothing
 nothing_part : (p : Printed) (text : List ℕ) → IsNothing p → GivesPart p text → text ≡ []
 nothing_part (Whole t) text none e = e ∙ none
+nothing_part (Tree request) text none e = absurd none
 nothing_part (Bodies script scrapers page) text none e = absurd none
 nothing_part (Report script) text none e = absurd none
 
 nothing_text : (p : Printed) (text : List ℕ) → IsNothing p → Gives p text → text ≡ []
 nothing_text (Whole t) text none e = e ∙ none
+nothing_text (Tree request) text none e = absurd none
 nothing_text (Bodies script scrapers page) text none e = absurd none
 nothing_text (Report script) text none e = absurd none
 
@@ -186,6 +211,7 @@ no_front_of p text before after none gives front = no_front before after text fr
 -- what isn't whole is of a command that is done
 pieces_done : (status : Status) (p : Printed) → IsPrintable status p → ¬ IsWhole p → status ≡ statuses.Done
 pieces_done status (Whole t) right other = absurd (other tt)
+pieces_done status (Tree request) right other = absurd (other tt)
 pieces_done status (Bodies script scrapers page) right other = right.1
 pieces_done status (Report script) right other = right.2
 
@@ -367,6 +393,7 @@ ended_shelf words left status p before after result shelf shelf_now for (printed
 
     by : (q : Printed) → Gives q text → AnswersVisits command left q → IsShelved q shelf shelf_now → ShelvesVisits command left before after shelf shelf_now
     by (Whole t) given none is_shelved = absurd (true≢false (sym visits ∙ none))
+    by (Tree request) given none is_shelved = absurd (true≢false (sym visits ∙ none))
     by (Bodies script scrapers page) given answer is_shelved = record { script = script; text = text; answer = answer text given; written = written; shelved = is_shelved }
     by (Report script) given answer is_shelved = record { script = script; text = text; answer = answer text given; written = written; shelved = is_shelved }
 
@@ -393,6 +420,13 @@ print_front status p q before after result text same gives front e =
     let Given : Printed → Type 0 = λ x. GivesPart x text in
     let At : ℕ → Type 0 = λ r. Ended status p before after r in
     subst At (sym e) (stopped text (subst Given (sym same) gives) front)
+
+-- a text was printed at once, or a write failed
+pub print_at_once : {E : Type 0} (status : Status) (p q : Printed) (before after : Option (List ℕ)) (result : ℕ) (text : List ℕ) (written : Result ⊤ E) → p ≡ q → Gives q text → GivesPart q text
+    → OnOk written (Appends before after text) → OnErr written (WroteFront before after text) → OnOk written (result ≡ code_of status) → OnErr written (result ≡ code_of statuses.WriteFailed)
+    → Ended status p before after result
+print_at_once status p q before after result text (Ok done) same gives part all front e f = print_done status p q before after result text same gives all e
+print_at_once status p q before after result text (Err fault) same gives part all front e f = print_front status p q before after result text same part front f
 
 -- printing a script was cut off
 pub print_cut : (status : Status) (p : Printed) (script : Script) (scrapers : ℕ) (page : Bool) (before after : Option (List ℕ)) (result : ℕ) (cut : Cut) → p ≡ Bodies script scrapers page

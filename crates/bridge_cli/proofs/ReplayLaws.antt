@@ -1,6 +1,6 @@
 -- What a script's records come to is one text, and how it grows by one body.
-use Rattle.std.proofs.Common.{◌≡◌, ℕ, zero, suc, ◌+◌, ◌^◌, ◌<◌, ◌≤◌, List, [], ◌∷◌, ◌++◌, length, get_or, Option, Some, None, Result, Ok, Err, refl, sym, ap, subst, ◌∙◌, arith, append_assoc, append-nil}
-use Rattle.std.specs.Prelude.{slice_get, OnOk, codes, ⊤}
+use Rattle.std.proofs.Common.{◌≡◌, ℕ, zero, suc, ◌+◌, ◌^◌, ◌<◌, ◌≤◌, List, [], ◌∷◌, ◌++◌, length, get_or, Option, Some, None, Result, Ok, Err, refl, sym, ap, subst, ◌∙◌, arith, append-nil}
+use Rattle.std.specs.Prelude.{slice_get, IfOk, codes, ⊤}
 use Rattle.std.specs.List.{AllByRecursion}
 use Rattle.page_model.specs.declared.format.Format.{Format}
 use Rattle.otlp_json.specs.Texts.{request_text}
@@ -32,8 +32,10 @@ use Rattle.bridge_cli.specs.declared.replaying.Cut.{Cut}
 use Rattle.bridge_cli.specs.declared.replaying.Cut.TheVariants as cuts
 use Rattle.bridge_cli.specs.Limits.{most_rounds}
 use Rattle.bridge_cli.specs.Replays.{script_tracking, reply_talk, IsReplyEvent, IsEventAt, AreEvents, body_after, bodies_of, IsTextOfSome, IsTextOf, AreTexts, joined_texts, IsReplay, IsReplayOfSome}
-use Rattle.bridge_cli.specs.Printed.{MakesBody, PrintsNext, CutsTarget, CutsBodies, StandsForAll, PrintedSome, PrintedTargets}
-use Rattle.bridge_cli.specs.ProgramOutputs.{WroteFront}
+use Rattle.bridge_ports.proofs.Laws.{appends_none, appends_twice, front_behind}
+use Rattle.otlp_tree.specs.declared.tree.Request.{Request}
+use Rattle.bridge_cli.specs.Printed.{MakesTree, PrintsNext, CutsTarget, CutsBodies, StandsForAll, PrintedSome, PrintedTargets}
+use Rattle.bridge_ports.specs.Writing.{WroteFront}
 
 -- ---- one text
 
@@ -168,31 +170,9 @@ at_place [] i x inside e = absurd (omega arith)
 at_place (y ∷ ys) zero x inside e = ap Some (sym e)
 at_place (y ∷ ys) (suc i) x inside e = at_place ys i x (omega (arith, inside)) e
 
--- bytes that grow twice
-pub grown_twice : (a b c : Option (List ℕ)) (xs ys : List ℕ) → Appends a b xs → Appends b c ys → Appends a c (xs ++ ys)
-grown_twice None b c xs ys first second = tt
-grown_twice (Some us) None c xs ys first second = absurd first
-grown_twice (Some us) (Some bs) None xs ys first second = absurd second
-grown_twice (Some us) (Some bs) (Some cs) xs ys first second = second ∙ ap (λ zs. zs ++ ys) first ∙ append_assoc us xs ys
-
--- a text was written, and a front of what follows
-pub front_behind : (a b c : Option (List ℕ)) (text piece : List ℕ) → Appends a b text → WroteFront b c piece → WroteFront a c (text ++ piece)
-front_behind a b c text piece first front = record {
-  front = text ++ front.front;
-  rest = front.rest;
-  text = ap (λ t. text ++ t) front.text ∙ sym (append_assoc text front.front front.rest);
-  some_left = front.some_left;
-  written = grown_twice a b c text front.front first front.written;
-}
-
--- nothing grows
-pub grown_none : (a : Option (List ℕ)) → Appends a a []
-grown_none None = tt
-grown_none (Some xs) = sym (append-nil xs)
-
 -- nothing was printed of a target
 pub printed_none : (h : Header) (t : ScriptTarget) (state : Following) (held : Option (List ℕ)) → StandsFor t.target (script_tracking h) state [] → PrintedSome h t 0 state held held
-printed_none h t state held stands = record { events = []; are = tt; count = refl; stands = stands; written = grown_none held }
+printed_none h t state held stands = record { events = []; are = tt; count = refl; stands = stands; written = appends_none held }
 
 -- the event behind those that were printed
 next_event : (h : Header) (t : ScriptTarget) (at : ℕ) (state : Following) (a b : Option (List ℕ)) (r : MemoryReply) (e : Event) → (was : PrintedSome h t at state a b) → slice_get t.scrapes at ≡ Some r → IsReplyEvent h r e
@@ -207,7 +187,7 @@ printed_more h t at old new a b c r e was stands is state more = record {
   are = (next_event h t at old a b r e was stands is, was.are);
   count = omega (arith, was.count);
   stands = state;
-  written = grown_twice a b c (bodies_of h t.target was.events) (body_after h t.target was.events e) was.written more;
+  written = appends_twice a b c (bodies_of h t.target was.events) (body_after h t.target was.events e) was.written more;
 }
 
 -- all bodies of a target were printed
@@ -235,13 +215,13 @@ printed_stop h t at state a b c was none =
     let Grown : List ℕ → Type 0 = λ t. Appends a c t in (
       bodies_of h t.target was.events,
       record { events = was.events; are = was.are; says = refl },
-      subst Grown (append-nil (bodies_of h t.target was.events)) (grown_twice a b c (bodies_of h t.target was.events) [] was.written none),
+      subst Grown (append-nil (bodies_of h t.target was.events)) (appends_twice a b c (bodies_of h t.target was.events) [] was.written none),
     )
 
 -- ---- one target more
 
 pub targets_none : (s : Script) (held : Option (List ℕ)) → PrintedTargets s 0 held held
-targets_none s held = record { texts = []; are = tt; count = refl; written = grown_none held }
+targets_none s held = record { texts = []; are = tt; count = refl; written = appends_none held }
 
 pub targets_more : (s : Script) (at : ℕ) (a b c : Option (List ℕ)) (t : ScriptTarget) (text : List ℕ) → PrintedTargets s at a b → slice_get s.targets at ≡ Some t → IsTextOf s.header t text → Appends b c text
     → PrintedTargets s (at + 1) a c
@@ -249,7 +229,7 @@ targets_more s at a b c t text was stands is more = record {
   texts = text ∷ was.texts;
   are = (record { target = t; stands = ap (slice_get s.targets) was.count ∙ stands; is = is }, was.are);
   count = omega (arith, was.count);
-  written = grown_twice a b c (joined_texts was.texts) text was.written more;
+  written = appends_twice a b c (joined_texts was.texts) text was.written more;
 }
 
 pub targets_all : (s : Script) (at : ℕ) (a b : Option (List ℕ)) → PrintedTargets s at a b → at ≡ length s.targets → (text : List ℕ) × IsReplay s text × Appends a b text
@@ -271,7 +251,7 @@ targets_front s at a b c t part was stands is front =
 pub targets_stop : (s : Script) (at : ℕ) (a b c : Option (List ℕ)) (t : ScriptTarget) (part : List ℕ) → PrintedTargets s at a b → slice_get s.targets at ≡ Some t → IsTextOfSome s.header t part → Appends b c part
     → (text : List ℕ) × IsReplayOfSome s text × Appends a c text
 targets_stop s at a b c t part was stands is more =
-    (joined_texts was.texts ++ part, some_of s at a b t part was stands is, grown_twice a b c (joined_texts was.texts) part was.written more)
+    (joined_texts was.texts ++ part, some_of s at a b t part was stands is, appends_twice a b c (joined_texts was.texts) part was.written more)
 
 -- ---- what is made
 
@@ -282,14 +262,17 @@ reply_event h r got o same has =
     let At : List ℕ → Type 0 = λ bytes. HasOutcome h.limit h.max_page (record { at = r.at; sent = []; got = bytes; end = r.end }) o in
     record { time = refl; comes_to = subst At same has }
 
--- a body that was made
-pub made_body : {E : Type 0} (h : Header) (target : Scraped) (r : MemoryReply) (earlier : List Event) (new : Following) (body before text : List ℕ) (result : Result ⊤ E) (e : Event) → IsReplyEvent h r e
-    → text ≡ request_text (request_after target (script_tracking h) earlier e) → StandsFor target (script_tracking h) new (e ∷ earlier) → before ≡ [] → OnOk result (body ≡ before ++ text ++ codes "\n")
-    → MakesBody h target r earlier new body result
+-- a tree that was made
+pub made_tree : {E : Type 0} (h : Header) (target : Scraped) (r : MemoryReply) (earlier : List Event) (new : Following) (result : Result Request E) (e : Event) → IsReplyEvent h r e
+    → IfOk result (λ request. (request ≡ request_after target (script_tracking h) earlier e) × StandsFor target (script_tracking h) new (e ∷ earlier))
+    → MakesTree h target r earlier new result
+made_tree h target r earlier new (Ok request) e is made = (e, is, made.1, made.0)
+made_tree h target r earlier new (Err wanting) e is made = tt
+
+-- the text of a tree, and an LF, are the body of the event whose tree it is
+pub tree_body : (h : Header) (target : Scraped) (earlier : List Event) (e : Event) (request : Request) → request ≡ request_after target (script_tracking h) earlier e → request_text request ++ codes "\n" ≡ body_after h target earlier e
 unfolding body_after
-made_body h target r earlier new body before text (Ok done) e is same stands none made =
-    (e, is, stands, made ∙ ap (λ b. b ++ text ++ codes "\n") none ∙ ap (λ t. t ++ codes "\n") same)
-made_body h target r earlier new body before text (Err wanting) e is same stands none made = tt
+tree_body h target earlier e request is = ap (λ r. request_text r ++ codes "\n") is
 
 -- ---- where printing is cut off
 

@@ -18,7 +18,7 @@ use Rattle.bridge_cli.specs.Replays.{IsReplayWith}
 use Rattle.bridge_cli.specs.ProgramOutputs.{HasAnswer}
 use Rattle.bridge_cli.specs.StopAnswers.{StopsAs}
 use Rattle.bridge_cli.specs.Printed.{HoldsBytes, HoldsScript}
-use Rattle.bridge_cli.proofs.IoLaws.{consumes_twice}
+use Rattle.bridge_ports.proofs.Laws.{consumes_twice}
 
 -- a block more is too much
 pub block_too_much : (most : ℕ) (a b c : Option (List ℕ)) (bytes block : List ℕ) (count : ℕ) → Consumes a b bytes → Consumes b c (take count block) → length bytes ≤ most → count ≤ length block

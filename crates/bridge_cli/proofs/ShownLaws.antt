@@ -17,6 +17,7 @@ use Rattle.page_model.specs.declared.format.Treatment.TheVariants.{Scraped as Of
 use Rattle.page_model.specs.Laws.{TextsAreRight, NothingIsRight}
 use Rattle.page_model.specs.Presence.{page_of_outcome, empty_page}
 use Rattle.page_model.specs.Written.{text_setting}
+use Rattle.bridge_ports.proofs.Laws.{appends_twice, front_behind}
 use Rattle.bridge_ports.specs.Targets.{Scraped, IsTextUpTo}
 use Rattle.bridge_ports.specs.declared.talk.MemoryReply.{MemoryReply}
 use Rattle.http_talk.specs.Replies.{scraped_setting, IsPageOutcome, HasOutcome}
@@ -36,8 +37,8 @@ use Rattle.bridge_cli.specs.declared.replaying.Cut.{Cut}
 use Rattle.bridge_cli.specs.declared.replaying.Cut.TheVariants as cuts
 use Rattle.bridge_cli.specs.Replays.{script_tracking, reply_talk, AreEvents, AreTexts, joined_texts, IsReplay, IsReplayOfSome, IsLastShown, AreLastShown, IsReplayPage, IsReplayWith}
 use Rattle.bridge_cli.specs.Printed.{CutCause, CutsBodies, PrintsText, PrintsScript, StandsForAll, ShowsLast}
-use Rattle.bridge_cli.proofs.SampleLaws.{few_samples}
-use Rattle.bridge_cli.proofs.ReplayLaws.{events_once, replay_once, outcome_holds, grown_twice, front_behind, some_text}
+use Rattle.scrape_client.proofs.Laws.{few_samples}
+use Rattle.bridge_cli.proofs.ReplayLaws.{events_once, replay_once, outcome_holds, some_text}
 
 -- ---- one page
 
@@ -192,10 +193,10 @@ pub page_behind : (page : Bool) (s : Script) (shown : List Shown) (a b c : Optio
 page_behind page s shown a b c r asked some are bodies text = subst (λ p. PrintsScript p s a c r) (sym asked) (by r text)
   where
     by : (r : Result ⊤ Cut) → PrintsText (federated_text shown) b c r → PrintsScript true s a c r
-    by (Ok done) text = (bodies.0 ++ federated_text shown, with_page s bodies.0 shown bodies.1 are, grown_twice a b c bodies.0 (federated_text shown) bodies.2 text)
+    by (Ok done) text = (bodies.0 ++ federated_text shown, with_page s bodies.0 shown bodies.1 are, appends_twice a b c bodies.0 (federated_text shown) bodies.2 text)
     by (Err cuts.Write) text = (bodies.0 ++ federated_text shown, inr (with_page s bodies.0 shown bodies.1 are), front_behind a b c bodies.0 (federated_text shown) bodies.2 text)
     by (Err cuts.Memory) text =
-        let Grown : List ℕ → Type 0 = λ t. Appends a c t in (bodies.0, inl (all_is_some s bodies.0 some bodies.1), subst Grown (append-nil bodies.0) (grown_twice a b c bodies.0 [] bodies.2 text))
+        let Grown : List ℕ → Type 0 = λ t. Appends a c t in (bodies.0, inl (all_is_some s bodies.0 some bodies.1), subst Grown (append-nil bodies.0) (appends_twice a b c bodies.0 [] bodies.2 text))
 
 -- no page was asked for
 pub no_page_behind : (page : Bool) (s : Script) (a b : Option (List ℕ)) → page ≡ false → PrintedAll s a b → PrintsScript page s a b (Ok tt)

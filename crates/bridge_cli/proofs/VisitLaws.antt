@@ -24,7 +24,7 @@ use Rattle.target_table.specs.Runs.{Run, IsRightRun, is_same_target}
 use Rattle.scraper_pool.specs.Turns.{run_of}
 use Rattle.target_table.specs.Tables.{HasAllVisits, IsTrackAt, AreTracks, AreUnvisited}
 use Rattle.bridge_cli.specs.Replays.{MayBeCut}
-use Rattle.bridge_cli.proofs.ReplayLaws.{grown_none}
+use Rattle.bridge_ports.proofs.Laws.{appends_none}
 use Rattle.bridge_cli.specs.Rounds.{script_followed, script_targets, script_run, visits_counted, IsUnvisited, AreWiresOf, IsScriptRun, AreVisitedThrough}
 
 -- ---- lists
@@ -193,4 +193,4 @@ first_target (t ∷ ts) some = (t, refl)
 pub none_printed : (page : Bool) (s : Script) (held : Option (List ℕ)) → 1 ≤ length s.targets → (text : List ℕ) × MayBeCut page s text × Appends held held text
 none_printed page s held some =
     let t = first_target s.targets some in
-    ([], inl (record { texts = []; are = tt; target = t.0; stands = t.1; part = []; is_part = record { events = []; are = tt; says = refl }; says = refl }), grown_none held)
+    ([], inl (record { texts = []; are = tt; target = t.0; stands = t.1; part = []; is_part = record { events = []; are = tt; says = refl }; says = refl }), appends_none held)

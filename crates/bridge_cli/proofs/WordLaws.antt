@@ -1,6 +1,6 @@
 -- Words: what the words of a conversion hold.
-use Rattle.std.proofs.Common.{◌≡◌, ◌≢◌, ℕ, ◌<◌, ◌≤◌, Bool, true, false, not, eqb, List, [], ◌∷◌, map, length, get_or, Result, Ok, Err, Some, None, refl, sym, ap, subst, ◌∙◌, arith}
-use Rattle.std.specs.Prelude.{codes, OnErr}
+use Rattle.std.proofs.Common.{◌≡◌, ◌≢◌, ℕ, ◌<◌, ◌≤◌, Bool, true, false, not, eqb, List, [], ◌∷◌, map, length, get_or, Some, None, refl, sym, ap, subst, ◌∙◌, arith}
+use Rattle.std.specs.Prelude.{codes}
 use Rattle.std.specs.Fmt.{decimal}
 use Rattle.std.proofs.lemmas.Bool.{eqb-false, not-false, true≢false}
 use Rattle.std.proofs.lemmas.Fmt.{decimal_injective, decimal_is_IsNumeral}
@@ -55,11 +55,6 @@ no_format bytes xs a b c d e format low high at0 at1 at2 at3 at4 is none command
 -- a length that was tested not to be 0
 pub not_zero : (n : ℕ) (none : Bool) → none ≡ eqb n 0 → none ≡ false → 1 ≤ n
 not_zero n none e no_zero = omega (arith, eqb-false n 0 (sym e ∙ no_zero))
-
--- what holds anyway holds at an error
-pub at_error : {T E : Type 0} (r : Result T E) (P : Type 0) → P → OnErr r P
-at_error (Ok x) P p = tt
-at_error (Err e) P p = p
 
 -- a place and a time in the bytes of a word are those of the word
 pub place_of : (instance bytes host : List ℕ) (port : ℕ) → bytes ≡ instance → IsHostAndPort most_host bytes host port → IsHostAndPort most_host instance host port

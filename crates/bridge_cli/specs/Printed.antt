@@ -1,20 +1,24 @@
 -- What is to be printed, and what was.
 -- The bridge's own.
-use Rattle.std.specs.Prelude.{◌≡◌, ◌⊎◌, ℕ, ◌≤◌, Bool, true, false, ◌∷◌, ◌++◌, List, [], length, Option, Result, Ok, Err, ⊤}
+use Rattle.std.specs.Prelude.{◌≡◌, ◌⊎◌, ℕ, ◌≤◌, Bool, true, false, ◌∷◌, ◌++◌, codes, List, [], length, Option, Result, Ok, Err, ⊤}
 use Rattle.std.specs.Cow.{cow_slice_items}
 use Rattle.std.specs.Io.KnownBytes.{Appends}
 use Rattle.page_model.specs.declared.event.Event.{Event}
 use Rattle.page_model.specs.declared.event.Shown.{Shown}
 use Rattle.bridge_ports.specs.Causes.{Rose}
+use Rattle.bridge_ports.specs.Writing.{WroteFront}
 use Rattle.bridge_ports.specs.Targets.{Scraped}
 use Rattle.bridge_ports.specs.declared.talk.MemoryReply.{MemoryReply}
+use Rattle.otlp_tree.specs.declared.tree.Request.{Request}
+use Rattle.target_core.specs.Events.{request_after}
 use Rattle.target_core.specs.States.{Following, StandsFor, ShowsLatest}
+use Rattle.otlp_json.specs.Texts.{request_text}
 use Rattle.replay_script.specs.declared.header.Header.{Header}
 use Rattle.replay_script.specs.declared.script.ScriptTarget.{ScriptTarget}
 use Rattle.replay_script.specs.declared.script.Script.{Script}
 use Rattle.replay_script.specs.RightScripts.{IsRightScript}
 use Rattle.bridge_cli.specs.declared.answer.Printed.{Printed}
-use Rattle.bridge_cli.specs.declared.answer.Printed.TheVariants.{Whole, Bodies, Report}
+use Rattle.bridge_cli.specs.declared.answer.Printed.TheVariants.{Whole, Tree, Bodies, Report}
 use Rattle.bridge_cli.specs.declared.replaying.Cut.{Cut}
 use Rattle.bridge_cli.specs.declared.replaying.Cut.TheVariants.{Write, Memory}
 use Rattle.bridge_cli.specs.declared.status.Status.{Status}
@@ -34,35 +38,40 @@ use Rattle.bridge_ports.specs.Worlds.{ShelvedPair}
 use Rattle.bridge_cli.specs.Shelves.{IsShelfOf}
 use Rattle.bridge_cli.specs.StopAnswers.{IsStopAnswer}
 use Rattle.bridge_cli.specs.Answers.{IsScriptInput, Answers, CutAnswers, IsAnswer}
-use Rattle.bridge_cli.specs.ProgramOutputs.{WroteFront, HasAnswer, HasCutAnswer, HasVisitAnswer}
+use Rattle.bridge_cli.specs.ProgramOutputs.{HasAnswer, HasCutAnswer, HasVisitAnswer}
 
 -- this is the text that is to be printed
 abbrev pub Gives : Printed → List ℕ → Type 0
 Gives (Whole t) text = text ≡ cow_slice_items t
+Gives (Tree request) text = text ≡ request_text request ++ codes "\n"
 Gives (Bodies script scrapers page) text = IsReplayWith page script text
 Gives (Report script) text = IsLoadReport script text
 
 -- this is a text of which a front may be printed
 abbrev pub GivesPart : Printed → List ℕ → Type 0
 GivesPart (Whole t) text = text ≡ cow_slice_items t
+GivesPart (Tree request) text = text ≡ request_text request ++ codes "\n"
 GivesPart (Bodies script scrapers page) text = MayBeCut page script text
 GivesPart (Report script) text = MayBeReported script text ⊎ IsLoadReport script text
 
 -- nothing is to be printed
 abbrev pub IsNothing : Printed → Type 0
 IsNothing (Whole t) = cow_slice_items t ≡ []
+IsNothing (Tree request) = ⊥
 IsNothing (Bodies script scrapers page) = ⊥
 IsNothing (Report script) = ⊥
 
 -- what is printed in pieces is of a right script, and the command is done
 abbrev pub IsPrintable : Status → Printed → Type 0
 IsPrintable status (Whole t) = ⊤
+IsPrintable status (Tree request) = ⊤
 IsPrintable status (Bodies script scrapers page) = IsRightScript script × (status ≡ Done)
 IsPrintable status (Report script) = IsRightScript script × TakesAllBodies script × (status ≡ Done)
 
--- what is printed isn't made in pieces
+-- all that making what is printed takes memory for is made before it is printed
 abbrev pub IsWhole : Printed → Type 0
 IsWhole (Whole t) = ⊤
+IsWhole (Tree request) = ⊤
 IsWhole (Bodies script scrapers page) = ⊥
 IsWhole (Report script) = ⊥
 
@@ -77,11 +86,11 @@ CutCause before now (Ok done) = now ≡ before
 CutCause before now (Err Write) = Rose before now
 CutCause before now (Err Memory) = now ≡ before
 
--- what making the body of the next reply came to, behind these events
-abbrev pub MakesBody : {E : Type 0} → Header → Scraped → MemoryReply → List Event → Following → List ℕ → Result ⊤ E → Type 0
-MakesBody h target r earlier new body (Ok done) =
-    (e : Event) × IsReplyEvent h r e × StandsFor target (script_tracking h) new (e ∷ earlier) × (body ≡ body_after h target earlier e)
-MakesBody h target r earlier new body (Err wanting) = ⊤
+-- what making the tree of the next reply came to, behind these events
+abbrev pub MakesTree : {E : Type 0} → Header → Scraped → MemoryReply → List Event → Following → Result Request E → Type 0
+MakesTree h target r earlier new (Ok request) =
+    (e : Event) × IsReplyEvent h r e × StandsFor target (script_tracking h) new (e ∷ earlier) × (request ≡ request_after target (script_tracking h) earlier e)
+MakesTree h target r earlier new (Err wanting) = ⊤
 
 -- what printing the body of the next reply came to, behind these events: it is printed, or a front of it, or nothing
 abbrev pub PrintsNext : Header → Scraped → MemoryReply → List Event → Following → Option (List ℕ) → Option (List ℕ) → Result ⊤ Cut → Type 0
@@ -169,6 +178,7 @@ PrintsReport s before after (Err Memory) = (text : List ℕ) × (MayBeReported s
 -- what is printed was done, so the wires that it was made over are on the shelf
 abbrev pub IsShelved : Printed → Option (List ShelvedPair) → Option (List ShelvedPair) → Type 0
 IsShelved (Whole t) before after = ⊤
+IsShelved (Tree request) before after = ⊤
 IsShelved (Bodies script scrapers page) before after = IsShelfOf script before after
 IsShelved (Report script) before after = IsShelfOf script before after
 
@@ -188,6 +198,7 @@ pub record HasPartOf (command : Command) (left : Option (List ℕ)) (text : List
 -- what is printed of visits answers a command over the script that is visited; else the command visits nothing
 abbrev pub AnswersVisits : Command → Option (List ℕ) → Printed → Type 0
 AnswersVisits command left (Whole t) = prints_pieces command ≡ false
+AnswersVisits command left (Tree request) = prints_pieces command ≡ false
 AnswersVisits command left (Bodies script scrapers page) = (text : List ℕ) → IsReplayWith page script text → HasVisitAnswer command left script text
 AnswersVisits command left (Report script) = (text : List ℕ) → IsLoadReport script text → HasVisitAnswer command left script text
 
@@ -210,6 +221,7 @@ pub record IsPrintedFor (words : List (List ℕ)) (left : Option (List ℕ)) (st
 -- the answer to a stop is printed whole
 abbrev pub IsStopPrinted : Stop → Status → Printed → Type 0
 IsStopPrinted stop status (Whole t) = IsStopAnswer stop status (cow_slice_items t)
+IsStopPrinted stop status (Tree request) = ⊥
 IsStopPrinted stop status (Bodies script scrapers page) = ⊥
 IsStopPrinted stop status (Report script) = ⊥
 

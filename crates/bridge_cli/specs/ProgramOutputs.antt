@@ -1,7 +1,8 @@
 -- What the program prints, and the status that it ends with. The bridge's own.
-use Rattle.std.specs.Prelude.{◌≡◌, ◌≢◌, ℕ, ◌<◌, List, [], ◌++◌, Option, IsSome}
+use Rattle.std.specs.Prelude.{◌≡◌, ◌≢◌, ℕ, ◌<◌, List, Option, IsSome}
 use Rattle.std.specs.Io.KnownBytes.{Appends}
 use Rattle.bridge_ports.specs.Causes.{Rose}
+use Rattle.bridge_ports.specs.Writing.{WroteFront}
 use Rattle.bridge_cli.specs.CommandWords.{AskFor, reads_input}
 use Rattle.bridge_cli.specs.Inputs.{IsInput}
 use Rattle.bridge_ports.specs.Worlds.{ShelvedPair}
@@ -11,14 +12,6 @@ use Rattle.bridge_cli.specs.declared.status.Status.TheVariants.{Done}
 use Rattle.bridge_cli.specs.Statuses.{code_of}
 use Rattle.bridge_cli.specs.Shelves.{IsShelfOf}
 use Rattle.bridge_cli.specs.Answers.{VisitsScript, Answers, IsAnswer, IsCutAnswer}
-
--- a front of a text was written, and something of it was left
-pub record WroteFront (before after : Option (List ℕ)) (whole : List ℕ) : Type 0 where
-  pub front : List ℕ
-  pub rest : List ℕ
-  pub text : whole ≡ front ++ rest
-  pub some_left : rest ≢ []
-  pub written : Appends before after front
 
 -- some bytes that may have been on the input are answered with this status and text
 pub record HasAnswer (Says : List ℕ → ℕ → List ℕ → Type 0) (left : Option (List ℕ)) (status : ℕ) (text : List ℕ) : Type 0 where

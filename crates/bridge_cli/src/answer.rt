@@ -8,6 +8,7 @@ ghost use Rattle.bridge_cli.specs.Stops.{TakesMemory};
 use crate::digits::push_number;
 use crate::status::Status;
 use crate::stop::Stop;
+use otlp_tree::Request;
 use page_model::Rule;
 use replay_script::Script;
 use std::alloc::{AllocError, Global};
@@ -18,6 +19,8 @@ use std::borrow::CowSlice;
 pub(crate) enum Printed {
     /// A text.
     Whole(CowSlice<'static, u8>),
+    /// The text of a tree, and a line feed. The text is made as it is printed, which takes no memory.
+    Tree(Request),
     /// The bodies of a script, whose targets are visited by so many scrapers at once. Each body is made when the one
     /// before it is printed. Behind them, where it is asked for, the federation page of what the targets show.
     Bodies {

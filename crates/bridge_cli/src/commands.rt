@@ -53,9 +53,7 @@ pub(crate) fn run<I: Source>(
             format,
             target,
             nanos,
-        } => Ok(Printed::Whole(CowSlice::Owned(convert::convert(
-            alloc, format, &target, nanos, input,
-        )?))),
+        } => Ok(Printed::Tree(convert::convert(alloc, format, &target, nanos, input)?)),
         Command::Replay { scrapers, page } => {
             let scrapers = scrapers_of(scrapers);
             let script = whole_script(alloc, input)?;

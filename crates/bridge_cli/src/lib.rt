@@ -6,7 +6,6 @@ mod commands;
 mod digits;
 mod limits;
 mod loading;
-mod output;
 mod pages;
 mod printing;
 mod program;
@@ -20,7 +19,6 @@ mod visiting;
 mod words;
 
 pub use commands::{HELP, VERSION};
-pub use output::write_all;
 pub use program::bridge;
 pub use status::Status;
 pub use words::Command;

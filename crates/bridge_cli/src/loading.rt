@@ -6,11 +6,10 @@ ghost use Rattle.load_pages.specs.GeneratedScripts.{TakesAllBodies};
 ghost use Rattle.bridge_cli.specs.Printed.{CutCause, ReportsEnds, PrintsReport};
 ghost use Rattle.bridge_cli.specs.Shelves.{IsShelfOf, KeepsAllButShelf};
 
-use crate::output::write_all;
 use crate::replaying::Cut;
 use crate::shelving::shelve;
 use crate::turns::run_script;
-use bridge_ports::{Failed, Sink, World};
+use bridge_ports::{Failed, Sink, World, write_all};
 use label_sets::Memory;
 use replay_script::Script;
 use run_report::{TargetEnd, push_report, some_halted};

@@ -7,11 +7,10 @@ ghost use Rattle.bridge_cli.specs.Rounds.{visits_counted, AreVisitedThrough};
 ghost use Rattle.bridge_cli.specs.Shelves.{IsShelfOf, KeepsAllButShelf};
 ghost use Rattle.bridge_cli.specs.Printed.{CutCause, PrintsText, PrintsScript};
 
-use crate::output::write_all;
 use crate::replaying::{Cut, print_targets};
 use crate::shelving::shelve;
 use crate::turns::run_script;
-use bridge_ports::{Failed, Sink, World};
+use bridge_ports::{Failed, Sink, World, write_all};
 use label_sets::Memory;
 use page_model::Shown;
 use page_model::page_laws::right_pages;

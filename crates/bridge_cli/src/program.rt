@@ -1,5 +1,5 @@
 //! The program over any input and output.
-ghost use Rattle.std.specs.Prelude.{◌≡◌, ◌≢◌, ◌⊎◌, true, map, string_bytes, IfOk, IfErr};
+ghost use Rattle.std.specs.Prelude.{◌≡◌, ◌≢◌, ◌⊎◌, true, map, string_bytes, IfOk, IfErr, OnOk, OnErr};
 ghost use Rattle.bridge_cli.specs.declared.words.Command.{Command as AnyCommand};
 ghost use Rattle.bridge_cli.specs.declared.status.Status.TheVariants.{Done, NoForm, ReadFailed, WriteFailed, WantOfMemory, TooLong};
 ghost use Rattle.bridge_cli.specs.Answers.{IsAnswer};
@@ -16,12 +16,11 @@ ghost use Rattle.bridge_cli.specs.Stops.{ReadCause, IsUnread, TakesMemory};
 use crate::answer::{Answer, Printed, stop_answer};
 use crate::commands::run;
 use crate::loading::print_report;
-use crate::output::write_all;
 use crate::printing::print_script;
 use crate::status::Status;
 use crate::stop::Stop;
 use crate::words::command;
-use bridge_ports::{Failed, Sink, Source, World};
+use bridge_ports::{Failed, Sink, Source, World, write_all};
 use std::alloc::Global;
 use std::sync::Wait;
 use std::thread::Threads;
@@ -66,6 +65,17 @@ fn answer<I: Source>(alloc: Global, words: &[String], input: &mut I) -> Answer
     }
 }
 
+/// The status behind a text that was written whole, or not.
+fn end_code(status: Status, written: Result<(), Failed>) -> u8
+    ensures whole { OnOk written (result ≡ code_of status) }
+    ensures front { OnErr written (result ≡ code_of WriteFailed) }
+{
+    match written {
+        Ok(()) => status.code(),
+        Err(Failed) => Status::WriteFailed.code(),
+    }
+}
+
 /// Prints an answer and gives its status, the one of a failed write, or that of want of memory for a
 /// piece of it or for the shelf.
 fn print<R: Threads + Wait + Sync, W: World, O: Sink>(
@@ -86,10 +96,8 @@ fn print<R: Threads + Wait + Sync, W: World, O: Sink>(
     ensures unused { IsWhole answer.now.printed → world.new ≡ world.old }
 {
     match &answer.printed {
-        Printed::Whole(text) => match write_all(output, text.as_slice()) {
-            Ok(()) => answer.status.code(),
-            Err(Failed) => Status::WriteFailed.code(),
-        },
+        Printed::Whole(text) => end_code(answer.status, write_all(output, text.as_slice())),
+        Printed::Tree(request) => end_code(answer.status, otlp_json::print_line(request, output)),
         Printed::Bodies {
             script,
             scrapers,

@@ -9,7 +9,7 @@ ghost use Rattle.bridge_cli.specs.Replays.{script_tracking, AreLastShown};
 ghost use Rattle.bridge_cli.specs.Printed.{
   cut_status,
   CutCause,
-  MakesBody,
+  MakesTree,
   PrintsNext,
   PrintsTarget,
   PrintsBodies,
@@ -17,9 +17,9 @@ ghost use Rattle.bridge_cli.specs.Printed.{
   ShowsLast,
 };
 
-use crate::output::write_all;
 use crate::status::Status;
 use bridge_ports::{Failed, MemoryReply, Sink};
+use otlp_tree::Request;
 use page_model::{Event, Shown};
 use replay_script::{Header, Script, ScriptTarget};
 use scrape_client::outcome;
@@ -47,19 +47,18 @@ impl Cut {
     }
 }
 
-/// Makes the body of the event of a reply, with a line feed, in place of the last one.
-fn make_body(
+/// Makes the tree of the event of a reply.
+fn next_tree(
     alloc: Global,
     header: &Header,
     reply: &MemoryReply,
     state: &mut TargetState,
-    body: &mut Vec<u8>,
-) -> Result<(), AllocError>
+) -> Result<Request, AllocError>
     requires right { IsRightHeader header.now }
     requires ended { IsOver reply.now }
     requires next { HasNextMoment state.old.moment }
     ensures { (target : Scraped) (earlier : Seq AnyEvent) → StandsFor target (script_tracking header.now) state.old earlier
-        → MakesBody header.now target reply.now earlier state.new body.new.items result }
+        → MakesTree header.now target reply.now earlier state.new result }
 {
     let outcome = outcome(
         alloc,
@@ -72,18 +71,15 @@ fn make_body(
         reading: reply.at,
         outcome,
     };
-    let request = state.step(alloc, event)?;
-    body.clear();
-    otlp_json::write_line(&request, body)
+    state.step(alloc, event)
 }
 
-/// Prints the body of the event of a reply.
+/// Prints the body of the event of a reply, as it is made of its tree.
 fn print_next<O: Sink>(
     alloc: Global,
     header: &Header,
     reply: &MemoryReply,
     state: &mut TargetState,
-    body: &mut Vec<u8>,
     output: &mut O,
 ) -> Result<(), Cut>
     requires right { IsRightHeader header.now }
@@ -93,11 +89,11 @@ fn print_next<O: Sink>(
         → PrintsNext header.now target reply.now earlier state.new (O.held output.old) (O.held output.new) result }
     ensures cause { CutCause (O.write_faults output.old) (O.write_faults output.new) result }
 {
-    match make_body(alloc, header, reply, state, body) {
-        Ok(()) => {}
+    let request = match next_tree(alloc, header, reply, state) {
+        Ok(request) => request,
         Err(AllocError) => return Err(Cut::Memory),
-    }
-    match write_all(output, body.as_slice()) {
+    };
+    match otlp_json::print_line(&request, output) {
         Ok(()) => Ok(()),
         Err(Failed) => Err(Cut::Write),
     }
@@ -122,14 +118,13 @@ fn print_replies<O: Sink>(
     ensures stands { IfOk result (StandsForAll header.now target.now) }
 {
     let mut state = start;
-    let mut body = Vec::new(alloc);
     let replies = target.scrapes.as_slice();
     let mut at = 0usize;
     while at < replies.len() {
         if at as u64 >= visits {
             return Err(Cut::Memory);
         }
-        match print_next(alloc, header, &replies[at], &mut state, &mut body, output) {
+        match print_next(alloc, header, &replies[at], &mut state, output) {
             Ok(()) => at += 1,
             Err(cut) => return Err(cut),
         }

@@ -1,5 +1,6 @@
--- What the definitions of wires give, for the crates that talk over one.
-use Rattle.std.proofs.Common.{◌≡◌, ℕ, ◌<◌, ◌+◌, ◌-◌, List, [], ◌∷◌, ◌++◌, Option, Some, None, option_map, refl, ap, ◌∙◌, arith, length, append_assoc, append-nil, length-append}
+-- What other crates may cite: what the definitions of wires give, and bytes that are taken and given in steps.
+pub use Rattle.bridge_ports.proofs.KnownLaws.{at_error, appends_none, appends_keeps, appends_twice, front_behind, consumes_none, consumes_twice, consumes_keeps}
+use Rattle.std.proofs.Common.{◌≡◌, ℕ, ◌<◌, ◌-◌, List, [], ◌∷◌, ◌++◌, Option, Some, None, option_map, refl, ap, arith, length, append_assoc, append-nil, length-append}
 use Rattle.bridge_ports.specs.declared.talk.Stage.TheVariants as stages
 use Rattle.bridge_ports.specs.declared.talk.Stage.{Stage}
 use Rattle.bridge_ports.specs.Talks.{WireState, ToldTalks, telling_sent, telling_got, sent_on, got_on, left_at, after_read}

@@ -1,3 +1,4 @@
+mod KnownLaws
 pub mod Laws
 mod PlanCases
 pub mod PlanLaws

@@ -1,6 +1,6 @@
 -- How a wire in memory keeps its talks: what its calls owe to the definitions of wires.
-use Rattle.std.proofs.Common.{◌≡◌, ℕ, zero, suc, ◌+◌, ◌-◌, ◌≤◌, ◌<◌, List, [], ◌∷◌, ◌++◌, length, take, drop, Option, Some, None, refl, sym, ap, ◌∙◌, arith, append-nil, inl, inr, subst}
-use Rattle.std.specs.Prelude.{◌≢◌, ◌⊎◌, slice_get, Contains}
+use Rattle.std.proofs.Common.{◌≡◌, ℕ, zero, suc, ◌+◌, ◌-◌, ◌≤◌, List, [], ◌∷◌, ◌++◌, length, take, drop, Option, Some, None, refl, sym, ap, ◌∙◌, arith, append-nil, inl, inr, subst}
+use Rattle.std.specs.Prelude.{◌≢◌, slice_get, Contains}
 use Rattle.std.proofs.lemmas.List.{take-append-drop}
 use Rattle.std.proofs.Math.Seq.{take-add, drop-append_seam}
 use Rattle.bridge_ports.specs.declared.talk.End.{End}
@@ -13,7 +13,7 @@ use Rattle.bridge_ports.specs.declared.kept.Kept.{Kept}
 use Rattle.bridge_ports.specs.Talks.{Plan, reply_of, Spoken, nothing_said, talk_of, no_reply}
 use Rattle.bridge_ports.specs.declared.talk.Place.{Place}
 use Rattle.bridge_ports.specs.Keeping.{KeptState, kept_to}
-use Rattle.bridge_ports.specs.Plans.{MemoryState, reply_now, unread_bytes, FailsBy, Fails, EndsAs, Follows, IsTalkOf, AreTalksOf, GoesOn, FollowsPlan, IsOfPlan, MayEnd, talk_ended, kept_talk, kept_talks, kept_now, memory_state, KeepsPlan, talk_at}
+use Rattle.bridge_ports.specs.Plans.{MemoryState, reply_now, FailsBy, Fails, EndsAs, Follows, AreTalksOf, GoesOn, IsOfPlan, MayEnd, talk_ended, kept_talk, kept_talks, kept_now, memory_state, KeepsPlan, talk_at}
 
 -- as many talks as are kept stand in front of the earlier ones
 pub length-kept_talks : (plan : Plan) (earlier : List Talk) (ks : List Kept) → length (kept_talks plan earlier ks) ≡ length ks + length earlier

@@ -9,3 +9,4 @@ pub mod Doors
 pub mod Worlds
 pub mod MemoryWorlds
 pub mod WorldMaking
+pub mod Writing

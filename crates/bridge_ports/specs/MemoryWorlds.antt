@@ -1,10 +1,7 @@
 -- The world in memory: files by path, pairs of wires by number, doors by address.
 -- The bridge's own.
-use Rattle.std.specs.Prelude.{◌≡◌, ℕ, ◌+◌, ◌≤◌, Bool, true, false, ◌&&◌, ◌==◌, List, [], ◌∷◌, find, Option, Some, None, option_map, bytes_eq, nat_le, if◌then◌else◌, ⊤}
-use Rattle.std.specs.Option.{option_or}
+use Rattle.std.specs.Prelude.{ℕ, Bool, true, false, ◌&&◌, ◌==◌, List, [], find, Option, Some, None, option_map, bytes_eq, nat_le, if◌then◌else◌}
 use Rattle.bridge_ports.specs.declared.talk.Address.{Address}
-use Rattle.bridge_ports.specs.declared.talk.Place.{Place}
-use Rattle.bridge_ports.specs.declared.talk.Stage.TheVariants as stages
 use Rattle.bridge_ports.specs.Talks.{Plan}
 use Rattle.bridge_ports.specs.Plans.{MemoryState, new_wire}
 use Rattle.bridge_ports.specs.InMemory.{MemoryDoorState, door_of}

@@ -1,9 +1,9 @@
 -- Talks over a wire, and what a wire is: a client that connects anew for each request, writes it, and reads the reply.
 -- RFC 9112, section 9 (one request and one reply on each connection, "Connection: close"); the counts and conditions are the bridge's own.
-use Rattle.std.specs.Prelude.{◌≡◌, ◌≢◌, ℕ, ◌+◌, ◌-◌, ◌<◌, ◌≤◌, ◌⊎◌, Bool, List, [], ◌∷◌, ◌++◌, length, take, drop, slice_get, Option, Some, None, option_map, unwrap_or, ⊤}
+use Rattle.std.specs.Prelude.{◌≡◌, ℕ, ◌-◌, ◌≤◌, List, [], ◌∷◌, ◌++◌, length, slice_get, Option, Some, None, option_map, unwrap_or, ⊤}
 use Rattle.std.specs.Option.{option_or}
 use Rattle.bridge_ports.specs.declared.talk.End.{End}
-use Rattle.bridge_ports.specs.declared.talk.End.TheVariants.{ConnectFailed, WriteFailed, ReadFailed, Ended, Left}
+use Rattle.bridge_ports.specs.declared.talk.End.TheVariants.{ConnectFailed, Ended, Left}
 use Rattle.bridge_ports.specs.declared.talk.Talk.{Talk}
 use Rattle.bridge_ports.specs.declared.talk.Place.{Place}
 use Rattle.bridge_ports.specs.declared.talk.MemoryReply.{MemoryReply}

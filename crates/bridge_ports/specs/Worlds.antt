@@ -1,9 +1,8 @@
 -- The world of the program: files, pairs of wires, doors, and the shelf.
 -- The bridge's own.
-use Rattle.std.specs.Prelude.{◌≡◌, ◌≢◌, ℕ, ◌+◌, ◌≤◌, ◌<◌, Bool, true, false, ◌&&◌, ◌==◌, bytes_eq, List, [], ◌∷◌, Option, Some, None, option_map, Result, Ok, Err, ⊤}
+use Rattle.std.specs.Prelude.{◌≡◌, ◌≢◌, ℕ, Bool, false, ◌&&◌, ◌==◌, bytes_eq, List, ◌∷◌, Option, Some, None, option_map, Result}
 use Rattle.std.specs.Io.KnownBytes.{ReadConsumes}
 use Rattle.bridge_ports.specs.declared.talk.Address.{Address}
-use Rattle.bridge_ports.specs.declared.talk.Place.{Place}
 use Rattle.bridge_ports.specs.Talks.{WireState}
 use Rattle.bridge_ports.specs.declared.talk.Stage.TheVariants as stages
 use Rattle.bridge_ports.specs.Plans.{MemoryState}

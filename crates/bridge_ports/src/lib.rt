@@ -19,6 +19,7 @@ mod talk;
 mod target;
 mod wire;
 mod world;
+mod writing;
 
 pub use door::Door;
 pub use memory_door::{MemoryConn, MemoryDoor};
@@ -33,6 +34,7 @@ pub use talk::{Address, End, MemoryReply, Place, Stage, Talk};
 pub use target::Target;
 pub use wire::Wire;
 pub use world::World;
+pub use writing::write_all;
 
 /// A call on the outside failed; its count of faults tells so.
 #[derive(Clone, Copy, Debug, PartialEq, Eq)]

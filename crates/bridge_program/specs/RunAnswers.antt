@@ -14,7 +14,7 @@ use Rattle.run_command.specs.RunReports.{IsReportOfRun, KeepsPairs, MayHaveRun, 
 use Rattle.bridge_cli.specs.declared.status.Status.TheVariants.{Done, ReadFailed, WriteFailed, WantOfMemory, TooLong}
 use Rattle.bridge_cli.specs.Statuses.{code_of}
 use Rattle.bridge_cli.specs.Stops.{too_long_text}
-use Rattle.bridge_cli.specs.ProgramOutputs.{WroteFront}
+use Rattle.bridge_ports.specs.Writing.{WroteFront}
 
 -- the status of a run whose configuration has a fault
 abbrev pub config_refused : ℕ

@@ -15,8 +15,8 @@ ghost use Rattle.bridge_program.specs.RunAnswers.{IsUnasked, IsWritten, RunAnswe
 
 use crate::run_end::{RunEnd, run_end};
 use crate::run_words::run_path;
-use bridge_cli::{Status, bridge as bridge_streams, write_all};
-use bridge_ports::{Door, Failed, Sink, Source, World};
+use bridge_cli::{Status, bridge as bridge_streams};
+use bridge_ports::{Door, Failed, Sink, Source, World, write_all};
 use std::alloc::Global;
 use std::sync::Wait;
 use std::thread::Threads;

@@ -7,7 +7,8 @@ use Rattle.bridge_ports.specs.Worlds.{WorldState, OpenFile, FileReadsFrom, FileR
 use Rattle.config_file.specs.declared.file_stop.FileStop.{FileStop}
 use Rattle.config_file.specs.ConfigFiles.{most_config, HoldsWhole, IsTooLong, ReadsFileOn, StopsReadingFile, LeavesFile, left_of}
 use Rattle.bridge_cli.specs.Inputs.{TookAtMost, EndsWithin, IsOverlong}
-use Rattle.bridge_cli.proofs.Laws.{consumes_none, consumes_twice, consumes_keeps, all_taken}
+use Rattle.bridge_ports.proofs.Laws.{consumes_none, consumes_twice, consumes_keeps}
+use Rattle.bridge_cli.proofs.Laws.{all_taken}
 
 -- ---- one read
 

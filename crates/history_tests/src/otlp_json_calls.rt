@@ -1,8 +1,9 @@
 //! Tests of `otlp_json`.
+use bridge_ports::MemorySink;
 use exact_decimal::{Decimal, Number};
 use histogram_layout::Layout;
 use label_sets::{LabelSet, List, Memory, Text};
-use otlp_json::{length, write, write_line};
+use otlp_json::{length, print_line, write};
 use otlp_tree::{
     Attribute, AttributeValue, HistogramPoint, HistogramValue, Metric, NumberPoint, Request,
     ScopeMetrics, Shape, SummaryPoint, SummaryValue,
@@ -214,18 +215,20 @@ fn writes_histograms_and_summaries(rt: HostRuntime) -> Result<(), AllocError> {
     Ok(())
 }
 
-// With the first allocation failing, nothing is written.
+// What is longer than the room of the output is cut off, which is told.
 #[test]
-fn writes_a_line_or_nothing(rt: HostRuntime) {
+fn prints_a_line(rt: HostRuntime) -> Result<(), AllocError> {
+    const LINE: &[u8] =
+        b"{\"resourceMetrics\":[{\"resource\":{\"attributes\":[]},\"scopeMetrics\":[]}]}\n";
     let request = Request {
         resource: List::new(rt.alloc()),
         scopes: List::new(rt.alloc()),
     };
-    let mut out = Vec::new(rt.alloc());
-    let expected: &[u8] = match write_line(&request, &mut out) {
-        Ok(()) =>
-            b"{\"resourceMetrics\":[{\"resource\":{\"attributes\":[]},\"scopeMetrics\":[]}]}\n",
-        Err(_) => b"",
-    };
-    assert_eq!(rt; out.as_slice(), expected);
+    for room in [0u64, 1, 30, 69, 70, 71, 1000] {
+        let mut out = MemorySink::new(rt.alloc(), room, List::new(rt.alloc()))?;
+        let printed = print_line(&request, &mut out);
+        assert_eq!(rt; printed.is_ok(), LINE.len() as u64 <= room);
+        assert_eq!(rt; out.held(), &LINE[..LINE.len().min(room as usize)]);
+    }
+    Ok(())
 }

@@ -1,7 +1,9 @@
 //! Tests of `text_emitter`.
+use bridge_ports::{Failed, MemorySink};
 use exact_decimal::Number;
+use label_sets::List;
 use std::alloc::{AllocError, Global};
-use text_emitter::{Emit, Emitter, length, write, write_line};
+use text_emitter::{Emit, Emitter, length, print_line, write};
 
 /// A sample of a page of OpenMetrics with a time, and the same number in JSON.
 #[derive(Drop)]
@@ -64,15 +66,28 @@ fn writes_behind_what_is_there(rt: HostRuntime) -> Result<(), AllocError> {
     Ok(())
 }
 
-#[test]
-fn writes_a_line(rt: HostRuntime) -> Result<(), AllocError> {
-    let sample = Sample {
+fn seven() -> Sample {
+    Sample {
         value: number("7"),
         time: 20,
-    };
-    let mut out = Vec::new(rt.alloc());
-    write_line(&sample, &mut out)?;
-    assert_eq!(rt; std::str::from_utf8(&out), Ok("up 7 20 20 # 7\n"));
+    }
+}
+
+#[test]
+fn prints_a_line(rt: HostRuntime) -> Result<(), AllocError> {
+    let mut out = MemorySink::new(rt.alloc(), 100, List::new(rt.alloc()))?;
+    assert_eq!(rt; print_line(&seven(), &mut out), Ok(()));
+    assert_eq!(rt; std::str::from_utf8(out.held()), Ok("up 7 20 20 # 7\n"));
+    Ok(())
+}
+
+// What is written is a front of the text, and the fault is counted once.
+#[test]
+fn prints_a_front_where_a_write_fails(rt: HostRuntime) -> Result<(), AllocError> {
+    let mut out = MemorySink::new(rt.alloc(), 4, List::new(rt.alloc()))?;
+    assert_eq!(rt; print_line(&seven(), &mut out), Err(Failed));
+    assert_eq!(rt; std::str::from_utf8(out.held()), Ok("up 7"));
+    assert_eq!(rt; out.faults(), 1);
     Ok(())
 }
 

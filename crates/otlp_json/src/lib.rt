@@ -5,6 +5,9 @@
 #![tactic(auto)]
 
 ghost use Rattle.std.specs.Prelude.{◌≡◌, ◌++◌, codes, min, OnOk, OnErr, length as length_of};
+ghost use Rattle.std.specs.Io.KnownBytes.{Appends};
+ghost use Rattle.bridge_ports.specs.Causes.{HasCause};
+ghost use Rattle.bridge_ports.specs.Writing.{WroteFront};
 ghost use Rattle.otlp_json.specs.Texts.{request_text};
 
 mod attributes;
@@ -17,6 +20,7 @@ mod strings;
 mod summaries;
 mod values;
 
+use bridge_ports::{Failed, Sink};
 use label_sets::Memory;
 use otlp_tree::Request;
 use requests::RequestText;
@@ -39,10 +43,13 @@ pub fn write(request: &Request, out: &mut Vec<u8>) -> Result<(), Memory>
     text_emitter::write(&RequestText(request), out)
 }
 
-/// Puts the text of a request and a line feed at the end of `out`, as [`write`] does.
-pub fn write_line(request: &Request, out: &mut Vec<u8>) -> Result<(), Memory>
-    ensures ok { OnOk result (out.new.items ≡ out.old.items ++ request_text request.now ++ codes "\n") }
-    ensures err { OnErr result (out.new.items ≡ out.old.items) }
+/// Writes the text of a request and a line feed to an output, as it is made, so that it takes no memory.
+///
+/// Where a write fails, the answer is [`Failed`]: a front of the text was written, and not all of it.
+pub fn print_line<O: Sink>(request: &Request, output: &mut O) -> Result<(), Failed>
+    ensures whole { OnOk result (Appends (O.held output.old) (O.held output.new) (request_text request.now ++ codes "\n")) }
+    ensures front { OnErr result (WroteFront (O.held output.old) (O.held output.new) (request_text request.now ++ codes "\n")) }
+    ensures cause { HasCause (O.write_faults output.old) (O.write_faults output.new) result }
 {
-    text_emitter::write_line(&RequestText(request), out)
+    text_emitter::print_line(&RequestText(request), output)
 }

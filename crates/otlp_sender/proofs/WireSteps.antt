@@ -1,5 +1,5 @@
 -- What the steps of a try do to a wire.
-use Rattle.std.proofs.Common.{◌≡◌, ℕ, ◌+◌, ◌-◌, ◌≤◌, ◌<◌, true, false, List, [], ◌∷◌, ◌++◌, length, take, drop, Option, Some, None, refl, sym, ap, ◌∙◌, subst, arith, inl, inr, append_assoc, append-nil}
+use Rattle.std.proofs.Common.{◌≡◌, ℕ, ◌+◌, ◌-◌, ◌≤◌, ◌<◌, true, false, List, [], ◌∷◌, ◌++◌, length, take, drop, Option, Some, None, refl, sym, ap, ◌∙◌, subst, arith, inl, inr, append_assoc}
 use Rattle.std.specs.Prelude.{◌≢◌, ◌↔◌, ◌⊎◌, option_map}
 use Rattle.std.proofs.lemmas.List.{length-append, length-take, length-drop, take-append-drop, take_all}
 use Rattle.bridge_ports.specs.declared.talk.End.{End}
@@ -12,10 +12,8 @@ use Rattle.http_talk.specs.declared.seen.HeadSeen.{HeadSeen}
 use Rattle.http_talk.specs.declared.seen.HeadSeen.TheVariants as seen
 use Rattle.http_talk.specs.Heads.{Shows}
 use Rattle.http_talk.specs.Replies.{IsSent}
-use Rattle.http_talk.proofs.Laws.{nothing_shown, take_past, unsettled_is_short}
-use Rattle.bridge_ports.proofs.Laws.{read_goes_on}
-use Rattle.std.proofs.lemmas.Slice.{take-put_mid}
-use Rattle.std.proofs.lemmas.List.{take-append-le}
+use Rattle.http_talk.proofs.Laws.{nothing_shown, take_past, got_front, unsettled_is_short}
+use Rattle.bridge_ports.proofs.Laws.{read_goes_on, sent_on-nil, sent_on-more, got_on-nil, got_on-more}
 use borrow.Rule.Slice.PartMut.{put_mid}
 use Rattle.otlp_sender.specs.declared.posted.Try.{Try}
 use Rattle.otlp_sender.specs.declared.posted.Try.TheVariants as tries
@@ -25,43 +23,12 @@ use Rattle.otlp_sender.specs.Sending.{BrokeOff, IsHeadTalk, IsConnectedTalk, Gre
 
 -- ---- bytes sent and got
 
-told_sent : (t : Option ToldTalks) → option_map (telling_sent []) t ≡ t
-told_sent None = refl
-told_sent (Some t) = ap (λ xs. Some (record t { now = record t.now { sent = xs } })) (append-nil t.now.sent)
-
-told_got : (t : Option ToldTalks) → option_map (telling_got []) t ≡ t
-told_got None = refl
-told_got (Some t) = ap (λ xs. Some (record t { now = record t.now { got = xs } })) (append-nil t.now.got)
-
-told_sent_more : (xs ys : List ℕ) (t : Option ToldTalks) → option_map (telling_sent ys) (option_map (telling_sent xs) t) ≡ option_map (telling_sent (xs ++ ys)) t
-told_sent_more xs ys None = refl
-told_sent_more xs ys (Some t) = ap (λ zs. Some (record t { now = record t.now { sent = zs } })) (append_assoc t.now.sent xs ys)
-
-told_got_more : (xs ys : List ℕ) (t : Option ToldTalks) → option_map (telling_got ys) (option_map (telling_got xs) t) ≡ option_map (telling_got (xs ++ ys)) t
-told_got_more xs ys None = refl
-told_got_more xs ys (Some t) = ap (λ zs. Some (record t { now = record t.now { got = zs } })) (append_assoc t.now.got xs ys)
-
-with_left : (w : WireState) (m n : ℕ) (s t : Option ToldTalks) → m ≡ n → s ≡ t → record w { left = m; told = s } ≡ record w { left = n; told = t }
-with_left w m n s t e f = ap (λ k. record w { left = k; told = s }) e ∙ ap (λ o. record w { left = n; told = o }) f
-
-pub sent_none : (w : WireState) → sent_on [] w ≡ w
-sent_none w = with_left w (w.left - 0) w.left (option_map (telling_sent []) w.told) w.told (omega arith) (told_sent w.told)
-
-pub sent_more : (xs ys : List ℕ) (w : WireState) → sent_on ys (sent_on xs w) ≡ sent_on (xs ++ ys) w
-sent_more xs ys w = with_left w (w.left - length xs - length ys) (w.left - length (xs ++ ys)) _ _ (omega (arith, length-append xs ys)) (told_sent_more xs ys w.told)
-
-pub got_none : (w : WireState) → got_on [] w ≡ w
-got_none w = ap (λ t. record w { told = t }) (told_got w.told)
-
-pub got_more : (xs ys : List ℕ) (w : WireState) → got_on ys (got_on xs w) ≡ got_on (xs ++ ys) w
-got_more xs ys w = ap (λ t. record w { told = t }) (told_got_more xs ys w.told)
-
 -- the bytes from a place on, of which some were sent
 pub sent_step : (text : List ℕ) (at count : ℕ) (w now new : WireState) → at ≤ length text → now ≡ sent_on (take at text) w → new ≡ sent_on (take count (take (length text - at) (drop at text))) now → count ≤ length (take (length text - at) (drop at text))
     → new ≡ sent_on (take (at + count) text) w
 sent_step text at count w now new within before after few =
     let rest : take (length text - at) (drop at text) ≡ drop at text = take_all (length text - at) (drop at text) (omega (arith, length-drop at text)) in
-    after ∙ ap (λ xs. sent_on (take count xs) now) rest ∙ ap (λ v. sent_on (take count (drop at text)) v) before ∙ sent_more (take at text) (take count (drop at text)) w ∙ ap (λ xs. sent_on xs w) (both text at count within)
+    after ∙ ap (λ xs. sent_on (take count xs) now) rest ∙ ap (λ v. sent_on (take count (drop at text)) v) before ∙ sent_on-more (take at text) (take count (drop at text)) w ∙ ap (λ xs. sent_on xs w) (both text at count within)
   where
     both : (text : List ℕ) (at count : ℕ) → at ≤ length text → take at text ++ take count (drop at text) ≡ take (at + count) text
     both text at count within =
@@ -81,7 +48,7 @@ broke_off text at w now new before after later rose = record {
 -- ---- a text in two parts
 
 pub sent_parts : (front rest : List ℕ) (w now new : WireState) → now ≡ sent_on front w → new ≡ sent_on rest now → new ≡ sent_on (front ++ rest) w
-sent_parts front rest w now new before after = after ∙ ap (λ v. sent_on rest v) before ∙ sent_more front rest w
+sent_parts front rest w now new before after = after ∙ ap (λ v. sent_on rest v) before ∙ sent_on-more front rest w
 
 -- a write failed in the first
 pub broke_front : (front rest : List ℕ) (w new : WireState) → BrokeOff front w new → BrokeOff (front ++ rest) w new
@@ -100,28 +67,18 @@ broke_rest front rest w now new before b = record {
   sent = front ++ b.sent;
   rest = b.rest;
   text_is = ap (λ xs. front ++ xs) b.text_is ∙ sym (append_assoc front b.sent b.rest);
-  state = b.state ∙ ap (λ v. failed_at ends.WriteFailed new.faults (sent_on b.sent v)) before ∙ ap (λ v. failed_at ends.WriteFailed new.faults v) (sent_more front b.sent w);
+  state = b.state ∙ ap (λ v. failed_at ends.WriteFailed new.faults (sent_on b.sent v)) before ∙ ap (λ v. failed_at ends.WriteFailed new.faults v) (sent_on-more front b.sent w);
   later = subst (λ v. v.faults ≤ new.faults) before b.later;
   rose = subst (λ v. Rose v.faults new.faults) before b.rose;
 }
 
 -- ---- bytes read behind others
 
-pub got_front : (buffer into : List ℕ) (filled room count : ℕ) → filled ≤ length buffer → count ≤ length into → take (filled + count) (put_mid filled room buffer into) ≡ take filled buffer ++ take count into
-got_front buffer into filled room count within few =
-    let now = put_mid filled room buffer into in
-    let n = filled + length into in
-    let front : take n now ≡ take filled buffer ++ into = take-put_mid filled room buffer into n refl within in
-    let long : length (take n now) ≡ n = omega (arith, ap (length {A = ℕ}) front, length-append (take filled buffer) into, length-take filled buffer, within) in
-    let rest : filled + count - length (take filled buffer) ≡ count = omega (arith, length-take filled buffer, within) in
-    ap (λ xs. take (filled + count) xs) (sym (take-append-drop n now)) ∙ take-append-le (filled + count) (take n now) (drop n now) (omega (arith, long, few)) ∙ ap (λ xs. take (filled + count) xs) front
-    ∙ take_past (take filled buffer) into (filled + count) (omega (arith, length-take filled buffer, within)) ∙ ap (λ m. take filled buffer ++ take m into) rest
-
 pub read_step : (buffer into after : List ℕ) (filled room count : ℕ) (w now mid : WireState) → filled ≤ length buffer → count ≤ length into → 0 < count → after ≡ take (filled + count) (put_mid filled room buffer into)
     → now ≡ got_on (take filled buffer) w → mid ≡ after_read (take count into) now → mid ≡ got_on after w
 read_step buffer into after filled room count w now mid within few some is before read =
     read ∙ read_goes_on (take count into) now (omega (arith, length-take count into, few, some)) ∙ ap (λ v. got_on (take count into) v) before
-    ∙ got_more (take filled buffer) (take count into) w ∙ ap (λ xs. got_on xs w) (sym (is ∙ got_front buffer into filled room count within few))
+    ∙ got_on-more (take filled buffer) (take count into) w ∙ ap (λ xs. got_on xs w) (sym (is ∙ got_front buffer into filled room count within few))
 
 -- a reply whose head is not settled leaves room
 pub room_left : (buffer into after : List ℕ) (filled room count : ℕ) → filled ≤ length buffer → count ≤ length into → after ≡ take (filled + count) (put_mid filled room buffer into) → Shows after seen.More → filled + count < 16384
@@ -170,7 +127,7 @@ exchange_broke text old new b = record {
   sent = b.sent;
   got = [];
   end = ends.WriteFailed;
-  state = b.state ∙ ap (λ v. failed_at ends.WriteFailed new.faults v) (sym (got_none (sent_on b.sent old)));
+  state = b.state ∙ ap (λ v. failed_at ends.WriteFailed new.faults v) (sym (got_on-nil (sent_on b.sent old)));
   later = b.later;
   rose = λ w. b.rose;
   text_is = (b.rest, b.text_is);
@@ -220,7 +177,7 @@ pub try_unconnected : (text : List ℕ) (at : ℕ) (old mid new : WireState) →
 try_unconnected text at old mid new some is failed after rose =
     let before : new ≡ failed_at ends.ConnectFailed new.faults (begun_at at old) = failed ∙ ap (λ v. failed_at ends.ConnectFailed new.faults v) is in
     let state : new ≡ failed_at ends.ConnectFailed new.faults (got_on [] (sent_on [] (begun_at at old))) =
-    before ∙ ap (λ v. failed_at ends.ConnectFailed new.faults v) (sym (got_none (sent_on [] (begun_at at old)) ∙ sent_none (begun_at at old))) in
+    before ∙ ap (λ v. failed_at ends.ConnectFailed new.faults v) (sym (got_on-nil (sent_on [] (begun_at at old)) ∙ sent_on-nil (begun_at at old))) in
     let risen : Rose old.faults new.faults = subst (λ v. Rose v.faults new.faults) is rose in
     record {
       free = ap (λ v. v.stage) state;

@@ -1,68 +1,23 @@
 -- Bytes taken behind others, and bytes written behind others.
-use Rattle.std.proofs.Common.{◌≡◌, ℕ, ◌+◌, ◌-◌, ◌≤◌, List, [], ◌++◌, length, take, drop, Option, Some, None, Ok, Err, refl, sym, ap, ◌∙◌, subst, arith, append_assoc, append-nil}
-use Rattle.std.specs.Io.KnownBytes.{Consumes, Appends, Keeps}
-use Rattle.std.proofs.lemmas.List.{length-append, length-take, length-drop, take-append-drop, take_all, take-append-le}
-use Rattle.std.proofs.lemmas.Slice.{take-put_mid}
+use Rattle.std.proofs.Common.{◌≡◌, ℕ, ◌+◌, ◌-◌, ◌≤◌, List, [], ◌++◌, length, take, drop, Ok, Err, refl, sym, ap, ◌∙◌, subst, arith, append_assoc, append-nil}
+use Rattle.std.specs.Io.KnownBytes.{Consumes, Appends}
+use Rattle.std.proofs.lemmas.List.{length-take, length-drop, take-append-drop, take_all}
 use borrow.Rule.Slice.PartMut.{put_mid}
-use Rattle.http_talk.proofs.Laws.{take_past}
+use Rattle.bridge_ports.proofs.Laws.{appends_none, appends_keeps, appends_twice, consumes_none, consumes_twice, consumes_keeps}
+use Rattle.http_talk.proofs.Laws.{take_past, got_front}
 use Rattle.bridge_ports.specs.Causes.{Rose}
 use Rattle.page_server.specs.Connections.{ConnSeen, IsHeard, IsSaid, WereTaken, WereWritten, WereCutOff}
-
--- ---- known bytes
-
-consumes_none : (o : Option (List ℕ)) → Consumes o o []
-consumes_none None = tt
-consumes_none (Some xs) = refl
-
-consumes_more : (a b c : Option (List ℕ)) (xs ys : List ℕ) → Consumes a b xs → Consumes b c ys → Consumes a c (xs ++ ys)
-consumes_more None b c xs ys x y = tt
-consumes_more (Some old) None c xs ys x y = absurd x
-consumes_more (Some old) (Some mid) None xs ys x y = absurd y
-consumes_more (Some old) (Some mid) (Some new) xs ys x y = x ∙ ap (λ zs. xs ++ zs) y ∙ sym (append_assoc xs ys new)
-
-consumes_kept : (a b c : Option (List ℕ)) (xs : List ℕ) → Consumes a b xs → Keeps b c → Consumes a c xs
-consumes_kept None b c xs x y = tt
-consumes_kept (Some old) None c xs x y = absurd x
-consumes_kept (Some old) (Some mid) None xs x y = absurd y
-consumes_kept (Some old) (Some mid) (Some new) xs x y = x ∙ ap (λ zs. xs ++ zs) (sym y)
-
-appends_none : (o : Option (List ℕ)) → Appends o o []
-appends_none None = tt
-appends_none (Some xs) = sym (append-nil xs)
-
-appends_more : (a b c : Option (List ℕ)) (xs ys : List ℕ) → Appends a b xs → Appends b c ys → Appends a c (xs ++ ys)
-appends_more None b c xs ys x y = tt
-appends_more (Some old) None c xs ys x y = absurd x
-appends_more (Some old) (Some mid) None xs ys x y = absurd y
-appends_more (Some old) (Some mid) (Some new) xs ys x y = y ∙ ap (λ zs. zs ++ ys) x ∙ append_assoc old xs ys
-
-appends_kept : (a b c : Option (List ℕ)) (xs : List ℕ) → Appends a b xs → Keeps b c → Appends a c xs
-appends_kept None b c xs x y = tt
-appends_kept (Some old) None c xs x y = absurd x
-appends_kept (Some old) (Some mid) None xs x y = absurd y
-appends_kept (Some old) (Some mid) (Some new) xs x y = y ∙ x
 
 -- ---- reading
 
 pub none_taken : (w : ConnSeen) → WereTaken w w []
 none_taken w = record { left = consumes_none w.left; reads = refl; held = refl; writes = refl }
 
--- bytes that are put into a buffer behind others
-got_front : (buffer into : List ℕ) (filled room count : ℕ) → filled ≤ length buffer → count ≤ length into → take (filled + count) (put_mid filled room buffer into) ≡ take filled buffer ++ take count into
-got_front buffer into filled room count within few =
-    let now = put_mid filled room buffer into in
-    let n = filled + length into in
-    let front : take n now ≡ take filled buffer ++ into = take-put_mid filled room buffer into n refl within in
-    let long : length (take n now) ≡ n = omega (arith, ap (length {A = ℕ}) front, length-append (take filled buffer) into, length-take filled buffer, within) in
-    let rest : filled + count - length (take filled buffer) ≡ count = omega (arith, length-take filled buffer, within) in
-    ap (λ xs. take (filled + count) xs) (sym (take-append-drop n now)) ∙ take-append-le (filled + count) (take n now) (drop n now) (omega (arith, long, few)) ∙ ap (λ xs. take (filled + count) xs) front
-    ∙ take_past (take filled buffer) into (filled + count) (omega (arith, length-take filled buffer, within)) ∙ ap (λ m. take filled buffer ++ take m into) rest
-
 -- a read behind others
 pub more_taken : {E : Type 0} (buffer into after : List ℕ) (filled room count : ℕ) (old mid new : ConnSeen) → filled ≤ length buffer → count ≤ length into → after ≡ take (filled + count) (put_mid filled room buffer into)
     → WereTaken old mid (take filled buffer) → IsHeard {E = E} mid new (Ok count) into → WereTaken old new after
 more_taken buffer into after filled room count old mid new within few is before heard = record {
-  left = subst (λ bytes. Consumes old.left new.left bytes) (sym (is ∙ got_front buffer into filled room count within few)) (consumes_more old.left mid.left new.left (take filled buffer) (take count into) before.left heard.bytes.0);
+  left = subst (λ bytes. Consumes old.left new.left bytes) (sym (is ∙ got_front buffer into filled room count within few)) (consumes_twice old.left mid.left new.left (take filled buffer) (take count into) before.left heard.bytes.0);
   reads = heard.cause.kept ∙ before.reads;
   held = heard.held ∙ before.held;
   writes = heard.writes ∙ before.writes;
@@ -71,7 +26,7 @@ more_taken buffer into after filled room count old mid new within few is before 
 -- a read that found the end
 pub end_taken : {E : Type 0} (into got : List ℕ) (old mid new : ConnSeen) → WereTaken old mid got → IsHeard {E = E} mid new (Ok 0) into → WereTaken old new got
 end_taken into got old mid new before heard = record {
-  left = subst (λ bytes. Consumes old.left new.left bytes) (append-nil got) (consumes_more old.left mid.left new.left got [] before.left heard.bytes.0);
+  left = subst (λ bytes. Consumes old.left new.left bytes) (append-nil got) (consumes_twice old.left mid.left new.left got [] before.left heard.bytes.0);
   reads = heard.cause.kept ∙ before.reads;
   held = heard.held ∙ before.held;
   writes = heard.writes ∙ before.writes;
@@ -79,7 +34,7 @@ end_taken into got old mid new before heard = record {
 
 -- a read that failed
 pub left_kept : {E : Type 0} (fault : E) (into got : List ℕ) (old mid new : ConnSeen) → WereTaken old mid got → IsHeard mid new (Err fault) into → Consumes old.left new.left got
-left_kept fault into got old mid new before heard = consumes_kept old.left mid.left new.left got before.left heard.bytes
+left_kept fault into got old mid new before heard = consumes_keeps old.left mid.left new.left got before.left heard.bytes
 
 -- ---- writing
 
@@ -88,7 +43,7 @@ none_written w = record { held = appends_none w.held; writes = refl; left = refl
 
 pub both_written : (old mid new : ConnSeen) (xs ys : List ℕ) → WereWritten old mid xs → WereWritten mid new ys → WereWritten old new (xs ++ ys)
 both_written old mid new xs ys a b = record {
-  held = appends_more old.held mid.held new.held xs ys a.held b.held;
+  held = appends_twice old.held mid.held new.held xs ys a.held b.held;
   writes = b.writes ∙ a.writes;
   left = b.left ∙ a.left;
   reads = b.reads ∙ a.reads;
@@ -100,7 +55,7 @@ second_cut_off old mid new xs ys a b = record {
   front = xs ++ b.front;
   rest = b.rest;
   bytes_are = ap (λ zs. xs ++ zs) b.bytes_are ∙ sym (append_assoc xs b.front b.rest);
-  held = appends_more old.held mid.held new.held xs b.front a.held b.held;
+  held = appends_twice old.held mid.held new.held xs b.front a.held b.held;
   rose = subst (λ n. Rose n new.write_faults) a.writes b.rose;
   left = b.left ∙ a.left;
   reads = b.reads ∙ a.reads;
@@ -130,7 +85,7 @@ pub more_written : {E : Type 0} (text : List ℕ) (at count : ℕ) (old mid new 
     → WereWritten old mid (take at text) → IsSaid {E = E} mid new (Ok count) (take (length text - at) (drop at text)) → WereWritten old new (take (at + count) text)
 more_written text at count old mid new within few before said = record {
   held = subst (λ bytes. Appends old.held new.held bytes) (rest_from text at count within few)
-      (appends_more old.held mid.held new.held (take at text) (take count (take (length text - at) (drop at text))) before.held said.bytes);
+      (appends_twice old.held mid.held new.held (take at text) (take count (take (length text - at) (drop at text))) before.held said.bytes);
   writes = said.cause.kept ∙ before.writes;
   left = said.left ∙ before.left;
   reads = said.reads ∙ before.reads;
@@ -141,7 +96,7 @@ cut_off_at fault text piece at old mid new before said = record {
   front = take at text;
   rest = drop at text;
   bytes_are = sym (take-append-drop at text);
-  held = appends_kept old.held mid.held new.held (take at text) before.held said.bytes;
+  held = appends_keeps old.held mid.held new.held (take at text) before.held said.bytes;
   rose = subst (λ n. Rose n new.write_faults) before.writes said.cause.failed;
   left = said.left ∙ before.left;
   reads = said.reads ∙ before.reads;

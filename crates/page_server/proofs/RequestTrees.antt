@@ -1,18 +1,19 @@
 -- Requests that are given as trees: what is to be tested of one, and what is then known of the bytes.
 use Rattle.std.proofs.Common.{◌≡◌, ℕ, Bool, true, false, List, [], ◌∷◌, ◌++◌, length, Some, refl, sym, ap, arith, inl}
-use Rattle.std.specs.Prelude.{◌&&◌, nat_le, nat_lt, All}
+use Rattle.std.specs.Prelude.{◌&&◌, nat_le, nat_lt}
 use Rattle.std.specs.List.{list_all}
 use Rattle.std.specs.Str.{is_utf8}
 use Rattle.std.proofs.lemmas.Str.{IsUtf8-from_is_utf8}
 use Rattle.std.proofs.lemmas.List.Sums.{AllPass-from_list_all}
-use Rattle.std.proofs.lemmas.Bool.{leb-true, ltb-true}
-use Rattle.httparse.specs.Grammar.{RequestHead, IsRequestHead, print_request, print_blank, HasNoRequest, Field, IsField, is_token, is_token_byte, is_uri_byte, is_value_byte, LineEnd}
+use Rattle.std.proofs.lemmas.Bool.{and_parts, leb-true, ltb-true}
+use Rattle.httparse.specs.Grammar.{RequestHead, IsRequestHead, print_request, print_blank, HasNoRequest, is_token, is_token_byte, is_uri_byte, LineEnd}
 use Rattle.httparse.specs.Spans.{RequestOverflows}
 use Rattle.httparse.specs.Pieces.{Begins, Then, Never, Stops, is_newline, Word, Method, Target, Version, Newline, RequestStart, SectionOfAtMost}
 use Rattle.httparse.proofs.GrammarLemmas.{request_prefix_free}
 use Rattle.httparse.proofs.HeadLemmas.{request_overflows}
 use Rattle.httparse.proofs.PieceLemmas.{Never_intro, Refutes_first, Refutes_next, Blank_deterministic}
 use Rattle.httparse.proofs.RunLemmas.{run_unique}
+use Rattle.http_talk.proofs.Laws.{is_field, all_fields}
 use Rattle.page_server.specs.declared.status.ReplyStatus.{ReplyStatus}
 use Rattle.page_server.specs.declared.status.ReplyStatus.TheVariants as statuses
 use Rattle.page_server.specs.RequestHeads.{waiting, refused, asked, RequestIs}
@@ -20,18 +21,6 @@ use Rattle.page_server.specs.Serving.{status_of_request, HasStatus}
 use Rattle.page_server.proofs.RequestFronts.{refused_by_error}
 
 -- ---- tests of a tree
-
-and_left : (a b : Bool) → (a && b) ≡ true → a ≡ true
-and_left true b e = refl
-and_left false b e = e
-
-and_right : (a b : Bool) → (a && b) ≡ true → b ≡ true
-and_right true b e = e
-and_right false b e = absurd (cc e)
-
--- a field that may stand in a head
-abbrev pub may_stand : Field → Bool
-may_stand f = is_token f.name && list_all is_value_byte f.raw
 
 -- a head that the grammar has
 abbrev pub is_request : RequestHead → Bool
@@ -41,32 +30,22 @@ is_request h =
     && (list_all is_uri_byte h.target
     && (is_utf8 h.target
     && (nat_le h.minor 1
-    && list_all may_stand h.fields))))
-
-all_fields : (fs : List Field) → list_all may_stand fs ≡ true → All IsField fs
-all_fields fs e = λ k d short.
-    let here = AllPass-from_list_all may_stand fs e k d short in
-    record {
-      name = (leb-true 1 _ (and_left _ _ (and_left _ _ here)), AllPass-from_list_all is_token_byte _ (and_right _ _ (and_left _ _ here)));
-      raw = AllPass-from_list_all is_value_byte _ (and_right _ _ here);
-    }
+    && list_all is_field h.fields))))
 
 pub is_request_so : (h : RequestHead) → is_request h ≡ true → IsRequestHead h
 is_request_so h e =
-    let method = and_left (is_token h.method) _ e in
-    let a = and_right (is_token h.method) _ e in
-    let some = and_left (nat_lt 0 (length h.target)) _ a in
-    let b = and_right (nat_lt 0 (length h.target)) _ a in
-    let uri = and_left (list_all is_uri_byte h.target) _ b in
-    let c = and_right (list_all is_uri_byte h.target) _ b in
-    let text = and_left (is_utf8 h.target) _ c in
-    let d = and_right (is_utf8 h.target) _ c in
+    let method = and_parts (is_token h.method) _ e in
+    let bytes = and_parts _ _ method.0 in
+    let some = and_parts (nat_lt 0 (length h.target)) _ method.1 in
+    let uri = and_parts (list_all is_uri_byte h.target) _ some.1 in
+    let text = and_parts (is_utf8 h.target) _ uri.1 in
+    let minor = and_parts (nat_le h.minor 1) _ text.1 in
     record {
-      method = (leb-true 1 _ (and_left _ _ method), AllPass-from_list_all is_token_byte _ (and_right _ _ method));
-      target = (ltb-true 0 _ some, AllPass-from_list_all is_uri_byte _ uri);
-      target_text = IsUtf8-from_is_utf8 _ text;
-      minor = leb-true _ _ (and_left (nat_le h.minor 1) _ d);
-      fields = all_fields h.fields (and_right (nat_le h.minor 1) _ d);
+      method = (leb-true 1 _ bytes.0, AllPass-from_list_all is_token_byte _ bytes.1);
+      target = (ltb-true 0 _ some.0, AllPass-from_list_all is_uri_byte _ uri.0);
+      target_text = IsUtf8-from_is_utf8 _ text.0;
+      minor = leb-true _ _ minor.0;
+      fields = all_fields h.fields minor.1;
     }
 
 -- ---- heads that are there, or under way

@@ -1,8 +1,7 @@
 -- What one request and its reply over a wire come to.
-use Rattle.std.proofs.Common.{◌≡◌, ℕ, ◌+◌, ◌-◌, ◌*◌, ◌^◌, ◌≤◌, ◌<◌, Bool, true, false, List, [], ◌∷◌, ◌++◌, length, length-append, length-drop, take, drop, Option, Some, None, option_map, Result, Ok, Err, codes, refl, sym, ap, subst, ◌∙◌, inl, inr, arith}
-use Rattle.std.specs.Prelude.{◌≢◌, ◌⊎◌, ◌↔◌, ⊤}
+use Rattle.std.proofs.Common.{◌≡◌, ℕ, ◌+◌, ◌-◌, ◌*◌, ◌≤◌, ◌<◌, true, false, List, [], ◌∷◌, ◌++◌, length, length-append, length-drop, take, drop, Option, Some, None, option_map, Result, Ok, Err, codes, refl, sym, ap, subst, ◌∙◌, inl, inr, arith}
+use Rattle.std.specs.Prelude.{◌≢◌, ⊤}
 use Rattle.httparse.proofs.OnLiterals.{httparse_on_literals}
-use Rattle.bridge_ports.specs.declared.talk.Talk.{Talk}
 use Rattle.bridge_ports.specs.declared.talk.Stage.{Stage}
 use Rattle.bridge_ports.specs.declared.talk.Stage.TheVariants as stages
 use Rattle.bridge_ports.specs.declared.talk.End.{End}
@@ -15,19 +14,16 @@ use Rattle.bridge_ports.proofs.Laws.{read_goes_on, got_on-nil, got_on-more, sent
 use Rattle.page_model.specs.declared.event.Cause.{Cause}
 use Rattle.page_model.specs.declared.event.Cause.TheVariants as causes
 use Rattle.page_model.specs.declared.event.Outcome.{Outcome}
-use Rattle.page_model.specs.declared.event.Outcome.TheVariants as outcomes
-use Rattle.page_model.specs.declared.format.Format.{Format}
 use Rattle.http_talk.specs.declared.fault.Body.{Body}
 use Rattle.http_talk.specs.declared.fault.ReplyFault.{ReplyFault}
 use Rattle.http_talk.specs.declared.fault.ReplyFault.TheVariants as faults
-use Rattle.http_talk.specs.declared.fault.Progress.{Progress}
 use Rattle.http_talk.specs.declared.fault.Progress.TheVariants as progresses
-use Rattle.http_talk.specs.Replies.{Judged, waits, goes_on, decided, Verdict, refused, whole, IsJudged, HasVerdict, is_decided, IsPageOutcome, IsOutcomeBy, IsOutcomeOf, IsVerdictOutcome, HasOutcome, IsSent, IsGot, IsWholeTalk, cause_of}
+use Rattle.http_talk.specs.Replies.{Judged, waits, goes_on, decided, refused, whole, IsJudged, HasVerdict, is_decided, IsPageOutcome, IsOutcomeBy, IsOutcomeOf, IsSent, IsGot, cause_of}
 use Rattle.http_talk.specs.ReplyReading.{Reader, Stands, progress_of, IsRefusal, IsPieceTaken, FinishAnswer}
 use Rattle.http_talk.proofs.Laws.{by_more, bare_head, known_once, undecided_is_short, body_is_short}
 use Rattle.scrape_client.specs.declared.stop.NoBody.{NoBody}
 use Rattle.scrape_client.specs.declared.stop.NoBody.TheVariants as stops
-use Rattle.scrape_client.specs.Exchanges.{without_body, Says, WantsMemory, HasShortBody, BlamesWire, RoseByWire, IsSaidOf, IsSaidAt, EndsReply, IsReplyRead, ReadsOn, SendsText, HasTalked, IsTalkOver, IsExchange}
+use Rattle.scrape_client.specs.Exchanges.{without_body, Says, WantsMemory, HasShortBody, BlamesWire, RoseByWire, IsSaidOf, EndsReply, IsReplyRead, ReadsOn, HasTalked, IsExchange}
 
 -- nothing is certain of no bytes
 pub nothing_got : (most : ℕ) → IsJudged most [] waits

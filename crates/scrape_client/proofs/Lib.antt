@@ -2,3 +2,4 @@ mod PageOutcomeCases
 mod SampleLimit
 mod Exchanging
 mod Scrapes
+pub mod Laws

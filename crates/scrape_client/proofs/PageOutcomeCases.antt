@@ -1,5 +1,5 @@
 -- Outcomes with a page or its fault, by computation.
-use Rattle.std.proofs.Common.{◌≡◌, ℕ, List, [], ◌∷◌, ◌++◌, Option, Some, None, codes, refl}
+use Rattle.std.proofs.Common.{◌≡◌, [], ◌∷◌, Some, None, codes, refl}
 use Rattle.std.specs.Str.{is_utf8, chars}
 use Rattle.std.specs.Char.{encode_utf8}
 use Rattle.std.specs.Fmt.{digits}
@@ -8,27 +8,22 @@ use Rattle.exact_decimal.specs.Tokens.{unsigned, has_minus, mantissa, whole_part
 use Rattle.exact_decimal.specs.Numbers.{number_read, number_of}
 use Rattle.exact_decimal.specs.Order.{less, same, whole}
 use Rattle.page_lines.specs.Lines.{lines_of, ends_clean}
-use Rattle.page_model.specs.declared.format.Treatment.TheVariants.{Scraped}
 use Rattle.page_model.specs.declared.rule.Rule.TheVariants as rules
-use Rattle.page_model.specs.Written.{text_setting}
 use Rattle.page_model.specs.TextItems.{trimmed, is_integer_token}
 use Rattle.page_model.specs.TextReading.{label_at, labels_at, middle_from, middle_at, stamp_of, sample_of, kind_named, named_at, marked_of, trimmed_of, text_line_of}
 use Rattle.page_model.specs.Owners.{kind_of, sample_owner, owned_lines, samples_of}
 use Rattle.page_model.specs.Rules.{is_after_eof, is_without_eof, is_late_descriptor, is_split, is_bad_unit, has_forbidden_unit, is_bad_exemplar, is_interleaved, has_wrong_suffix, is_duplicate, has_bad_value, has_forbidden_value, has_bad_threshold, is_out_of_order, is_past_limit, buckets_of_group, infinite_bucket, is_complete_at, is_incomplete, leaves_incomplete, exemplar_characters}
-use Rattle.page_model.specs.Faults.{Fault, line_breaks, own_fault, sample_breaks, owned_breaks, item_breaks, item_fault, end_breaks, end_fault, line_fault, fault_from}
+use Rattle.page_model.specs.Faults.{line_breaks, own_fault, sample_breaks, owned_breaks, item_breaks, item_fault, end_breaks, end_fault, line_fault, fault_from}
 use Rattle.page_model.specs.PageReading.{text_fault, text_page}
-use Rattle.page_model.specs.Pages.{items_of}
-use Rattle.page_model.specs.Readings.{page_of}
 use Rattle.page_model.proofs.Laws.{first_fault_read, page_is_read}
 use Rattle.page_model.specs.declared.format.Format.TheVariants.{Text}
 use Rattle.page_model.specs.declared.event.Cause.TheVariants as causes
 use Rattle.page_model.specs.declared.event.Outcome.TheVariants as outcomes
 use Rattle.httparse.proofs.OnLiterals.{httparse_on_literals}
-use Rattle.bridge_ports.specs.declared.talk.Talk.{Talk}
 use Rattle.bridge_ports.specs.declared.talk.End.TheVariants as ends
 use Rattle.http_talk.specs.Heads.{head_cause}
 use Rattle.http_talk.specs.Chunks.{place_after}
-use Rattle.http_talk.specs.Replies.{decided, goes_on, whole as whole_reply, chunks_verdict, body_judged, judged, IsJudged, HasOutcome, scraped_setting}
+use Rattle.http_talk.specs.Replies.{decided, goes_on, whole as whole_reply, chunks_verdict, body_judged, judged, HasOutcome, scraped_setting}
 use Rattle.http_talk.proofs.Laws.{by_head, field, ok_head}
 
 -- the page of one sample has no fault

@@ -7,7 +7,6 @@ use Rattle.std.proofs.lemmas.Bool.{leb-false}
 use Rattle.std.proofs.lemmas.List.Sums.{sum_by-cons}
 use Rattle.page_lines.specs.Lines.{ends_clean}
 use Rattle.page_model.specs.declared.format.Format.{Format}
-use Rattle.page_model.specs.declared.format.Treatment.TheVariants.{Scraped}
 use Rattle.page_model.specs.declared.item.Item.{Item}
 use Rattle.page_model.specs.declared.item.Item.TheVariants as items
 use Rattle.page_model.specs.declared.item.Sample.{Sample}
@@ -78,7 +77,7 @@ all_lines (l ∷ ls) st earlier n clean free few =
     (one_more_line st l earlier (no_image (λ rule. (n, rule)) (line_fault st earlier l) (no_first (option_map (λ rule. (n, rule)) (line_fault st earlier l)) (fault_from st (with_line st.format l earlier) (n + 1) ls clean) free)) few)
 
 -- the page of a text has no more samples than it may have
-few_samples : (st : Setting) (bytes : List ℕ) (page : Page) → IsPageOf st bytes page → page.samples ≤ st.limit
+pub few_samples : (st : Setting) (bytes : List ℕ) (page : Page) → IsPageOf st bytes page → page.samples ≤ st.limit
 unfolding page_of
 few_samples st bytes page x =
     subst (λ (p : Page). p.samples ≤ st.limit) (sym x.page_is) (all_lines x.lines st [] 1 (ends_clean bytes) x.without_fault (omega arith))

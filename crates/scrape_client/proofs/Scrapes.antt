@@ -1,12 +1,9 @@
 -- What one exchange and its page give of a scrape.
-use Rattle.std.proofs.Common.{◌≡◌, ℕ, ◌≤◌, List, [], ◌∷◌, length, Option, Some, None, Result, Ok, Err, refl, sym, ap, subst, ◌∙◌, inl, inr, arith}
-use Rattle.std.specs.Prelude.{◌⊎◌, ⊤}
+use Rattle.std.proofs.Common.{◌≡◌, ℕ, List, ◌∷◌, Option, Some, None, Result, Ok, Err, refl, sym, subst, inl, inr, arith}
 use Rattle.bridge_ports.specs.declared.talk.Talk.{Talk}
 use Rattle.bridge_ports.specs.declared.talk.Address.{Address}
 use Rattle.bridge_ports.specs.declared.talk.Stage.TheVariants as stages
-use Rattle.bridge_ports.specs.Causes.{Rose}
-use Rattle.bridge_ports.specs.Talks.{WireState, ToldTalks, Tells, made_ready}
-use Rattle.page_model.specs.declared.event.Cause.{Cause}
+use Rattle.bridge_ports.specs.Talks.{WireState, ToldTalks, Tells}
 use Rattle.page_model.specs.declared.event.Cause.TheVariants as causes
 use Rattle.page_model.specs.declared.event.Outcome.{Outcome}
 use Rattle.page_model.specs.declared.event.Outcome.TheVariants as outcomes
@@ -18,7 +15,7 @@ use Rattle.scrape_client.specs.declared.stop.NoBody.{NoBody}
 use Rattle.scrape_client.specs.declared.stop.NoBody.TheVariants as stops
 use Rattle.scrape_client.specs.Scraping.{IsWireFault, IsWithinLimit, IsTalkOfEvent, GrewByEvent, IsScrape, GrewByOne, IsCutShort}
 use Rattle.scrape_client.proofs.Exchanging.{says_some}
-use Rattle.scrape_client.specs.Exchanges.{Says, WantsMemory, BlamesWire, IsTalkOver, IsExchange}
+use Rattle.scrape_client.specs.Exchanges.{Says, BlamesWire, IsExchange}
 
 -- what a body comes to is no fault of the wire
 page_is_peer : (limit : ℕ) (format : Format) (body : List ℕ) (outcome : Outcome) → IsPageOutcome limit format body outcome → IsWireFault outcome → ⊥

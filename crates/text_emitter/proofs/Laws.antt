@@ -1,4 +1,5 @@
 -- What the proofs of writers may cite.
+pub use Rattle.text_emitter.proofs.Ends.{any_ends}
 use Rattle.std.proofs.Common.{◌≡◌, ℕ, List, ◌++◌, fold}
 use Rattle.std.proofs.lemmas.Grind.{fold-append}
 

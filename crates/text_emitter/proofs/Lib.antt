@@ -1,4 +1,6 @@
 pub mod DigitCount
+mod Ends
 pub mod Folds
 pub mod Laws
+pub mod PrintLaws
 pub mod Walks

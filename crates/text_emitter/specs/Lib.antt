@@ -1,1 +1,2 @@
 pub mod Emitters
+pub mod Printing

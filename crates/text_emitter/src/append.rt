@@ -1,12 +1,10 @@
-//! The emitter that keeps the bytes.
+//! Bytes that are appended to a vector.
 
 ghost use Rattle.std.specs.Prelude.{◌≡◌, fold, length, take, OnOk, OnErr};
 ghost use Rattle.text_emitter.specs.Emitters.{append_push};
 
 use crate::all_bytes::{AllBytes, Piece};
-use crate::emitter::Emitter;
-use crate::last_integer::LastInteger;
-use exact_decimal::Number;
+use crate::byte_emitter::Pieces;
 use std::alloc::AllocError;
 use std::marker::Model;
 use std::mem;
@@ -16,7 +14,7 @@ use std::mem;
 /// It grows where it has to. Where there is no memory for that, some of the text is missing; so it is
 /// taken away in the end.
 #[derive(Drop)]
-struct Growing {
+pub(crate) struct Growing {
     bytes: Vec<u8>,
     /// How many bytes stood there before the text.
     start: usize,
@@ -36,7 +34,7 @@ impl Model for Growing {
 
 impl Growing {
     /// The bytes of a vector, which are taken out of it.
-    fn from(out: &mut Vec<u8>) -> Growing
+    pub(crate) fn from(out: &mut Vec<u8>) -> Growing
         ensures bytes { result.bytes ≡ out.old.items }
         ensures start { result.start ≡ length out.old.items }
     {
@@ -54,19 +52,8 @@ impl Growing {
         }
     }
 
-    /// Appends a piece.
-    #[tactic(auto, using(crate::proofs::Folds::append_folded))]
-    fn append(&mut self, piece: &[u8])
-        ensures { self.new ≡ fold append_push self.old piece.now }
-    {
-        if self.bytes.extend_from_slice(piece).is_err() {
-            self.failed = true;
-        }
-        self.all = self.all.and(&Piece { bytes: piece });
-    }
-
     /// Gives the bytes back to the vector: with the text, or without it where there was no memory.
-    fn give_back(self, out: &mut Vec<u8>) -> Result<(), AllocError>
+    pub(crate) fn give_back(self, out: &mut Vec<u8>) -> Result<(), AllocError>
         ensures ok { OnOk result (out.new.items ≡ self.bytes) }
         ensures err { OnErr result (out.new.items ≡ take self.start self.bytes) }
     {
@@ -81,62 +68,14 @@ impl Growing {
     }
 }
 
-/// Appends a text to a vector.
-#[derive(Drop)]
-pub(crate) struct Append {
-    growing: Growing,
-    last: LastInteger,
-}
-
-impl Model for Append {
-    ghost use Rattle.text_emitter.specs.Emitters.{Appended};
-
-    ghost Value = { Appended };
-
-    ghost view = { λ a. a.growing };
-}
-
-impl Append {
-    /// No text yet behind the bytes of a vector, which are taken out of it.
-    pub(crate) fn behind(out: &mut Vec<u8>) -> Append
-        ensures bytes { result.bytes ≡ out.old.items }
-        ensures start { result.start ≡ length out.old.items }
-    {
-        Append {
-            growing: Growing::from(out),
-            last: LastInteger::new(),
-        }
-    }
-
-    /// Gives the bytes back to the vector: with the text, or without it where there was no memory.
-    pub(crate) fn give_back(self, out: &mut Vec<u8>) -> Result<(), AllocError>
-        ensures ok { OnOk result (out.new.items ≡ self.bytes) }
-        ensures err { OnErr result (out.new.items ≡ take self.start self.bytes) }
-    {
-        self.growing.give_back(out)
-    }
-}
-
-impl Emitter for Append {
+impl Pieces for Growing {
     ghost push = { append_push };
 
-    fn put(&mut self, piece: &[u8]) {
-        self.growing.append(piece);
-    }
-
-    fn put_integer(&mut self, n: u64) {
-        self.growing.append(self.last.digits(n));
-    }
-
-    fn put_json_number(&mut self, n: &Number) {
-        let mut literal = exact_decimal::Buffer::new();
-        exact_decimal::print(n, &mut literal);
-        self.growing.append(literal.bytes());
-    }
-
-    fn put_open_number(&mut self, n: &Number) {
-        let mut literal = exact_decimal::Buffer::new();
-        exact_decimal::print_open(n, &mut literal);
-        self.growing.append(literal.bytes());
+    #[tactic(auto, using(crate::proofs::Folds::append_folded))]
+    fn append(&mut self, piece: &[u8]) {
+        if self.bytes.extend_from_slice(piece).is_err() {
+            self.failed = true;
+        }
+        self.all = self.all.and(&Piece { bytes: piece });
     }
 }

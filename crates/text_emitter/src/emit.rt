@@ -1,10 +1,17 @@
 //! What has a text, its length, and its bytes.
 
 ghost use Rattle.std.specs.Prelude.{◌≡◌, ◌++◌, codes, fold, length as length_of, min, OnOk, OnErr};
+ghost use Rattle.std.specs.Io.KnownBytes.{Appends};
+ghost use Rattle.bridge_ports.specs.Causes.{HasCause};
+ghost use Rattle.bridge_ports.specs.Writing.{WroteFront};
+ghost use Rattle.text_emitter.specs.Printing.{printing};
 
-use crate::append::Append;
+use crate::append::Growing;
+use crate::byte_emitter::ByteEmitter;
 use crate::count::Count;
 use crate::emitter::Emitter;
+use crate::print::Printing;
+use bridge_ports::{Failed, Sink};
 use std::alloc::AllocError;
 
 /// What has a text.
@@ -37,9 +44,9 @@ pub fn write<T: Emit>(value: &T, out: &mut Vec<u8>) -> Result<(), AllocError>
     ensures ok { OnOk result (out.new.items ≡ out.old.items ++ T.text value.now) }
     ensures err { OnErr result (out.new.items ≡ out.old.items) }
 {
-    let mut append = Append::behind(out);
-    value.emit(&mut append);
-    append.give_back(out)
+    let mut emitter = ByteEmitter::over(Growing::from(out));
+    value.emit(&mut emitter);
+    emitter.into_pieces().give_back(out)
 }
 
 /// A text with a line feed behind it.
@@ -55,10 +62,28 @@ impl<T: Emit> Emit for Line<'_, T> {
     }
 }
 
-/// Puts a text and a line feed at the end of `out`, as [`write`] does.
-pub fn write_line<T: Emit>(value: &T, out: &mut Vec<u8>) -> Result<(), AllocError>
-    ensures ok { OnOk result (out.new.items ≡ out.old.items ++ T.text value.now ++ codes "\n") }
-    ensures err { OnErr result (out.new.items ≡ out.old.items) }
+/// Puts a text and a line feed into an emitter that writes to an output.
+fn emit_line<T: Emit, O: Sink>(value: &T, out: &mut ByteEmitter<Printing<'_, O>>)
+    ensures same_reference { out.new.name ≡ out.old.name }
+    ensures put { out.new ≡ printing out.old (out.old.text ++ (T.text value.now ++ codes "\n")) }
 {
-    write(&Line(value), out)
+    Line(value).emit(out);
+}
+
+/// Writes a text and a line feed to an output, as it is made, so that it takes no memory.
+///
+/// Where a write fails, the answer is [`Failed`]: a front of the text was written, and not all of it.
+pub fn print_line<T: Emit, O: Sink>(value: &T, output: &mut O) -> Result<(), Failed>
+    ensures whole { OnOk result (Appends (O.held output.old) (O.held output.new) (T.text value.now ++ codes "\n")) }
+    ensures front { OnErr result (WroteFront (O.held output.old) (O.held output.new) (T.text value.now ++ codes "\n")) }
+    ensures cause { HasCause (O.write_faults output.old) (O.write_faults output.new) result }
+{
+    let mut emitter = ByteEmitter::over(Printing::on(output));
+    emit_line(value, &mut emitter);
+    let mut failed = false;
+    let _output = emitter.into_pieces().finish(&mut failed);
+    if failed {
+        return Err(Failed);
+    }
+    Ok(())
 }

@@ -1,16 +1,18 @@
 //! One writer of a text for its length and for its bytes.
 //!
 //! What has a text implements [`Emit`]: it puts the pieces of the text, one after another, into an
-//! [`Emitter`]. So each piece stands in the code once: [`length`] counts them, and [`write`] appends
-//! them to a vector.
+//! [`Emitter`]. So each piece stands in the code once: [`length`] counts them, [`write`] appends them to
+//! a vector, and [`print_line`] writes them to an output.
 #![tactic(auto)]
 
 mod all_bytes;
 mod append;
+mod byte_emitter;
 mod count;
 mod emit;
 mod emitter;
 mod last_integer;
+mod print;
 
-pub use emit::{Emit, length, write, write_line};
+pub use emit::{Emit, length, print_line, write};
 pub use emitter::Emitter;

@@ -1,13 +1,13 @@
-//! `convert`: the event that a page becomes.
-ghost use Rattle.std.specs.Prelude.{◌≡◌, None, IfOk, IfErr};
+//! `convert`: the tree of the event that a page becomes.
+ghost use Rattle.std.specs.Prelude.{◌≡◌, ◌++◌, codes, None, IfOk, IfErr};
 ghost use Rattle.page_model.specs.declared.event.Outcome.TheVariants.{Page as Scraped};
 ghost use Rattle.start_times.specs.Scrapes.{moment_after};
 ghost use Rattle.target_core.specs.Events.{event_request};
+ghost use Rattle.otlp_json.specs.Texts.{request_text};
 ghost use Rattle.bridge_cli.specs.declared.status.Status.TheVariants.{Done};
 ghost use Rattle.bridge_cli.specs.declared.words.Command.TheVariants.{Convert};
 ghost use Rattle.bridge_cli.specs.Statuses.{code_of};
 ghost use Rattle.bridge_cli.specs.Answers.{Answers};
-ghost use Rattle.bridge_cli.specs.ConvertTexts as spec;
 ghost use Rattle.bridge_cli.specs.Limits.{most_page};
 ghost use Rattle.bridge_cli.specs.PageInputs.{Leaves};
 ghost use Rattle.bridge_cli.specs.ProgramOutputs.{HasAnswer};
@@ -19,14 +19,11 @@ use bridge_ports::{Source, Target};
 use label_sets::Memory;
 use otlp_tree::Request;
 use page_model::{Event, Format, Outcome, Page};
-use std::alloc::{AllocError, Global};
+use std::alloc::Global;
 use target_core::TargetState;
 
 /// Over how many scrapes that miss it a series would keep its start.
 const KEEP: u32 = 2;
-
-/// About how many bytes a sample becomes: room for them spares most of the text's growth.
-const SAMPLE_BYTES: usize = 400;
 
 /// The tree of the event that a page is, for a target that was never scraped before.
 fn first_event(alloc: Global, target: &Target, nanos: u64, page: Page) -> Result<Request, Memory>
@@ -41,36 +38,20 @@ fn first_event(alloc: Global, target: &Target, nanos: u64, page: Page) -> Result
     state.step(alloc, event)
 }
 
-/// The text of the event of a page.
-#[tactic(auto, unfolding(crate::specs::ConvertTexts::converted_text))]
-fn converted_text(
-    alloc: Global,
-    target: &Target,
-    nanos: u64,
-    page: Page,
-) -> Result<Vec<u8>, AllocError>
-    ensures { IfOk result (λ text. text.items ≡ spec.converted_text target.now nanos page) }
-{
-    let mut text = Vec::with_capacity(alloc, page.samples() as usize * SAMPLE_BYTES)?;
-    let request = first_event(alloc, target, nanos, page)?;
-    otlp_json::write_line(&request, &mut text)?;
-    Ok(text)
-}
-
-/// The event of the page on the input.
+/// The tree of the event that the page on the input is.
 pub(super) fn convert<I: Source>(
     alloc: Global,
     format: Format,
     target: &Target,
     nanos: u64,
     input: &mut I,
-) -> Result<Vec<u8>, Stop>
-    ensures text { IfOk result (λ text. HasAnswer (Answers (Convert format target.now nanos))
-        (I.left input.old) (code_of Done) text.items) }
+) -> Result<Request, Stop>
+    ensures text { IfOk result (λ request. HasAnswer (Answers (Convert format target.now nanos))
+        (I.left input.old) (code_of Done) (request_text request ++ codes "\n")) }
     ensures stop { IfErr result (StopsAs (Answers (Convert format target.now nanos)) (I.left input.old)) }
     ensures input { Leaves most_page (I.left input.old) (I.left input.new)
         (I.read_faults input.old) (I.read_faults input.new) result }
 {
     let page = whole_page(alloc, format, input)?;
-    Ok(converted_text(alloc, target, nanos, page)?)
+    Ok(first_event(alloc, target, nanos, page)?)
 }

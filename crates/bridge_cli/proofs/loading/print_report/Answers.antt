@@ -1,6 +1,6 @@
 use Rattle.std.proofs.Common.{[], Ok, Err, inl, inr}
 use Rattle.bridge_cli.specs.Loads.{no_report}
-use Rattle.bridge_cli.proofs.ReplayLaws.{grown_none}
+use Rattle.bridge_ports.proofs.Laws.{appends_none}
 use Rattle.bridge_cli.proofs.EndLaws.{run_reported, none_halted}
 use Rattle.bridge_cli.proofs.ShelfLaws.{free_pairs, script_shelved}
 use Rattle.bridge_cli.proofs.loading.print_report.Goals as goal
@@ -25,7 +25,7 @@ returns-clause-printed g c =
     (printed.0, inr printed.1, printed.2)
 
 pub returns-in-Err-clause-printed : goal.returns-in-Err-clause-printed
-returns-in-Err-clause-printed g c = ([], inl no_report, grown_none (g.O.Sink.held c.args.output.now))
+returns-in-Err-clause-printed g c = ([], inl no_report, appends_none (g.O.Sink.held c.args.output.now))
 
 pub returns-in-Err-print_ends-clause-printed : goal.returns-in-Err-print_ends-clause-printed
 returns-in-Err-print_ends-clause-printed g c =

@@ -1,7 +1,7 @@
 use Rattle.std.proofs.Common.{◌-◌, length, arith}
 use Rattle.std.proofs.lemmas.List.{take_rest}
 use Rattle.open_writing.specs.Pieces.{is_marked}
-use Rattle.open_writing.proofs.Escapes.{any_ends}
+use Rattle.text_emitter.proofs.Laws.{any_ends}
 use Rattle.open_writing.proofs.strings.ends_have_marks.Goals as goal
 
 pub returns : goal.returns

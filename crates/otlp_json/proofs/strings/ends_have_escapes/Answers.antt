@@ -1,7 +1,7 @@
 use Rattle.std.proofs.Common.{◌-◌, length, arith}
 use Rattle.std.proofs.lemmas.List.{take_rest}
 use Rattle.otlp_json.specs.Json.{is_escaped}
-use Rattle.otlp_json.proofs.Escapes.{any_ends}
+use Rattle.text_emitter.proofs.Laws.{any_ends}
 use Rattle.otlp_json.proofs.strings.ends_have_escapes.Goals as goal
 
 pub returns : goal.returns

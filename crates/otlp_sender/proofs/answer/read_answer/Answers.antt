@@ -2,11 +2,12 @@
 use Rattle.std.proofs.Common.{rules, ◌≡◌, ◌≢◌, ◌≤◌, ◌<◌, ◌-◌, refl, sym, arith, length}
 use Rattle.http_talk.specs.declared.seen.HeadSeen.TheVariants as seen
 use Rattle.http_talk.proofs.Laws.{nothing_shown}
-use Rattle.otlp_sender.proofs.WireSteps.{got_none, read_step, shown_more, room_left, left_there}
+use Rattle.bridge_ports.proofs.Laws.{got_on-nil}
+use Rattle.otlp_sender.proofs.WireSteps.{read_step, shown_more, room_left, left_there}
 use Rattle.otlp_sender.proofs.answer.read_answer.Goals as goal
 
 pub reading-init : goal.reading-init
-reading-init g c = record { within = omega arith; state = sym (got_none _); shown = nothing_shown }
+reading-init g c = record { within = omega arith; state = sym (got_on-nil _); shown = nothing_shown }
 
 pub returns-then-ne : goal.returns-then-ne
 returns-then-ne g c =

@@ -1,8 +1,8 @@
-use Rattle.std.proofs.Common.{◌≡◌, ◌∙◌, ℕ, [], ◌++◌, Err, refl, sym, subst}
+use Rattle.std.proofs.Common.{◌∙◌, ℕ, [], Err, refl, sym, subst}
 use Rattle.bridge_ports.specs.declared.talk.End.TheVariants as ends
 use Rattle.http_talk.specs.Replies.{IsJudged, cause_of}
 use Rattle.scrape_client.specs.declared.stop.NoBody.{NoBody}
-use Rattle.scrape_client.specs.Exchanges.{Says, HasShortBody, without_body}
+use Rattle.scrape_client.specs.Exchanges.{Says, without_body}
 use Rattle.scrape_client.proofs.Exchanging.{decided_by_any, whole_is_decided, refused_said, says_some}
 use Rattle.scrape_client.proofs.one_scrape.said_at.Goals as goal
 

@@ -1,5 +1,5 @@
-use Rattle.std.proofs.Common.{◌≡◌, ◌∙◌, ◌≤◌, ℕ, ap, sym, subst, arith, length}
-use Rattle.bridge_ports.specs.Talks.{WireState, made_ready, begun_at}
+use Rattle.std.proofs.Common.{◌≡◌, ◌∙◌, ℕ, ap, subst, arith, length}
+use Rattle.bridge_ports.specs.Talks.{made_ready, begun_at}
 use Rattle.http_talk.specs.Requests.{get_request}
 use Rattle.http_talk.specs.Replies.{most_body_limit}
 use Rattle.scrape_client.specs.Exchanges.{IsExchange}

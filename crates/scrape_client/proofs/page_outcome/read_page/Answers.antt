@@ -1,4 +1,4 @@
-use Rattle.std.proofs.Common.{◌≡◌, ℕ, List, [], ◌++◌, Err, append-nil, subst, arith}
+use Rattle.std.proofs.Common.{ℕ, List, [], Err, append-nil, subst, arith}
 use Rattle.page_model.specs.declared.fault.PageFault.{PageFault}
 use Rattle.page_model.specs.declared.fault.PageFault.TheVariants as faults
 use Rattle.page_model.specs.declared.format.Treatment.TheVariants.{Scraped}

@@ -1,4 +1,4 @@
-use Rattle.std.proofs.Common.{◌≡◌, ◌∙◌, ◌≤◌, ℕ, ap, subst, arith, length}
+use Rattle.std.proofs.Common.{◌≡◌, ◌∙◌, ℕ, ap, subst, arith, length}
 use Rattle.bridge_ports.specs.declared.talk.End.TheVariants as ends
 use Rattle.bridge_ports.specs.declared.talk.Stage.TheVariants as stages
 use Rattle.bridge_ports.specs.Causes.{Rose}

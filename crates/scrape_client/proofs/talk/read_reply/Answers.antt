@@ -1,9 +1,9 @@
-use Rattle.std.proofs.Common.{◌≡◌, ◌∙◌, ◌+◌, ◌*◌, ◌<◌, ◌≤◌, ℕ, List, ◌++◌, Err, take, length, sym, subst, arith}
+use Rattle.std.proofs.Common.{◌≡◌, ◌∙◌, ◌+◌, ◌<◌, ◌++◌, Err, take, length, sym, subst, arith}
 use Rattle.std.proofs.lemmas.List.{length-take-le}
 use Rattle.http_talk.specs.declared.fault.Progress.{Progress}
 use Rattle.http_talk.specs.ReplyReading.{IsPieceTaken}
 use Rattle.scrape_client.specs.declared.stop.NoBody.{NoBody}
-use Rattle.scrape_client.specs.Exchanges.{ReadsOn, IsReplyRead}
+use Rattle.scrape_client.specs.Exchanges.{IsReplyRead}
 use Rattle.scrape_client.proofs.Exchanging.{reads_nothing, reads_more, reads_few, reads_keep, whole_read, refused_read}
 use Rattle.scrape_client.proofs.talk.read_reply.Goals as goal
 

@@ -1,4 +1,4 @@
-use Rattle.std.proofs.Common.{◌≡◌, ◌+◌, ◌-◌, ◌≤◌, take, drop, length, length-drop, arith}
+use Rattle.std.proofs.Common.{◌-◌, drop, length, length-drop, arith}
 use Rattle.std.proofs.lemmas.List.{length-take}
 use Rattle.scrape_client.proofs.Exchanging.{sends_more, sends_less}
 use Rattle.scrape_client.proofs.talk.send_text.Goals as goal

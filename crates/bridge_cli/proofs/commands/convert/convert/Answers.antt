@@ -2,10 +2,11 @@ use Rattle.bridge_cli.specs.PageAnswers.{page_setting, IsPageAnswer}
 use Rattle.bridge_cli.specs.ConvertTexts.{converted_text}
 use Rattle.bridge_cli.specs.StopAnswers.{StopsAs}
 use Rattle.bridge_cli.proofs.PageLaws.{stop_has, page_answer}
+use Rattle.bridge_cli.proofs.CommandLaws.{tree_text}
 use Rattle.bridge_cli.proofs.commands.convert.convert.Goals as goal
 
 pub returns-in_err-page-clause-stop : goal.returns-in_err-page-clause-stop
 returns-in_err-page-clause-stop g c = stop_has (StopsAs (IsPageAnswer (page_setting c.args.format) (converted_text c.args.target.now c.args.nanos)) _) _ _ c.from_residual.ensures.1 (c.in_err-page.ensures.stop (converted_text c.args.target.now c.args.nanos))
 
 pub returns-clause-text : goal.returns-clause-text
-returns-clause-text g c = page_answer _ _ c.in_ok-page.page (converted_text c.args.target.now c.args.nanos) _ c.in_ok-page.ensures.page c.in_ok-converted_text.ensures
+returns-clause-text g c = page_answer _ _ c.in_ok-page.page (converted_text c.args.target.now c.args.nanos) _ c.in_ok-page.ensures.page (tree_text c.args.target.now c.args.nanos c.in_ok-page.page _ c.in_ok-first_event.ensures)

@@ -4,7 +4,8 @@ use Rattle.bridge_ports.specs.Targets.{Scraped}
 use Rattle.bridge_cli.specs.CommandWords.{IsCommand, AskFor, place_target, takes_memory}
 use Rattle.replay_script.specs.ScriptParts.{format_word}
 use Rattle.bridge_cli.specs.declared.words.Command.TheVariants.{Convert}
-use Rattle.bridge_cli.proofs.WordLaws.{at_error, conversion_is, not_zero, place_of, time_of}
+use Rattle.bridge_ports.proofs.Laws.{at_error}
+use Rattle.bridge_cli.proofs.WordLaws.{conversion_is, not_zero, place_of, time_of}
 use Rattle.bridge_cli.proofs.words.forms.conversion.Goals as goal
 
 pub returns-in_err-target-clause-memory : goal.returns-in_err-target-clause-memory

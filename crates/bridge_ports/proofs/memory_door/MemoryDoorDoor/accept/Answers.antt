@@ -1,6 +1,6 @@
 -- The connection that is handed out is the first to come, and the others were not used.
-use Rattle.std.proofs.Common.{◌≡◌, ◌+◌, List, [], ◌∷◌, Some, refl, sym, subst, arith}
-use Rattle.std.specs.Prelude.{map, true, All}
+use Rattle.std.proofs.Common.{◌≡◌, ◌+◌, List, ◌∷◌, Some, refl, sym, subst, arith}
+use Rattle.std.specs.Prelude.{map, true}
 use Rattle.std.specs.Vec.Iter.{into_iter_items}
 use Rattle.std.proofs.lemmas.List.Elements.{All-head, All-tail, All-same}
 use Rattle.bridge_ports.specs.Doors.{HandsOut, IsFirstToCome}

@@ -1,4 +1,4 @@
-use Rattle.std.proofs.Common.{◌≡◌, ◌∙◌, sym, subst, ap}
+use Rattle.std.proofs.Common.{◌∙◌, sym, subst, ap}
 use Rattle.bridge_ports.specs.Plans.{MayEnd, talk_ended, kept_plan}
 use Rattle.bridge_ports.proofs.PlanLaws.{talk_kept, plan_kept}
 use Rattle.bridge_ports.proofs.memory_wire.MemoryWire.end_talk.Goals as goal

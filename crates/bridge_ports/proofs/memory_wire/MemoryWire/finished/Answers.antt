@@ -1,4 +1,4 @@
-use Rattle.std.proofs.Common.{◌≡◌, ◌∙◌, sym, ap, length}
+use Rattle.std.proofs.Common.{◌∙◌, sym, ap, length}
 use Rattle.bridge_ports.specs.Plans.{MemoryState, kept_plan}
 use Rattle.bridge_ports.proofs.PlanLaws.{length-kept}
 use Rattle.bridge_ports.proofs.memory_wire.MemoryWire.finished.Goals as goal

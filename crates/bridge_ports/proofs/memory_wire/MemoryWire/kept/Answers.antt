@@ -1,8 +1,7 @@
-use Rattle.std.proofs.Common.{◌≡◌, ◌∙◌, ◌-◌, ◌*◌, ◌^◌, ◌<◌, ◌≤◌, Option, Some, sym, ap, get_or, length, arith, subst, refl}
+use Rattle.std.proofs.Common.{◌≡◌, ◌∙◌, ◌-◌, ◌<◌, ◌≤◌, Option, Some, sym, ap, get_or, length, arith, subst, refl}
 use Rattle.std.specs.Prelude.{IsSomeAnd, slice_get}
 use Rattle.std.proofs.lemmas.Option.{slice_get-get_or}
 use Rattle.bridge_ports.specs.declared.talk.Talk.{Talk}
-use Rattle.bridge_ports.specs.declared.kept.Kept.{Kept}
 use Rattle.bridge_ports.specs.Plans.{MemoryState, kept_plan, kept_talk, talk_at}
 use Rattle.bridge_ports.proofs.PlanLaws.{length-kept, number_kept}
 use Rattle.bridge_ports.proofs.memory_wire.MemoryWire.kept.Goals as goal

@@ -1,7 +1,7 @@
-use Rattle.std.proofs.Common.{◌≡◌, ◌∙◌, Option, Some, None, sym, ap, get_or, length}
+use Rattle.std.proofs.Common.{◌≡◌, ◌∙◌, Some, None, sym, ap, length}
 use Rattle.std.specs.Prelude.{slice_get}
 use Rattle.std.proofs.lemmas.Option.{slice_get-get_or, slice_get_past}
-use Rattle.bridge_ports.specs.Plans.{MemoryState, reply_now, kept_plan}
+use Rattle.bridge_ports.specs.Plans.{reply_now, kept_plan}
 use Rattle.bridge_ports.proofs.PlanLaws.{reply_listed, reply_after, reply_past}
 use Rattle.bridge_ports.proofs.memory_wire.MemoryWire.reply.Goals as goal
 

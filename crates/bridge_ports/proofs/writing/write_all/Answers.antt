@@ -1,7 +1,6 @@
 use Rattle.std.proofs.Common.{arith, length-take, length-drop, ◌∙◌}
-use Rattle.bridge_cli.proofs.WordLaws.{at_error}
-use Rattle.bridge_cli.proofs.IoLaws.{front_written, more_written, some_written}
-use Rattle.bridge_cli.proofs.output.write_all.Goals as goal
+use Rattle.bridge_ports.proofs.KnownLaws.{at_error, front_written, more_written, some_written}
+use Rattle.bridge_ports.proofs.writing.write_all.Goals as goal
 
 pub returns-in_err-count-clause-front : goal.returns-in_err-count-clause-front
 returns-in_err-count-clause-front g c = at_error _ _ (front_written _ _ _ c.loop-at.at c.args.text.now (omega arith) c.loop-at.invariant.1 c.in_err-count.ensures.bytes)

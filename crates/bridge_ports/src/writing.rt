@@ -2,9 +2,9 @@
 ghost use Rattle.std.specs.Prelude.{◌≡◌, [], OnOk, OnErr};
 ghost use Rattle.std.specs.Io.KnownBytes.{Appends};
 ghost use Rattle.bridge_ports.specs.Causes.{HasCause};
-ghost use Rattle.bridge_cli.specs.ProgramOutputs.{WroteFront};
+ghost use Rattle.bridge_ports.specs.Writing.{WroteFront};
 
-use bridge_ports::{Failed, Sink};
+use crate::{Failed, Sink};
 
 /// Writes a text whole; where a write fails, the count of the output's faults rose, and a front of the text was
 /// written. Nothing is written of an empty text.
