@@ -238,7 +238,9 @@ fn mixed(sum: u64, bytes: &[u8]) -> u64 {
 fn sent_on(sum: u64, wire: &MemoryWire) -> u64 {
     let mut sum = sum;
     for number in 0..wire.finished() {
-        sum = mixed(sum, wire.sent(number + 1));
+        if let Some(bytes) = wire.sent(number + 1) {
+            sum = mixed(sum, bytes);
+        }
     }
     sum
 }

@@ -4,12 +4,13 @@ hundred is gone and those of the scrape before are back, beside `bridge convert 
 
     python3 bench/replay.py [ROUNDS]
 
-A scrape may cost at most 1.4 times what `convert` costs for the page. The script is held while it is replayed,
-so the peak memory beyond the script is what counts: it is to be the same for 10 and for 50 scrapes.
-The programs take turns; the least time of each counts.
+A scrape may cost at most 1.4 times what `convert` costs for the page. The programs take turns; the least time of each
+counts. The script is held while it is replayed, and twice while it is read; behind the third scrape the memory of the
+program is to stay, so it is read behind each line of its output, and may grow by 2 MiB at most.
 """
 
 import os
+import subprocess
 import sys
 import tempfile
 
@@ -19,6 +20,7 @@ from timing import built_program, peak_bytes, rounds, seconds
 SAMPLES = 20_000
 SCRAPES = 50
 MOST_RATIO = 1.4
+MOST_GROWTH = 2 * 2**20
 
 
 def thinned(lines: list[bytes], scrape: int) -> bytes:
@@ -44,6 +46,24 @@ def script(scrapes: int) -> bytes:
     return b"".join(parts)
 
 
+def resident_bytes(process: subprocess.Popen) -> int:
+    """The bytes of memory that a process has now."""
+    with open(f"/proc/{process.pid}/status", encoding="ascii") as status:
+        for line in status:
+            if line.startswith("VmRSS:"):
+                return int(line.split()[1]) * 1024
+    return 0
+
+
+def memory_behind_lines(command: list[str], path: str) -> list[int]:
+    """The memory of the program each time that a line of its output was read, while it writes the next one."""
+    seen = []
+    with open(path, "rb") as given, subprocess.Popen(command, stdin=given, stdout=subprocess.PIPE) as process:
+        for _ in process.stdout:
+            seen.append(resident_bytes(process))
+    return seen[:-1]
+
+
 def main() -> int:
     program = built_program()
     with tempfile.TemporaryDirectory() as folder:
@@ -66,8 +86,15 @@ def main() -> int:
         )
         for name in ("10", "50"):
             peak, size = peak_bytes(replay, paths[name]), os.path.getsize(paths[name])
-            print(f"  {name} scrapes: peak {peak / 2**20:.0f} MiB, of which the script twice is {2 * size / 2**20:.0f} MiB")
-    return 0 if ratio <= MOST_RATIO else 1
+            print(f"  {name} scrapes: peak {peak / 2**20:.0f} MiB; the script has {size / 2**20:.0f} MiB")
+        behind = memory_behind_lines(replay, paths["50"])
+        growth = max(behind[2:]) - behind[2]
+        print(
+            f"  memory behind the first, second, third and last scrape but one:"
+            f" {', '.join(f'{behind[at] / 2**20:.1f}' for at in (0, 1, 2, -1))} MiB;"
+            f" the most behind the third {max(behind[2:]) / 2**20:.1f}"
+        )
+    return 0 if ratio <= MOST_RATIO and growth <= MOST_GROWTH else 1
 
 
 if __name__ == "__main__":

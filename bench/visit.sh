@@ -28,13 +28,12 @@ ghost use Rattle.target_core.specs.States.{HasNextMoment};
 ghost use Rattle.series_table.specs.Records.{IsFresh};
 
 use bridge_ports::{
-    Address, End, Failed, MemoryReply, MemoryWire, Place, Settings, Stage, Target, Wire,
+    Address, End, MemoryReply, MemoryWire, Place, Settings, Target,
 };
-use label_sets::{Bytes, List, Memory, Text};
+use label_sets::{Bytes, List, Text};
 use page_model::{Event, Outcome, PageFault, Treatment};
 use series_table::{Track, TrackFault};
 use std::alloc::{AllocError, Global};
-use std::marker::Model;
 use std::time::Instant;
 use std::{env, io};
 use target_core::TargetState;
@@ -69,98 +68,13 @@ fn collector(alloc: Global) -> Result<Address, AllocError> {
     })
 }
 
-/// A wire without a peer: it answers the same bytes in each talk, and takes what is sent and forgets it.
-#[derive(Drop)]
-struct Stub {
-    place: Place,
-    allowed: u32,
-    room: u64,
-    left: u64,
-    stage: Stage,
-    reply: Bytes,
-    read: usize,
-}
-
-impl Model for Stub {
-    ghost use Rattle.std.specs.Prelude.{None};
-    ghost use Rattle.bridge_ports.specs.Talks.{WireState};
-
-    ghost Value = { WireState };
-
-    ghost view = { λ w. record {
-      place = w.place;
-      plan = None;
-      faults = 0;
-      allowed = w.allowed;
-      room = w.room;
-      stage = w.stage;
-      left = w.left;
-      told = None;
-    } };
-}
-
-impl Wire for Stub {
-    ghost state = { λ w. w };
-
-    fn ready(&mut self, _alloc: Global, count: u32, room: u64) -> Result<(), Memory> {
-        self.allowed = count;
-        self.room = room;
-        Ok(())
-    }
-
-    fn begin(&mut self, _due: u64) -> u64 {
-        self.allowed -= 1;
-        self.left = self.room;
-        self.stage = Stage::Begun;
-        self.read = 0;
-        0
-    }
-
-    fn connect(&mut self) -> Result<(), Failed> {
-        self.stage = Stage::Connected;
-        Ok(())
-    }
-
-    fn write(&mut self, piece: &[u8]) -> Result<u32, Failed> {
-        let count = piece.len().min(u32::MAX as usize);
-        self.left -= count as u64;
-        Ok(count as u32)
-    }
-
-    fn read(&mut self, into: &mut [u8]) -> Result<u32, Failed> {
-        let reply = self.reply.as_slice();
-        let read = self.read.min(reply.len());
-        let count = (reply.len() - read).min(into.len()).min(65_536);
-        into[..count].copy_from_slice(&reply[read..read + count]);
-        self.read = read + count;
-        if count == 0 {
-            self.stage = Stage::Idle;
-        }
-        Ok(count as u32)
-    }
-
-    fn leave(&mut self) {
-        self.stage = Stage::Idle;
-    }
-}
-
-/// A wire that answers this and keeps nothing.
-fn stub_wire(alloc: Global, post: bool, reply: &[u8]) -> Result<Stub, AllocError>
-    ensures { IfOk result (λ wire. IsFresh wire) }
-{
-    Ok(Stub {
-        place: Place { number: 1, post },
-        allowed: 0,
-        room: 0,
-        left: 0,
-        stage: Stage::Idle,
-        reply: Bytes::from_slice(alloc, reply)?,
-        read: 0,
-    })
-}
-
-/// A wire in memory that answers this in each talk.
-fn memory_wire(alloc: Global, post: bool, reply: &[u8]) -> Result<MemoryWire, AllocError>
+/// A wire in memory that answers this in each talk, and keeps what is sent where that is asked for.
+fn memory_wire(
+    alloc: Global,
+    post: bool,
+    reply: &[u8],
+    keeps: bool,
+) -> Result<MemoryWire, AllocError>
     ensures { IfOk result (λ wire. IsFresh (seen_of wire)) }
 {
     let place = Place { number: 1, post };
@@ -170,14 +84,11 @@ fn memory_wire(alloc: Global, post: bool, reply: &[u8]) -> Result<MemoryWire, Al
         end: End::Ended,
     };
     let (replies, failing) = (List::new(alloc), List::new(alloc));
-    Ok(MemoryWire::new(
-        alloc,
-        place,
-        replies,
-        Some(after),
-        65_536,
-        failing,
-    ))
+    let mut wire = MemoryWire::new(alloc, place, replies, Some(after), 65_536, failing);
+    if !keeps {
+        wire.forget();
+    }
+    Ok(wire)
 }
 
 /// The scrape of a page.
@@ -261,9 +172,9 @@ fn histories(rt: &HostRuntime, page: &[u8]) -> io::Result<(u128, u128)> {
     Ok((converting, start.elapsed(rt)?.as_nanos()))
 }
 
-fn timed<W: Wire>(
+fn timed(
     rt: &HostRuntime,
-    track: &mut Track<W>,
+    track: &mut Track<MemoryWire>,
     page: &[u8],
     count: u32,
     alone: bool,
@@ -281,16 +192,16 @@ fn timed<W: Wire>(
     Ok(())
 }
 
-fn visits<W: Wire + Drop>(
+fn visits(
     rt: &HostRuntime,
-    scrape: W,
-    post: W,
+    scrape: MemoryWire,
+    post: MemoryWire,
     page: &[u8],
     count: u32,
     alone: bool,
 ) -> io::Result<()>
-    requires scrape { IsFresh (W.state scrape) }
-    requires post { IsFresh (W.state post) }
+    requires scrape { IsFresh (seen_of scrape) }
+    requires post { IsFresh (seen_of post) }
 {
     let alloc = rt.alloc();
     let (target, to) = (target(alloc)?, collector(alloc)?);
@@ -310,13 +221,9 @@ fn run(rt: &HostRuntime, page: &[u8], count: u32, alone: bool) -> io::Result<()>
     let mut reply = Vec::from_slice(alloc, TAKEN)?;
     reply.extend_from_slice(page)?;
     let reply = reply.as_slice();
-    if alone {
-        let (scrape, post) = (stub_wire(alloc, false, reply)?, stub_wire(alloc, true, TAKEN)?);
-        visits(rt, scrape, post, page, count, alone)
-    } else {
-        let (scrape, post) = (memory_wire(alloc, false, reply)?, memory_wire(alloc, true, TAKEN)?);
-        visits(rt, scrape, post, page, count, alone)
-    }
+    let scrape = memory_wire(alloc, false, reply, !alone)?;
+    let post = memory_wire(alloc, true, TAKEN, !alone)?;
+    visits(rt, scrape, post, page, count, alone)
 }
 
 fn main(rt: HostRuntime) -> io::Result<()> {

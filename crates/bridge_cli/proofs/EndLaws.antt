@@ -1,5 +1,5 @@
 -- How the targets of a script ended, where all that they posted was accepted, and the report of it.
-use Rattle.std.proofs.Common.{◌≡◌, ℕ, suc, ◌+◌, false, List, [], ◌∷◌, ◌++◌, length, map, Option, Some, Result, Ok, Err, unwrap_or, refl, sym, ap, subst, ◌∙◌, inl, inr, arith}
+use Rattle.std.proofs.Common.{◌≡◌, ℕ, suc, ◌+◌, Bool, false, List, [], ◌∷◌, ◌++◌, length, map, Option, Some, Result, Ok, Err, unwrap_or, refl, sym, ap, subst, ◌∙◌, inl, inr, arith}
 use Rattle.std.specs.Prelude.{slice_get, ⊤, codes, All}
 use Rattle.std.specs.Option.{option_or}
 use Rattle.std.specs.List.{AllZip, AllByRecursion}
@@ -72,58 +72,58 @@ taken text talk last is right verdict = by talk.end refl is.ends verdict
         v.2 ∙ ap try_seen (one ∙ status)
 
 -- each post of a target without replies of its own gets the default one
-default_next : (h : Header) (t : ScriptTarget) (n : ℕ) → t.posts ≡ [] → reply_of (post_plan h t) n ≡ default_reply
-default_next h t n none = ap (λ (rs : List MemoryReply). unwrap_or (option_or (slice_get rs n) (Some default_reply)) no_reply) none
+default_next : (keeps : Bool) (h : Header) (t : ScriptTarget) (n : ℕ) → t.posts ≡ [] → reply_of (post_plan keeps h t) n ≡ default_reply
+default_next keeps h t n none = ap (λ (rs : List MemoryReply). unwrap_or (option_or (slice_get rs n) (Some default_reply)) no_reply) none
 
 -- so a text whose tries get it is accepted
-text_accepted : (h : Header) (t : ScriptTarget) (most : ℕ) (text : List ℕ) (tried before : List Talk) (p : Posted) → t.posts ≡ [] → AreTalksOf (post_plan h t) (tried ++ before) → CameOfText talking most text tried p
+text_accepted : (keeps : Bool) (h : Header) (t : ScriptTarget) (most : ℕ) (text : List ℕ) (tried before : List Talk) (p : Posted) → t.posts ≡ [] → AreTalksOf (post_plan keeps h t) (tried ++ before) → CameOfText talking most text tried p
     → p ≡ posted.Accepted 200
 unfolding talking
-text_accepted h t most text tried before p none are came =
-    let all : AreTalksOf (post_plan h t) (came.run.talk ∷ came.run.earlier ++ before) = subst (λ ts. AreTalksOf (post_plan h t) (ts ++ before)) came.run.talks_are are in
-    let is : IsTalkOf [] default_reply came.run.talk = subst (λ r. IsTalkOf [] r came.run.talk) (default_next h t (length (came.run.earlier ++ before)) none) all.0 in
+text_accepted keeps h t most text tried before p none are came =
+    let all : AreTalksOf (post_plan keeps h t) (came.run.talk ∷ came.run.earlier ++ before) = subst (λ ts. AreTalksOf (post_plan keeps h t) (ts ++ before)) came.run.talks_are are in
+    let is : IsTalkOf [] default_reply came.run.talk = subst (λ r. IsTalkOf [] r came.run.talk) (default_next keeps h t (length (came.run.earlier ++ before)) none) all.0 in
     came.posted_is ∙ ap posted_of (taken text came.run.talk came.last is came.run.right came.run.verdict)
 
 -- the body of each event was accepted
-posts_accepted : (h : Header) (t : ScriptTarget) (most : ℕ) (events : List Event) (talks : List Talk) (ps : List Posted) → t.posts ≡ [] → AreTalksOf (post_plan h t) talks
-    → CameOfTexts talking most (post_texts talking (script_followed h t) events) talks ps → ps ≡ all_accepted events
-posts_accepted h t most [] talks ps none are came = came.1
-posts_accepted h t most (e ∷ earlier) talks [] none are came = absurd came
-posts_accepted h t most (e ∷ earlier) talks (p ∷ ps) none are came =
+posts_accepted : (keeps : Bool) (h : Header) (t : ScriptTarget) (most : ℕ) (events : List Event) (talks : List Talk) (ps : List Posted) → t.posts ≡ [] → AreTalksOf (post_plan keeps h t) talks
+    → CameOfTexts talking most (post_texts talking (script_followed keeps h t) events) talks ps → ps ≡ all_accepted events
+posts_accepted keeps h t most [] talks ps none are came = came.1
+posts_accepted keeps h t most (e ∷ earlier) talks [] none are came = absurd came
+posts_accepted keeps h t most (e ∷ earlier) talks (p ∷ ps) none are came =
     let tried = came.0 in
     let before = came.1 in
-    let all : AreTalksOf (post_plan h t) (tried ++ before) = subst (AreTalksOf (post_plan h t)) came.2 are in
-    ap (λ q. q ∷ ps) (text_accepted h t most _ tried before p none all came.3) ∙ ap (λ qs. posted.Accepted 200 ∷ qs) (posts_accepted h t most earlier before ps none (talks_behind (post_plan h t) tried before all) came.4)
+    let all : AreTalksOf (post_plan keeps h t) (tried ++ before) = subst (AreTalksOf (post_plan keeps h t)) came.2 are in
+    ap (λ q. q ∷ ps) (text_accepted keeps h t most _ tried before p none all came.3) ∙ ap (λ qs. posted.Accepted 200 ∷ qs) (posts_accepted keeps h t most earlier before ps none (talks_behind (post_plan keeps h t) tried before all) came.4)
 
 -- ---- targets
 
 -- how the target of a track of a script ended
-track_ended : (h : Header) (t : ScriptTarget) (place : ℕ) (k : Kept) (w : Shelved) → IsRightTarget h t → TakesBodies t → IsTrackAt talking (script_followed h t) place k → HasAllVisits h.rounds k → AreWiresOf k w
+track_ended : (keeps : Bool) (h : Header) (t : ScriptTarget) (place : ℕ) (k : Kept) (w : Shelved) → IsRightTarget h t → TakesBodies t → IsTrackAt talking (script_followed keeps h t) place k → HasAllVisits h.rounds k → AreWiresOf k w
     → IsScriptEnd h t (track_end k)
-track_ended h t place k w right taken at visits wires =
-    let told = track_told h t place k w right at visits wires in
-    let f = script_followed h t in
+track_ended keeps h t place k w right taken at visits wires =
+    let told = track_told keeps h t place k w right at visits wires in
+    let f = script_followed keeps h t in
     record {
       events = told.events;
       are = told.are;
       job = ap (λ (g : Followed). g.target.job) at.followed;
       instance = ap (λ (g : Followed). g.target.instance) at.followed;
-      counts = told.counts ∙ ap (visit_counts f told.events) (posts_accepted h t f.settings.tries told.events w.post.talks told.posted taken told.sent told.bodies.in_order);
+      counts = told.counts ∙ ap (visit_counts f told.events) (posts_accepted keeps h t f.settings.tries told.events w.post.talks told.posted taken told.sent told.bodies.in_order);
       all = λ e. omega (arith, told.many, visits.all e);
       left = λ e. omega (arith, told.many, visits.left e);
     }
 
 -- the same of all tracks, in order
-tracks_ended : (h : Header) (place : ℕ) (ts : List ScriptTarget) (ks : List Kept) (ws : List Shelved) → AllByRecursion (IsRightTarget h) ts → AllByRecursion TakesBodies ts → AreTracks talking place (script_targets h ts) ks
+tracks_ended : (keeps : Bool) (h : Header) (place : ℕ) (ts : List ScriptTarget) (ks : List Kept) (ws : List Shelved) → AllByRecursion (IsRightTarget h) ts → AllByRecursion TakesBodies ts → AreTracks talking place (script_targets keeps h ts) ks
     → All (HasAllVisits h.rounds) ks → AllZip AreWiresOf ks ws → AllZip (IsScriptEnd h) ts (map track_end ks)
-tracks_ended h place [] [] ws right taken are visits wires = tt
-tracks_ended h place (t ∷ ts) (k ∷ ks) (w ∷ ws) right taken are visits wires = (
-  track_ended h t place k w right.0 taken.0 are.0 (visits 0 k (omega arith)) wires.0,
-  tracks_ended h (place + 1) ts ks ws right.1 taken.1 are.1 (λ i d inside. visits (suc i) d (omega (arith, inside))) wires.1,
+tracks_ended keeps h place [] [] ws right taken are visits wires = tt
+tracks_ended keeps h place (t ∷ ts) (k ∷ ks) (w ∷ ws) right taken are visits wires = (
+  track_ended keeps h t place k w right.0 taken.0 are.0 (visits 0 k (omega arith)) wires.0,
+  tracks_ended keeps h (place + 1) ts ks ws right.1 taken.1 are.1 (λ i d inside. visits (suc i) d (omega (arith, inside))) wires.1,
 )
-tracks_ended h place (t ∷ ts) (k ∷ ks) [] right taken are visits wires = absurd wires
-tracks_ended h place [] (k ∷ ks) ws right taken are visits wires = absurd are
-tracks_ended h place (t ∷ ts) [] ws right taken are visits wires = absurd are
+tracks_ended keeps h place (t ∷ ts) (k ∷ ks) [] right taken are visits wires = absurd wires
+tracks_ended keeps h place [] (k ∷ ks) ws right taken are visits wires = absurd are
+tracks_ended keeps h place (t ∷ ts) [] ws right taken are visits wires = absurd are
 
 -- ---- the report
 
@@ -135,28 +135,28 @@ whole_ends h [] (e ∷ es) are none = absurd are
 whole_ends h (t ∷ ts) [] are none = absurd are
 
 -- the ends of a run are those of the script's targets
-ends_are : (s : Script) (ends : List TargetEnd) (wires : List Shelved) → IsRightScript s → TakesAllBodies s → IsScriptRun s ends wires → AllZip (IsScriptEnd s.header) s.targets ends
-ends_are s ends wires right taken run =
-    subst (AllZip (IsScriptEnd s.header) s.targets) (sym run.ends_are) (tracks_ended s.header 0 s.targets run.tracks wires right.targets taken run.over.tracks_are run.over.visited run.wires_are)
+ends_are : (keeps : Bool) (s : Script) (ends : List TargetEnd) (wires : List Shelved) → IsRightScript s → TakesAllBodies s → IsScriptRun keeps s ends wires → AllZip (IsScriptEnd s.header) s.targets ends
+ends_are keeps s ends wires right taken run =
+    subst (AllZip (IsScriptEnd s.header) s.targets) (sym run.ends_are) (tracks_ended keeps s.header 0 s.targets run.tracks wires right.targets taken run.over.tracks_are run.over.visited run.wires_are)
 
 -- the report of how they ended, where none was halted
-whole_report : (s : Script) (ends : List TargetEnd) (wires : List Shelved) → IsRightScript s → TakesAllBodies s → IsScriptRun s ends wires → some_halted ends ≡ false → IsLoadReport s (report_text ends)
-whole_report s ends wires right taken run none = record { ends = ends; are = whole_ends s.header s.targets ends (ends_are s ends wires right taken run) none; says = refl }
+whole_report : (keeps : Bool) (s : Script) (ends : List TargetEnd) (wires : List Shelved) → IsRightScript s → TakesAllBodies s → IsScriptRun keeps s ends wires → some_halted ends ≡ false → IsLoadReport s (report_text ends)
+whole_report keeps s ends wires right taken run none = record { ends = ends; are = whole_ends s.header s.targets ends (ends_are keeps s ends wires right taken run) none; says = refl }
 
 -- and where some may have been
-part_of_run : (s : Script) (ends : List TargetEnd) (wires : List Shelved) → IsRightScript s → TakesAllBodies s → IsScriptRun s ends wires → MayBeReported s (report_text ends)
-part_of_run s ends wires right taken run = part_report (report_text ends) (record { ends = ends; are = ends_are s ends wires right taken run; says = refl })
+part_of_run : (keeps : Bool) (s : Script) (ends : List TargetEnd) (wires : List Shelved) → IsRightScript s → TakesAllBodies s → IsScriptRun keeps s ends wires → MayBeReported s (report_text ends)
+part_of_run keeps s ends wires right taken run = part_report (report_text ends) (record { ends = ends; are = ends_are keeps s ends wires right taken run; says = refl })
 
 -- what printing the report of a script's run came to, over the ends as they were printed
-pub run_reported : (s : Script) (ends seen : List TargetEnd) (wires : List Shelved) (before after : Option (List ℕ)) (r : Result ⊤ Cut) → IsRightScript s → TakesAllBodies s → IsScriptRun s ends wires → seen ≡ ends
+pub run_reported : (keeps : Bool) (s : Script) (ends seen : List TargetEnd) (wires : List Shelved) (before after : Option (List ℕ)) (r : Result ⊤ Cut) → IsRightScript s → TakesAllBodies s → IsScriptRun keeps s ends wires → seen ≡ ends
     → ReportsEnds seen before after r → PrintsReport s before after r
-run_reported s ends seen wires before after r right taken run same prints = by r (subst (λ es. ReportsEnds es before after r) same prints)
+run_reported keeps s ends seen wires before after r right taken run same prints = by r (subst (λ es. ReportsEnds es before after r) same prints)
   where
     by : (x : Result ⊤ Cut) → ReportsEnds ends before after x → PrintsReport s before after x
-    by (Ok done) p = (report_text ends, whole_report s ends wires right taken run p.1, p.0)
-    by (Err Write) p = (report_text ends, inl (part_of_run s ends wires right taken run), p)
+    by (Ok done) p = (report_text ends, whole_report keeps s ends wires right taken run p.1, p.0)
+    by (Err Write) p = (report_text ends, inl (part_of_run keeps s ends wires right taken run), p)
     by (Err Memory) (inl none) = ([], inl no_report, none)
-    by (Err Memory) (inr p) = (report_text ends, inl (part_of_run s ends wires right taken run), p.0)
+    by (Err Memory) (inr p) = (report_text ends, inl (part_of_run keeps s ends wires right taken run), p.0)
 
 -- where none was halted, each target had a visit for each round
 through : (rounds : ℕ) (ks : List Kept) → All (HasAllVisits rounds) ks → some_halted (map track_end ks) ≡ false → AreVisitedThrough rounds (map track_end ks)
@@ -166,8 +166,8 @@ through rounds (k ∷ ks) visits none =
     let all : k.counts.visits ≡ rounds = (visits 0 k (omega arith)).all both.0 in
     (omega (arith, all), through rounds ks (λ i d inside. visits (suc i) d (omega (arith, inside))) both.1)
 
-pub none_halted : (s : Script) (ends seen : List TargetEnd) (wires : List Shelved) (before after : Option (List ℕ)) → IsScriptRun s ends wires → seen ≡ ends → ReportsEnds seen before after (Ok tt) → AreVisitedThrough s.header.rounds ends
-none_halted s ends seen wires before after run same prints =
+pub none_halted : (keeps : Bool) (s : Script) (ends seen : List TargetEnd) (wires : List Shelved) (before after : Option (List ℕ)) → IsScriptRun keeps s ends wires → seen ≡ ends → ReportsEnds seen before after (Ok tt) → AreVisitedThrough s.header.rounds ends
+none_halted keeps s ends seen wires before after run same prints =
     let none : some_halted (map track_end run.tracks) ≡ false = subst (λ es. some_halted es ≡ false) (same ∙ run.ends_are) prints.1 in
     subst (AreVisitedThrough s.header.rounds) (sym run.ends_are) (through s.header.rounds run.tracks run.over.visited none)
 

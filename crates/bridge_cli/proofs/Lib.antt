@@ -8,6 +8,7 @@ mod ReplayLaws
 mod ShownLaws
 mod VisitLaws
 mod TalkLaws
+mod TurnLaws
 mod EndLaws
 mod ShelfLaws
 mod ScriptLaws

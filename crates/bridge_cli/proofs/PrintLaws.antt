@@ -27,7 +27,7 @@ use Rattle.bridge_cli.specs.StopAnswers as stop_answers
 use Rattle.bridge_cli.specs.Answers.{Answers, IsAnswer, no_form, answers, IsCutAnswer, whole, cut_off, script_done, IsReportAnswer}
 use Rattle.bridge_ports.specs.Writing.{WroteFront}
 use Rattle.bridge_cli.specs.ProgramOutputs.{HasAnswer, Answered, AnsweredInPart, AnsweredInPieces, ShelvesVisits, TellsFault}
-use Rattle.bridge_cli.specs.Printed.{cut_status, CutCause, PrintsScript, PrintsReport, Gives, GivesPart, IsNothing, IsPrintable, IsWhole, Ended, printed, stopped, wanting, IsPartOf, part_of_whole, part_of_some, AnswersVisits, IsShelved, IsPrintedOf, IsPrintedFor, IsStopPrinted, HoldsScript, HasPartOf}
+use Rattle.bridge_cli.specs.Printed.{cut_status, CutCause, CutsScript, PrintsReport, Gives, GivesPart, IsNothing, IsPrintable, IsWhole, Ended, printed, stopped, wanting, IsPartOf, part_of_whole, part_of_some, AnswersVisits, IsShelved, IsPrintedOf, IsPrintedFor, IsStopPrinted, HoldsScript, HasPartOf}
 use Rattle.bridge_cli.proofs.CommandLaws.{one_command, pieces_take}
 use Rattle.bridge_cli.proofs.AnswerLaws.{any_bytes, words_answer, stop_told, stop_untold, told_or_not, no_front, tells_fault}
 
@@ -430,7 +430,7 @@ print_at_once status p q before after result text (Err fault) same gives part al
 
 -- printing a script was cut off
 pub print_cut : (status : Status) (p : Printed) (script : Script) (scrapers : ℕ) (page : Bool) (before after : Option (List ℕ)) (result : ℕ) (cut : Cut) → p ≡ Bodies script scrapers page
-    → PrintsScript page script before after (Err cut)
+    → CutsScript page script before after cut
     → result ≡ code_of (cut_status cut) → Ended status p before after result
 print_cut status p script scrapers page before after result cuts.Write same next e = print_front status p (Bodies script scrapers page) before after result next.0 same next.1 next.2 e
 print_cut status p script scrapers page before after result cuts.Memory same next e =

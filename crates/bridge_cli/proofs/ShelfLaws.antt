@@ -1,6 +1,6 @@
 -- The wires of a script's run are those of its targets, and what stands on the shelf once they were handed in.
 use Rattle.std.proofs.Common.{◌≡◌, ℕ, suc, ◌+◌, ◌≤◌, Bool, true, false, List, [], ◌∷◌, ◌++◌, length, map, Option, Some, None, option_map, refl, sym, ap, subst, ◌∙◌, arith}
-use Rattle.std.specs.Prelude.{All}
+use Rattle.std.specs.Prelude.{All, is_some}
 use Rattle.std.specs.List.{AllZip, AllByRecursion}
 use Rattle.bridge_ports.specs.declared.memory_world.Shelved.{Shelved}
 use Rattle.bridge_ports.specs.declared.talk.Talk.{Talk}
@@ -28,57 +28,59 @@ no_further [] counted talks are few = sym are
 no_further (talk ∷ further) counted talks are few = absurd (omega (arith, few))
 
 -- the pair of a track that had all its visits
-shelved_pair : (h : Header) (t : ScriptTarget) (place : ℕ) (k : Kept) (w : Shelved) → IsRightTarget h t → IsTrackAt talking (script_followed h t) place k → HasAllVisits h.rounds k → AreWiresOf k w → h.rounds ≤ k.counts.visits
-    → IsShelvedPair h (place + 1) t (shelf_pair w)
-shelved_pair h t place k w right at visits wires all = by k.halted refl
+shelved_pair : (keeps : Bool) (h : Header) (t : ScriptTarget) (place : ℕ) (k : Kept) (w : Shelved) → IsRightTarget h t → IsTrackAt talking (script_followed keeps h t) place k → HasAllVisits h.rounds k → AreWiresOf k w → h.rounds ≤ k.counts.visits
+    → IsShelvedPair keeps h (place + 1) t (shelf_pair w)
+shelved_pair keeps h t place k w right at visits wires all = by k.halted refl
   where
-    by : (halted : Bool) → k.halted ≡ halted → IsShelvedPair h (place + 1) t (shelf_pair w)
+    by : (halted : Bool) → k.halted ≡ halted → IsShelvedPair keeps h (place + 1) t (shelf_pair w)
     by true e = absurd (omega (arith, visits.left e, all))
     by false e =
-        let told = track_told h t place k w right at visits wires in
-        let bodies : BodiesOf talking (script_followed h t) 0 w.scrape.talks w.post.talks told.events told.posted =
-        subst (λ b. BodiesOf talking (script_followed h t) (further_talks b) w.scrape.talks w.post.talks told.events told.posted) e told.bodies in
+        let told = track_told keeps h t place k w right at visits wires in
+        let bodies : BodiesOf talking (script_followed keeps h t) 0 w.scrape.talks w.post.talks told.events told.posted =
+        subst (λ b. BodiesOf talking (script_followed keeps h t) (further_talks b) w.scrape.talks w.post.talks told.events told.posted) e told.bodies in
         let few : length told.bodies.tells.further ≤ 0 = subst (λ b. length told.bodies.tells.further ≤ further_talks b) e told.bodies.tells.few in
         record {
           scrape_home = record { free = sym (ap (λ (s : WireState). s.stage) wires.scrape_is) ∙ at.track.scrape_wire.free; place = sym (ap (λ (s : WireState). s.place) wires.scrape_is) ∙ at.scrape_place };
           post_home = record { free = sym (ap (λ (s : WireState). s.stage) wires.post_is) ∙ at.track.post_wire.free; place = sym (ap (λ (s : WireState). s.place) wires.post_is) ∙ at.post_place };
+          scrape_by = told.scrape_by;
+          post_by = told.post_by;
           events = told.events;
           posted = told.posted;
           are = told.are;
           all = omega (arith, told.many, right.scrapes, visits.all e);
           bodies = bodies;
           scraped = subst (AreTalksOfReplies (scrape_plan h t)) (no_further told.bodies.tells.further told.bodies.tells.counted w.scrape.talks told.bodies.tells.talks_are few) told.counted;
-          answered = track_posts h t k w right told;
+          answered = track_posts keeps h t k w right told;
         }
 
 -- the pairs of tracks, in order
-shelved_pairs : (h : Header) (place : ℕ) (ts : List ScriptTarget) (ks : List Kept) (ws : List Shelved) → AllByRecursion (IsRightTarget h) ts → AreTracks talking place (script_targets h ts) ks → All (HasAllVisits h.rounds) ks
-    → AllZip AreWiresOf ks ws → AreVisitedThrough h.rounds (map track_end ks) → AreShelvedPairs h (place + 1) ts (map shelf_pair ws)
-shelved_pairs h place [] [] [] right are visits wires all = tt
-shelved_pairs h place (t ∷ ts) (k ∷ ks) (w ∷ ws) right are visits wires all = (
-  shelved_pair h t place k w right.0 are.0 (visits 0 k (omega arith)) wires.0 all.0,
-  shelved_pairs h (place + 1) ts ks ws right.1 are.1 (λ i d inside. visits (suc i) d (omega (arith, inside))) wires.1 all.1,
+shelved_pairs : (keeps : Bool) (h : Header) (place : ℕ) (ts : List ScriptTarget) (ks : List Kept) (ws : List Shelved) → AllByRecursion (IsRightTarget h) ts → AreTracks talking place (script_targets keeps h ts) ks → All (HasAllVisits h.rounds) ks
+    → AllZip AreWiresOf ks ws → AreVisitedThrough h.rounds (map track_end ks) → AreShelvedPairs keeps h (place + 1) ts (map shelf_pair ws)
+shelved_pairs keeps h place [] [] [] right are visits wires all = tt
+shelved_pairs keeps h place (t ∷ ts) (k ∷ ks) (w ∷ ws) right are visits wires all = (
+  shelved_pair keeps h t place k w right.0 are.0 (visits 0 k (omega arith)) wires.0 all.0,
+  shelved_pairs keeps h (place + 1) ts ks ws right.1 are.1 (λ i d inside. visits (suc i) d (omega (arith, inside))) wires.1 all.1,
 )
-shelved_pairs h place [] [] (w ∷ ws) right are visits wires all = absurd wires
-shelved_pairs h place (t ∷ ts) (k ∷ ks) [] right are visits wires all = absurd wires
-shelved_pairs h place [] (k ∷ ks) ws right are visits wires all = absurd are
-shelved_pairs h place (t ∷ ts) [] ws right are visits wires all = absurd are
+shelved_pairs keeps h place [] [] (w ∷ ws) right are visits wires all = absurd wires
+shelved_pairs keeps h place (t ∷ ts) (k ∷ ks) [] right are visits wires all = absurd wires
+shelved_pairs keeps h place [] (k ∷ ks) ws right are visits wires all = absurd are
+shelved_pairs keeps h place (t ∷ ts) [] ws right are visits wires all = absurd are
 
 -- no talk is under way on them
-free_of : (place : ℕ) (h : Header) (ts : List ScriptTarget) (ks : List Kept) (ws : List Shelved) → AreTracks talking place (script_targets h ts) ks → AllZip AreWiresOf ks ws → AllByRecursion IsFreePair ws
-free_of place h ts ks [] are wires = tt
-free_of place h ts [] (w ∷ ws) are wires = absurd wires
-free_of place h [] (k ∷ ks) (w ∷ ws) are wires = absurd are
-free_of place h (t ∷ ts) (k ∷ ks) (w ∷ ws) are wires = (
+free_of : (keeps : Bool) (place : ℕ) (h : Header) (ts : List ScriptTarget) (ks : List Kept) (ws : List Shelved) → AreTracks talking place (script_targets keeps h ts) ks → AllZip AreWiresOf ks ws → AllByRecursion IsFreePair ws
+free_of keeps place h ts ks [] are wires = tt
+free_of keeps place h ts [] (w ∷ ws) are wires = absurd wires
+free_of keeps place h [] (k ∷ ks) (w ∷ ws) are wires = absurd are
+free_of keeps place h (t ∷ ts) (k ∷ ks) (w ∷ ws) are wires = (
   record {
     scrape_free = sym (ap (λ (s : WireState). s.stage) wires.0.scrape_is) ∙ are.0.track.scrape_wire.free;
     post_free = sym (ap (λ (s : WireState). s.stage) wires.0.post_is) ∙ are.0.track.post_wire.free;
   },
-  free_of (place + 1) h ts ks ws are.1 wires.1,
+  free_of keeps (place + 1) h ts ks ws are.1 wires.1,
 )
 
-pub free_pairs : (s : Script) (ends : List TargetEnd) (wires : List Shelved) → IsScriptRun s ends wires → AllByRecursion IsFreePair wires
-free_pairs s ends wires run = free_of 0 s.header s.targets run.tracks wires run.over.tracks_are run.wires_are
+pub free_pairs : (keeps : Bool) (s : Script) (ends : List TargetEnd) (wires : List Shelved) → IsScriptRun keeps s ends wires → AllByRecursion IsFreePair wires
+free_pairs keeps s ends wires run = free_of keeps 0 s.header s.targets run.tracks wires run.over.tracks_are run.wires_are
 
 -- ---- the shelf
 
@@ -101,10 +103,11 @@ rest_with [] w = refl
 rest_with (p ∷ ps) w = rest_with ps (with_shelved_pair p.scrape p.post w)
 
 -- the wires of a script's run, each of whose targets was visited through, were handed in
-pub script_shelved : (s : Script) (ends : List TargetEnd) (wires : List Shelved) (before after : WorldState) → IsRightScript s → IsScriptRun s ends wires → AreVisitedThrough s.header.rounds ends → after ≡ with_shelved wires before
-    → IsShelfOf s before.shelf after.shelf
-script_shelved s ends wires before after right run all is = record {
+pub script_shelved : (keeps : Bool) (s : Script) (ends : List TargetEnd) (wires : List Shelved) (before after : WorldState) → IsRightScript s → IsScriptRun keeps s ends wires → AreVisitedThrough s.header.rounds ends → after ≡ with_shelved wires before
+    → keeps ≡ is_some before.shelf → IsShelfOf s before.shelf after.shelf
+script_shelved keeps s ends wires before after right run all is kept = record {
   pairs = map shelf_pair wires;
-  are = shelved_pairs s.header 0 s.targets run.tracks wires right.targets run.over.tracks_are run.over.visited run.wires_are (subst (AreVisitedThrough s.header.rounds) run.ends_are all);
+  are = subst (λ b. AreShelvedPairs b s.header 1 s.targets (map shelf_pair wires)) kept
+      (shelved_pairs keeps s.header 0 s.targets run.tracks wires right.targets run.over.tracks_are run.over.visited run.wires_are (subst (AreVisitedThrough s.header.rounds) run.ends_are all));
   shelf = ap (λ (w : WorldState). w.shelf) is ∙ shelf_with wires before;
 }

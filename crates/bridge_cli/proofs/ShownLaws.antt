@@ -1,6 +1,6 @@
 -- What targets show behind a script's events: that it is one, that it may be gathered, and how it is printed.
-use Rattle.std.proofs.Common.{◌≡◌, ℕ, zero, suc, ◌+◌, ◌≤◌, Bool, true, false, ◌&&◌, bytes_eq, List, [], ◌∷◌, ◌++◌, length, map, take, Option, Some, Result, Ok, Err, refl, sym, ap, subst, ◌∙◌, inl, inr, arith, append-nil}
-use Rattle.std.specs.Prelude.{⊤, slice_get}
+use Rattle.std.proofs.Common.{◌≡◌, ℕ, zero, suc, ◌+◌, ◌≤◌, Bool, true, false, ◌&&◌, bytes_eq, List, [], ◌∷◌, ◌++◌, length, map, take, Option, Some, Result, Ok, refl, sym, ap, subst, ◌∙◌, inl, inr, arith, append-nil}
+use Rattle.std.specs.Prelude.{slice_get}
 use Rattle.std.specs.Io.KnownBytes.{Appends}
 use Rattle.std.specs.List.{IsDistinct, AllByRecursion}
 use Rattle.std.proofs.lemmas.List.{take_all}
@@ -36,7 +36,7 @@ use Rattle.plain_words.proofs.Laws.{in_range}
 use Rattle.bridge_cli.specs.declared.replaying.Cut.{Cut}
 use Rattle.bridge_cli.specs.declared.replaying.Cut.TheVariants as cuts
 use Rattle.bridge_cli.specs.Replays.{script_tracking, reply_talk, AreEvents, AreTexts, joined_texts, IsReplay, IsReplayOfSome, IsLastShown, AreLastShown, IsReplayPage, IsReplayWith}
-use Rattle.bridge_cli.specs.Printed.{CutCause, CutsBodies, PrintsText, PrintsScript, StandsForAll, ShowsLast}
+use Rattle.bridge_cli.specs.Printed.{CutCause, CutsBodies, CutsText, CutsScript, PrintsScript, StandsForAll, ShowsLast, ShowsOneMore}
 use Rattle.scrape_client.proofs.Laws.{few_samples}
 use Rattle.bridge_cli.proofs.ReplayLaws.{events_once, replay_once, outcome_holds, some_text}
 
@@ -149,21 +149,21 @@ showable texts nothing s shown right are = record {
 -- ---- one target more
 
 -- what a state shows behind all events
-last_shown : (h : Header) (t : ScriptTarget) (state : Following) (before after : List Shown) → StandsForAll h t state → (kept : ShowsLast state before after) → IsLastShown h t kept.0
-last_shown h t state before after all kept = record { events = all.events; are = all.are; all = all.all; shows = kept.1 t.target (script_tracking h) all.events all.stands }
+pub shows_one : (h : Header) (t : ScriptTarget) (state : Following) (before after : List Shown) → StandsForAll h t state → ShowsLast state before after → ShowsOneMore h t before after
+shows_one h t state before after all kept = (kept.0, record { events = all.events; are = all.are; all = all.all; shows = kept.1 t.target (script_tracking h) all.events all.stands }, kept.2)
 
 taken_next : {A : Type 0} (xs : List A) (i : ℕ) (x : A) → slice_get xs i ≡ Some x → take (suc i) xs ≡ take i xs ++ x ∷ []
 taken_next [] i x at = absurd (none-some x at)
 taken_next (y ∷ ys) zero x at = ap (λ z. z ∷ []) (same_Some y x at)
 taken_next (y ∷ ys) (suc i) x at = ap (λ zs. y ∷ zs) (taken_next ys i x at)
 
-pub shown_more : (h : Header) (ts : List ScriptTarget) (at : ℕ) (t : ScriptTarget) (state : Following) (before after : List Shown) → slice_get ts at ≡ Some t → AreLastShown h (take at ts) before
-    → StandsForAll h t state → ShowsLast state before after → AreLastShown h (take (at + 1) ts) after
-shown_more h ts at t state before after stands are all kept =
+pub shown_more : (h : Header) (ts : List ScriptTarget) (at : ℕ) (t : ScriptTarget) (before after : List Shown) → slice_get ts at ≡ Some t → AreLastShown h (take at ts) before → ShowsOneMore h t before after
+    → AreLastShown h (take (at + 1) ts) after
+shown_more h ts at t before after stands are last =
     let next : at + 1 ≡ suc at = omega arith in
     let more = ap (λ n. take n ts) next ∙ taken_next ts at t stands in
-    let one = all_zipped_more (IsLastShown h) (take at ts) before t kept.0 are (last_shown h t state before after all kept) in
-    subst (λ us. AreLastShown h us after) (sym more) (subst (AreLastShown h (take at ts ++ t ∷ [])) (sym kept.2) one)
+    let one = all_zipped_more (IsLastShown h) (take at ts) before t last.0 are last.1 in
+    subst (λ us. AreLastShown h us after) (sym more) (subst (AreLastShown h (take at ts ++ t ∷ [])) (sym last.2) one)
 
 pub shown_all : (h : Header) (ts : List ScriptTarget) (at : ℕ) (shown : List Shown) → length ts ≤ at → AreLastShown h (take at ts) shown → AreLastShown h ts shown
 shown_all h ts at shown through are = subst (λ us. AreLastShown h us shown) (take_all at ts through) are
@@ -188,22 +188,27 @@ with_page : (s : Script) (bodies : List ℕ) (shown : List Shown) → IsReplay s
 with_page s bodies shown is are = record { bodies = bodies; page = federated_text shown; are_bodies = is; is_page = record { shown = shown; are = are; says = refl }; says = refl }
 
 -- the page was printed behind them
-pub page_behind : (page : Bool) (s : Script) (shown : List Shown) (a b c : Option (List ℕ)) (r : Result ⊤ Cut) → page ≡ true → 1 ≤ length s.targets → AreLastShown s.header s.targets shown → PrintedAll s a b
-    → PrintsText (federated_text shown) b c r → PrintsScript page s a c r
-page_behind page s shown a b c r asked some are bodies text = subst (λ p. PrintsScript p s a c r) (sym asked) (by r text)
+pub page_behind : {T : Type 0} (page : Bool) (s : Script) (shown : List Shown) (a b c : Option (List ℕ)) (done : T) → page ≡ true → AreLastShown s.header s.targets shown → PrintedAll s a b
+    → Appends b c (federated_text shown) → PrintsScript page s a c (Ok done)
+page_behind page s shown a b c done asked are bodies text =
+    subst (λ p. PrintsScript p s a c (Ok done)) (sym asked) (bodies.0 ++ federated_text shown, with_page s bodies.0 shown bodies.1 are, appends_twice a b c bodies.0 (federated_text shown) bodies.2 text)
+
+-- printing the page behind them was cut off
+pub page_cut : (page : Bool) (s : Script) (shown : List Shown) (a b c : Option (List ℕ)) (cut : Cut) → page ≡ true → 1 ≤ length s.targets → AreLastShown s.header s.targets shown → PrintedAll s a b
+    → CutsText (federated_text shown) b c cut → CutsScript page s a c cut
+page_cut page s shown a b c cut asked some are bodies text = subst (λ p. CutsScript p s a c cut) (sym asked) (by cut text)
   where
-    by : (r : Result ⊤ Cut) → PrintsText (federated_text shown) b c r → PrintsScript true s a c r
-    by (Ok done) text = (bodies.0 ++ federated_text shown, with_page s bodies.0 shown bodies.1 are, appends_twice a b c bodies.0 (federated_text shown) bodies.2 text)
-    by (Err cuts.Write) text = (bodies.0 ++ federated_text shown, inr (with_page s bodies.0 shown bodies.1 are), front_behind a b c bodies.0 (federated_text shown) bodies.2 text)
-    by (Err cuts.Memory) text =
+    by : (cut : Cut) → CutsText (federated_text shown) b c cut → CutsScript true s a c cut
+    by cuts.Write text = (bodies.0 ++ federated_text shown, inr (with_page s bodies.0 shown bodies.1 are), front_behind a b c bodies.0 (federated_text shown) bodies.2 text)
+    by cuts.Memory text =
         let Grown : List ℕ → Type 0 = λ t. Appends a c t in (bodies.0, inl (all_is_some s bodies.0 some bodies.1), subst Grown (append-nil bodies.0) (appends_twice a b c bodies.0 [] bodies.2 text))
 
 -- no page was asked for
-pub no_page_behind : (page : Bool) (s : Script) (a b : Option (List ℕ)) → page ≡ false → PrintedAll s a b → PrintsScript page s a b (Ok tt)
-no_page_behind page s a b asked bodies = subst (λ p. PrintsScript p s a b (Ok tt)) (sym asked) bodies
+pub no_page_behind : {T : Type 0} (page : Bool) (s : Script) (a b : Option (List ℕ)) (done : T) → page ≡ false → PrintedAll s a b → PrintsScript page s a b (Ok done)
+no_page_behind page s a b done asked bodies = subst (λ p. PrintsScript p s a b (Ok done)) (sym asked) bodies
 
 -- printing the bodies was cut off
-pub bodies_cut : (page : Bool) (s : Script) (a b : Option (List ℕ)) (cut : Cut) → CutsBodies s a b cut → PrintsScript page s a b (Err cut)
+pub bodies_cut : (page : Bool) (s : Script) (a b : Option (List ℕ)) (cut : Cut) → CutsBodies s a b cut → CutsScript page s a b cut
 bodies_cut page s a b cuts.Write is = (is.0, inl is.1, is.2)
 bodies_cut page s a b cuts.Memory is = (is.0, inl is.1, is.2)
 

@@ -19,6 +19,7 @@ use Rattle.http_talk.specs.Replies.{IsSent}
 use Rattle.http_talk.proofs.Laws.{whole_reply}
 use Rattle.otlp_sender.specs.declared.posted.Posted.{Posted}
 use Rattle.otlp_sender.specs.Posting.{IsRightTry, AreOpenTries}
+use Rattle.target_core.specs.Events.{latest_shown}
 use Rattle.series_table.specs.declared.counts.Counts.{Counts}
 use Rattle.series_table.specs.Talking.{Followed}
 use Rattle.series_table.specs.HttpTalks.{talking}
@@ -95,20 +96,20 @@ post_some to body e = true≢false (sym (ap is_empty e))
 -- ---- the talks of scrapes
 
 -- a place of a list has an element
-stands_there : {A : Type 0} (xs : List A) (i : ℕ) → i < length xs → (x : A) × (slice_get xs i ≡ Some x)
+pub stands_there : {A : Type 0} (xs : List A) (i : ℕ) → i < length xs → (x : A) × (slice_get xs i ≡ Some x)
 stands_there [] i inside = absurd (omega (arith, inside))
 stands_there (x ∷ xs) zero inside = (x, refl)
 stands_there (x ∷ xs) (suc i) inside = stands_there xs i (omega (arith, inside))
 
 -- the talk of a scrape is one that its reply gives
-scrape_of_reply : (h : Header) (t : ScriptTarget) (reply : MemoryReply) (talk : Talk) (e : Event) → IsRightReply reply → IsTalkOf [] reply talk → IsEventOf talking (script_followed h t) talk e → IsTalkOfReply reply talk
+scrape_of_reply : (keeps : Bool) (h : Header) (t : ScriptTarget) (reply : MemoryReply) (talk : Talk) (e : Event) → IsRightReply reply → IsTalkOf [] reply talk → IsEventOf talking (script_followed keeps h t) talk e → IsTalkOfReply reply talk
 unfolding talking
-scrape_of_reply h t reply talk e right is told = talk_of_reply reply talk right is (sent_some (get_request t.target.address) talk (get_some t.target.address) told.whole.sent)
+scrape_of_reply keeps h t reply talk e right is told = talk_of_reply reply talk right is (sent_some (get_request t.target.address) talk (get_some t.target.address) told.whole.sent)
 
 -- the event that the talk tells is the one that the reply comes to
-reply_told : (h : Header) (t : ScriptTarget) (reply : MemoryReply) (talk : Talk) (e : Event) → IsTalkOfReply reply talk → IsEventOf talking (script_followed h t) talk e → IsReplyEvent h reply e
+reply_told : (keeps : Bool) (h : Header) (t : ScriptTarget) (reply : MemoryReply) (talk : Talk) (e : Event) → IsTalkOfReply reply talk → IsEventOf talking (script_followed keeps h t) talk e → IsReplyEvent h reply e
 unfolding talking
-reply_told h t reply talk e of told = record {
+reply_told keeps h t reply talk e of told = record {
   time = told.read_at ∙ of.time;
   comes_to = whole_reply h.limit h.max_page reply.at _ reply.got of.rest talk reply.end e.outcome told.whole told.outcome of.bytes of.ends;
 }
@@ -120,41 +121,49 @@ as_many f (talk ∷ talks) (e ∷ earlier) told = ap suc (as_many f talks earlie
 as_many f [] (e ∷ earlier) told = absurd told
 as_many f (talk ∷ talks) [] told = absurd told
 
+-- the event of a talk more is that of its reply
+pub scrape_told : (keeps : Bool) (h : Header) (t : ScriptTarget) (talks : List Talk) (talk : Talk) (e : Event) (reply : MemoryReply) → AllByRecursion IsRightReply t.scrapes → AreTalksOf (scrape_plan h t) (talk ∷ talks)
+    → slice_get t.scrapes (length talks) ≡ Some reply → IsEventOf talking (script_followed keeps h t) talk e → IsReplyEvent h reply e
+scrape_told keeps h t talks talk e reply right are stands told =
+    let same : reply_of (scrape_plan h t) (length talks) ≡ reply = ap (λ r. unwrap_or (option_or r None) no_reply) stands in
+    let is : IsTalkOf [] reply talk = subst (λ r. IsTalkOf [] r talk) same are.0 in
+    reply_told keeps h t reply talk e (scrape_of_reply keeps h t reply talk e (all_at IsRightReply t.scrapes (length talks) reply right stands) is told) told
+
 -- the talks of a target's scrapes are of its replies, and the events that they tell are those of the replies
-scrapes_told : (h : Header) (t : ScriptTarget) (talks : List Talk) (events : List Event) → AllByRecursion IsRightReply t.scrapes → AreTalksOf (scrape_plan h t) talks → IsHistoryOf talking (script_followed h t) talks events
+scrapes_told : (keeps : Bool) (h : Header) (t : ScriptTarget) (talks : List Talk) (events : List Event) → AllByRecursion IsRightReply t.scrapes → AreTalksOf (scrape_plan h t) talks → IsHistoryOf talking (script_followed keeps h t) talks events
     → length events ≤ length t.scrapes → AreEvents h t.scrapes events × AreTalksOfReplies (scrape_plan h t) talks
-scrapes_told h t [] [] right are told few = (tt, tt)
-scrapes_told h t [] (e ∷ earlier) right are told few = absurd told
-scrapes_told h t (talk ∷ talks) [] right are told few = absurd told
-scrapes_told h t (talk ∷ talks) (e ∷ earlier) right are told few =
-    let place : length talks ≡ length earlier = as_many (script_followed h t) talks earlier told.1 in
+scrapes_told keeps h t [] [] right are told few = (tt, tt)
+scrapes_told keeps h t [] (e ∷ earlier) right are told few = absurd told
+scrapes_told keeps h t (talk ∷ talks) [] right are told few = absurd told
+scrapes_told keeps h t (talk ∷ talks) (e ∷ earlier) right are told few =
+    let place : length talks ≡ length earlier = as_many (script_followed keeps h t) talks earlier told.1 in
     let found = stands_there t.scrapes (length earlier) (omega (arith, few)) in
     let reply : reply_of (scrape_plan h t) (length talks) ≡ found.0 = ap (λ n. reply_of (scrape_plan h t) n) place ∙ ap (λ r. unwrap_or (option_or r None) no_reply) found.1 in
     let is : IsTalkOf [] found.0 talk = subst (λ r. IsTalkOf [] r talk) reply are.0 in
-    let of : IsTalkOfReply found.0 talk = scrape_of_reply h t found.0 talk e (all_at IsRightReply t.scrapes (length earlier) found.0 right found.1) is told.0 in
-    let before = scrapes_told h t talks earlier right are.1 told.1 (omega (arith, few)) in (
-      (record { reply = found.0; stands = found.1; is = reply_told h t found.0 talk e of told.0 }, before.0),
+    let of : IsTalkOfReply found.0 talk = scrape_of_reply keeps h t found.0 talk e (all_at IsRightReply t.scrapes (length earlier) found.0 right found.1) is told.0 in
+    let before = scrapes_told keeps h t talks earlier right are.1 told.1 (omega (arith, few)) in (
+      (record { reply = found.0; stands = found.1; is = reply_told keeps h t found.0 talk e of told.0 }, before.0),
       (subst (λ r. IsTalkOfReply r talk) (sym reply) of, before.1),
     )
 
 -- ---- the talks of posts
 
 -- the reply to a post is that of a record, or the default one
-post_reply_right : (h : Header) (t : ScriptTarget) (n : ℕ) → AllByRecursion IsRightReply t.posts → IsRightReply (reply_of (post_plan h t) n)
+post_reply_right : (keeps : Bool) (h : Header) (t : ScriptTarget) (n : ℕ) → AllByRecursion IsRightReply t.posts → IsRightReply (reply_of (post_plan keeps h t) n)
 unfolding default_reply
-post_reply_right h t n right = by (slice_get t.posts n) refl
+post_reply_right keeps h t n right = by (slice_get t.posts n) refl
   where
     by : (found : Option MemoryReply) → slice_get t.posts n ≡ found → IsRightReply (unwrap_or (option_or found (Some default_reply)) no_reply)
     by (Some reply) e = all_at IsRightReply t.posts n reply right e
     by None e = record { over = λ left. absurd cc; silent = λ none. elim none [ inl failed ↦ absurd cc | inr failed ↦ absurd cc ] }
 
 -- the tries of a text are of their replies, behind talks that are
-tries_told : (h : Header) (t : ScriptTarget) (text : List ℕ) (tries before : List Talk) → AllByRecursion IsRightReply t.posts → text ≢ [] → AllByRecursion (IsRightTry text) tries → AreTalksOf (post_plan h t) (tries ++ before)
-    → AreTalksOfReplies (post_plan h t) before → AreTalksOfReplies (post_plan h t) (tries ++ before)
-tries_told h t text [] before right some each are told = told
-tries_told h t text (talk ∷ tries) before right some each are told = (
-  talk_of_reply (reply_of (post_plan h t) (length (tries ++ before))) talk (post_reply_right h t (length (tries ++ before)) right) are.0 (sent_some text talk some each.0.sent),
-  tries_told h t text tries before right some each.1 are.1 told,
+tries_told : (keeps : Bool) (h : Header) (t : ScriptTarget) (text : List ℕ) (tries before : List Talk) → AllByRecursion IsRightReply t.posts → text ≢ [] → AllByRecursion (IsRightTry text) tries → AreTalksOf (post_plan keeps h t) (tries ++ before)
+    → AreTalksOfReplies (post_plan keeps h t) before → AreTalksOfReplies (post_plan keeps h t) (tries ++ before)
+tries_told keeps h t text [] before right some each are told = told
+tries_told keeps h t text (talk ∷ tries) before right some each are told = (
+  talk_of_reply (reply_of (post_plan keeps h t) (length (tries ++ before))) talk (post_reply_right keeps h t (length (tries ++ before)) right) are.0 (sent_some text talk some each.0.sent),
+  tries_told keeps h t text tries before right some each.1 are.1 told,
 )
 
 -- each try of a text is a right one
@@ -172,50 +181,53 @@ talks_behind plan [] back are = are
 talks_behind plan (talk ∷ front) back are = talks_behind plan front back are.1
 
 -- the request that posts an event's text isn't empty
-text_some : (h : Header) (t : ScriptTarget) (body : List ℕ) → talking.post_request (script_followed h t).to body ≢ []
+text_some : (keeps : Bool) (h : Header) (t : ScriptTarget) (body : List ℕ) → talking.post_request (script_followed keeps h t).to body ≢ []
 unfolding talking
-text_some h t body = post_some (script_followed h t).to body
+text_some keeps h t body = post_some (script_followed keeps h t).to body
 
 -- the talks of posts are of the replies of their numbers
-posts_told : (h : Header) (t : ScriptTarget) (most : ℕ) (events : List Event) (talks : List Talk) (ps : List Posted) → AllByRecursion IsRightReply t.posts → AreTalksOf (post_plan h t) talks
-    → CameOfTexts talking most (post_texts talking (script_followed h t) events) talks ps → AreTalksOfReplies (post_plan h t) talks
-posts_told h t most [] talks ps right are came = subst (AreTalksOfReplies (post_plan h t)) (sym came.0) tt
-posts_told h t most (e ∷ earlier) talks [] right are came = absurd came
-posts_told h t most (e ∷ earlier) talks (p ∷ ps) right are came =
+posts_told : (keeps : Bool) (h : Header) (t : ScriptTarget) (most : ℕ) (events : List Event) (talks : List Talk) (ps : List Posted) → AllByRecursion IsRightReply t.posts → AreTalksOf (post_plan keeps h t) talks
+    → CameOfTexts talking most (post_texts talking (script_followed keeps h t) events) talks ps → AreTalksOfReplies (post_plan keeps h t) talks
+posts_told keeps h t most [] talks ps right are came = subst (AreTalksOfReplies (post_plan keeps h t)) (sym came.0) tt
+posts_told keeps h t most (e ∷ earlier) talks [] right are came = absurd came
+posts_told keeps h t most (e ∷ earlier) talks (p ∷ ps) right are came =
     let tried = came.0 in
     let before = came.1 in
-    let all : AreTalksOf (post_plan h t) (tried ++ before) = subst (AreTalksOf (post_plan h t)) came.2 are in
-    let told = posts_told h t most earlier before ps right (talks_behind (post_plan h t) tried before all) came.4 in
-    subst (AreTalksOfReplies (post_plan h t)) (sym came.2) (tries_told h t _ tried before right (text_some h t _) (all_right most _ tried p came.3) all told)
+    let all : AreTalksOf (post_plan keeps h t) (tried ++ before) = subst (AreTalksOf (post_plan keeps h t)) came.2 are in
+    let told = posts_told keeps h t most earlier before ps right (talks_behind (post_plan keeps h t) tried before all) came.4 in
+    subst (AreTalksOfReplies (post_plan keeps h t)) (sym came.2) (tries_told keeps h t _ tried before right (text_some keeps h t _) (all_right most _ tried p came.3) all told)
 
 -- ---- a track
 
 -- what the wires of a track of a script's target tell
-pub record TrackTold (h : Header) (t : ScriptTarget) (k : Kept) (w : Shelved) : Type 0 where
+pub record TrackTold (keeps : Bool) (h : Header) (t : ScriptTarget) (k : Kept) (w : Shelved) : Type 0 where
   pub events : List Event
   pub posted : List Posted
-  pub counts : k.counts ≡ visit_counts (script_followed h t) events posted
+  pub counts : k.counts ≡ visit_counts (script_followed keeps h t) events posted
   pub many : k.counts.visits ≡ length events
-  pub bodies : BodiesOf talking (script_followed h t) (further_talks k.halted) w.scrape.talks w.post.talks events posted
+  pub bodies : BodiesOf talking (script_followed keeps h t) (further_talks k.halted) w.scrape.talks w.post.talks events posted
   pub are : AreEvents h t.scrapes events
   pub counted : AreTalksOfReplies (scrape_plan h t) bodies.tells.counted
-  pub sent : AreTalksOf (post_plan h t) w.post.talks
+  pub scrape_by : w.scrape.plan ≡ scrape_plan h t
+  pub post_by : w.post.plan ≡ post_plan keeps h t
+  pub sent : AreTalksOf (post_plan keeps h t) w.post.talks
+  pub shown : k.shown ≡ latest_shown t.target events
 
-pub track_told : (h : Header) (t : ScriptTarget) (place : ℕ) (k : Kept) (w : Shelved) → IsRightTarget h t → IsTrackAt talking (script_followed h t) place k → HasAllVisits h.rounds k → AreWiresOf k w → TrackTold h t k w
-track_told h t place k w right at visits wires =
-    let f = script_followed h t in
+pub track_told : (keeps : Bool) (h : Header) (t : ScriptTarget) (place : ℕ) (k : Kept) (w : Shelved) → IsRightTarget h t → IsTrackAt talking (script_followed keeps h t) place k → HasAllVisits h.rounds k → AreWiresOf k w → TrackTold keeps h t k w
+track_told keeps h t place k w right at visits wires =
+    let f = script_followed keeps h t in
     let kept = at.track.history in
     let scrapes_by : w.scrape.plan ≡ scrape_plan h t =
     same_Some w.scrape.plan (scrape_plan h t) (sym (ap (λ (s : WireState). s.plan) wires.scrape_is) ∙ at.track.scrape_wire.plan_is ∙ ap (λ (g : Followed). g.scrape_plan) at.followed) in
-    let posts_by : w.post.plan ≡ post_plan h t =
-    same_Some w.post.plan (post_plan h t) (sym (ap (λ (s : WireState). s.plan) wires.post_is) ∙ at.track.post_wire.plan_is ∙ ap (λ (g : Followed). g.post_plan) at.followed) in
+    let posts_by : w.post.plan ≡ post_plan keeps h t =
+    same_Some w.post.plan (post_plan keeps h t) (sym (ap (λ (s : WireState). s.plan) wires.post_is) ∙ at.track.post_wire.plan_is ∙ ap (λ (g : Followed). g.post_plan) at.followed) in
     let bodies : BodiesOf talking f (further_talks k.halted) w.scrape.talks w.post.talks kept.events kept.posted =
     subst (λ (g : Followed). BodiesOf talking g (further_talks k.halted) w.scrape.talks w.post.talks kept.events kept.posted) at.followed
     (kept.bodies w.scrape.talks w.post.talks (ap talks_of wires.scrape_is) (ap talks_of wires.post_is)) in
     let told = bodies.tells in
     let scraped : AreTalksOf (scrape_plan h t) (told.further ++ told.counted) = subst (AreTalksOf (scrape_plan h t)) told.talks_are (subst (λ p. AreTalksOf p w.scrape.talks) scrapes_by wires.scrape_plan.past) in
     let many : k.counts.visits ≡ length kept.events = ap (λ (c : Counts). c.visits) kept.counts in
-    let both = scrapes_told h t told.counted kept.events right.replies (talks_behind (scrape_plan h t) told.further told.counted scraped) told.history (omega (arith, many, right.scrapes, at_most_all h.rounds k k.halted refl visits)) in
+    let both = scrapes_told keeps h t told.counted kept.events right.replies (talks_behind (scrape_plan h t) told.further told.counted scraped) told.history (omega (arith, many, right.scrapes, at_most_all h.rounds k k.halted refl visits)) in
     record {
       events = kept.events;
       posted = kept.posted;
@@ -224,9 +236,12 @@ track_told h t place k w right at visits wires =
       bodies = bodies;
       are = both.0;
       counted = both.1;
+      scrape_by = scrapes_by;
+      post_by = posts_by;
       sent = subst (λ p. AreTalksOf p w.post.talks) posts_by wires.post_plan.past;
+      shown = kept.shown ∙ ap (λ (g : Followed). latest_shown g.target kept.events) at.followed;
     }
 
 -- the talks of its posts are of the replies of their numbers
-pub track_posts : (h : Header) (t : ScriptTarget) (k : Kept) (w : Shelved) → IsRightTarget h t → (told : TrackTold h t k w) → AreTalksOfReplies (post_plan h t) w.post.talks
-track_posts h t k w right told = posts_told h t _ told.events w.post.talks told.posted right.post_replies told.sent told.bodies.in_order
+pub track_posts : (keeps : Bool) (h : Header) (t : ScriptTarget) (k : Kept) (w : Shelved) → IsRightTarget h t → (told : TrackTold keeps h t k w) → AreTalksOfReplies (post_plan keeps h t) w.post.talks
+track_posts keeps h t k w right told = posts_told keeps h t _ told.events w.post.talks told.posted right.post_replies told.sent told.bodies.in_order

@@ -1,8 +1,7 @@
 -- The tracks of a script's run: that the run is right, how they are made, and what their visits come to.
-use Rattle.std.proofs.Common.{◌≡◌, ℕ, zero, suc, ◌+◌, ◌<◌, ◌≤◌, Bool, true, false, List, [], ◌∷◌, ◌++◌, length, map, take, get_or, below_more, All, Result, Ok, Err, Some, refl, sym, ap, subst, ◌∙◌, inl, arith, append_assoc, reverse}
+use Rattle.std.proofs.Common.{◌≡◌, ℕ, zero, suc, ◌+◌, ◌<◌, ◌≤◌, Bool, true, false, List, [], ◌∷◌, ◌++◌, length, map, take, get_or, below_more, All, Some, refl, sym, ap, subst, ◌∙◌, arith, append_assoc, reverse}
 use Rattle.std.specs.List.{AllZip, AllByRecursion, IsDistinct, slice_get}
-use Rattle.std.specs.Prelude.{OnOk, EachIndex, Option}
-use Rattle.std.specs.Io.KnownBytes.{Appends}
+use Rattle.std.specs.Prelude.{EachIndex, Option}
 use Rattle.std.proofs.lemmas.Grind.{get_or_default_zero}
 use Rattle.std.proofs.lemmas.List.{map-append, length-map, reverse-append, take_more, length-take-le}
 use Rattle.std.proofs.lemmas.List.Elements.{All-append}
@@ -23,14 +22,15 @@ use Rattle.bridge_ports.specs.declared.memory_world.Shelved.{Shelved}
 use Rattle.target_table.specs.Runs.{Run, IsRightRun, is_same_target}
 use Rattle.scraper_pool.specs.Turns.{run_of}
 use Rattle.target_table.specs.Tables.{HasAllVisits, IsTrackAt, AreTracks, AreUnvisited}
-use Rattle.bridge_cli.specs.Replays.{MayBeCut}
+use Rattle.bridge_cli.specs.Printed.{CutsBodies}
+use Rattle.bridge_cli.specs.declared.replaying.Cut.TheVariants as cuts
 use Rattle.bridge_ports.proofs.Laws.{appends_none}
 use Rattle.bridge_cli.specs.Rounds.{script_followed, script_targets, script_run, visits_counted, IsUnvisited, AreWiresOf, IsScriptRun, AreVisitedThrough}
 
 -- ---- lists
 
 -- what holds of each by recursion holds of each
-all_of : {A : Type 0} (P : A → Type 0) (xs : List A) → AllByRecursion P xs → All P xs
+pub all_of : {A : Type 0} (P : A → Type 0) (xs : List A) → AllByRecursion P xs → All P xs
 all_of P [] all i d within = absurd (omega (arith, within))
 all_of P (x ∷ xs) all zero d within = all.0
 all_of P (x ∷ xs) all (suc i) d within = all_of P xs all.1 i d (omega (arith, within))
@@ -42,24 +42,24 @@ all_again P Q (x ∷ xs) f all = (f x all.0, all_again P Q xs f all.1)
 -- ---- the run of a script
 
 -- what is kept of each target of a script holds of each target of its run
-each_followed : (h : Header) (P : Followed → Type 0) (ts : List ScriptTarget) → AllByRecursion (λ t. P (script_followed h t)) ts → AllByRecursion P (script_targets h ts)
-each_followed h P [] all = tt
-each_followed h P (t ∷ ts) all = (all.0, each_followed h P ts all.1)
+each_followed : (keeps : Bool) (h : Header) (P : Followed → Type 0) (ts : List ScriptTarget) → AllByRecursion (λ t. P (script_followed keeps h t)) ts → AllByRecursion P (script_targets keeps h ts)
+each_followed keeps h P [] all = tt
+each_followed keeps h P (t ∷ ts) all = (all.0, each_followed keeps h P ts all.1)
 
-followed_length : (h : Header) (ts : List ScriptTarget) → length (script_targets h ts) ≡ length ts
-followed_length h [] = refl
-followed_length h (t ∷ ts) = ap suc (followed_length h ts)
+followed_length : (keeps : Bool) (h : Header) (ts : List ScriptTarget) → length (script_targets keeps h ts) ≡ length ts
+followed_length keeps h [] = refl
+followed_length keeps h (t ∷ ts) = ap suc (followed_length keeps h ts)
 
 -- no name again
-other_followed : (h : Header) (t : ScriptTarget) (ts : List ScriptTarget) → AllByRecursion (λ y. same_names t.target y ≡ false) (map (λ (u : ScriptTarget). u.target) ts)
-    → AllByRecursion (λ y. is_same_target (script_followed h t) y ≡ false) (script_targets h ts)
-other_followed h t [] all = tt
-other_followed h t (u ∷ us) all = (all.0, other_followed h t us all.1)
+other_followed : (keeps : Bool) (h : Header) (t : ScriptTarget) (ts : List ScriptTarget) → AllByRecursion (λ y. same_names t.target y ≡ false) (map (λ (u : ScriptTarget). u.target) ts)
+    → AllByRecursion (λ y. is_same_target (script_followed keeps h t) y ≡ false) (script_targets keeps h ts)
+other_followed keeps h t [] all = tt
+other_followed keeps h t (u ∷ us) all = (all.0, other_followed keeps h t us all.1)
 
-distinct_followed : (h : Header) (ts : List ScriptTarget) → IsDistinct same_names (map (λ (u : ScriptTarget). u.target) ts) → IsDistinct is_same_target (script_targets h ts)
+distinct_followed : (keeps : Bool) (h : Header) (ts : List ScriptTarget) → IsDistinct same_names (map (λ (u : ScriptTarget). u.target) ts) → IsDistinct is_same_target (script_targets keeps h ts)
 unfolding IsDistinct
-distinct_followed h [] all = tt
-distinct_followed h (t ∷ ts) all = (other_followed h t ts all.0, distinct_followed h ts all.1)
+distinct_followed keeps h [] all = tt
+distinct_followed keeps h (t ∷ ts) all = (other_followed keeps h t ts all.0, distinct_followed keeps h ts all.1)
 
 right_settings : (h : Header) → IsRightHeader h → AreInRange (script_settings h)
 right_settings h right = record {
@@ -69,17 +69,17 @@ right_settings h right = record {
   max_page = in_range 1024 67108864 h.max_page right.max_page;
 }
 
-pub right_run : (s : Script) → IsRightScript s → IsRightRun (script_run s)
-right_run s right =
-    let many = followed_length s.header s.targets in
+pub right_run : (keeps : Bool) (s : Script) → IsRightScript s → IsRightRun (script_run keeps s)
+right_run keeps s right =
+    let many = followed_length keeps s.header s.targets in
     record {
       some = omega (arith, right.some_target, many);
       few = omega (arith, right.few_targets, many);
-      distinct = distinct_followed s.header s.targets right.names;
-      scraped = all_of (λ (f : Followed). IsScraped f.target) (script_targets s.header s.targets)
-          (each_followed s.header (λ (f : Followed). IsScraped f.target) s.targets (all_again (IsRightTarget s.header) (λ (t : ScriptTarget). IsScraped t.target) s.targets (λ t is. is.scraped) right.targets));
-      settings = all_of (λ (f : Followed). AreInRange f.settings) (script_targets s.header s.targets)
-          (each_followed s.header (λ (f : Followed). AreInRange f.settings) s.targets (all_again (IsRightTarget s.header) (λ t. AreInRange (script_settings s.header)) s.targets (λ t is. right_settings s.header right.header) right.targets));
+      distinct = distinct_followed keeps s.header s.targets right.names;
+      scraped = all_of (λ (f : Followed). IsScraped f.target) (script_targets keeps s.header s.targets)
+          (each_followed keeps s.header (λ (f : Followed). IsScraped f.target) s.targets (all_again (IsRightTarget s.header) (λ (t : ScriptTarget). IsScraped t.target) s.targets (λ t is. is.scraped) right.targets));
+      settings = all_of (λ (f : Followed). AreInRange f.settings) (script_targets keeps s.header s.targets)
+          (each_followed keeps s.header (λ (f : Followed). AreInRange f.settings) s.targets (all_again (IsRightTarget s.header) (λ t. AreInRange (script_settings s.header)) s.targets (λ t is. right_settings s.header right.header) right.targets));
       rounds = in_range 1 1000000 s.header.rounds right.header.rounds;
     }
 
@@ -95,15 +95,15 @@ track_more place [] (l ∷ ls) f k are at = absurd are
 track_more place (g ∷ gs) [] f k are at = absurd are
 
 -- the track of the next target of a script
-pub next_track : (h : Header) (ts : List ScriptTarget) (at : ℕ) (t : ScriptTarget) (ks : List Kept) (k : Kept) → at < length ts → t ≡ get_or ts at t → AreTracks talking 0 (script_targets h (take at ts)) ks → IsUnvisited at (script_followed h t) k
-    → AreTracks talking 0 (script_targets h (take (at + 1) ts)) (ks ++ k ∷ [])
-next_track h ts at t ks k inside is are new =
-    let many : length (script_targets h (take at ts)) ≡ at = followed_length h (take at ts) ∙ length-take-le at ts (omega (arith, inside)) in
-    let more : script_targets h (take (at + 1) ts) ≡ script_targets h (take at ts) ++ script_followed h t ∷ [] =
-    ap (script_targets h) (take_more ts at t inside ∙ ap (λ u. take at ts ++ u ∷ []) (sym is)) ∙ map-append (script_followed h) (take at ts) (t ∷ []) in
-    let place : at ≡ 0 + length (script_targets h (take at ts)) = omega (arith, many) in
+pub next_track : (keeps : Bool) (h : Header) (ts : List ScriptTarget) (at : ℕ) (t : ScriptTarget) (ks : List Kept) (k : Kept) → at < length ts → t ≡ get_or ts at t → AreTracks talking 0 (script_targets keeps h (take at ts)) ks → IsTrackAt talking (script_followed keeps h t) at k
+    → AreTracks talking 0 (script_targets keeps h (take (at + 1) ts)) (ks ++ k ∷ [])
+next_track keeps h ts at t ks k inside is are new =
+    let many : length (script_targets keeps h (take at ts)) ≡ at = followed_length keeps h (take at ts) ∙ length-take-le at ts (omega (arith, inside)) in
+    let more : script_targets keeps h (take (at + 1) ts) ≡ script_targets keeps h (take at ts) ++ script_followed keeps h t ∷ [] =
+    ap (script_targets keeps h) (take_more ts at t inside ∙ ap (λ u. take at ts ++ u ∷ []) (sym is)) ∙ map-append (script_followed keeps h) (take at ts) (t ∷ []) in
+    let place : at ≡ 0 + length (script_targets keeps h (take at ts)) = omega (arith, many) in
     subst (λ fs. AreTracks talking 0 fs (ks ++ k ∷ [])) (sym more)
-    (track_more 0 (script_targets h (take at ts)) ks (script_followed h t) k are (subst (λ n. IsTrackAt talking (script_followed h t) n k) place new.at))
+    (track_more 0 (script_targets keeps h (take at ts)) ks (script_followed keeps h t) k are (subst (λ n. IsTrackAt talking (script_followed keeps h t) n k) place new))
 
 pub unvisited_more : (ks : List Kept) (k : Kept) (place : ℕ) (f : Followed) → AreUnvisited ks → IsUnvisited place f k → AreUnvisited (ks ++ k ∷ [])
 unvisited_more ks k place f all new = All-append (λ (l : Kept). (l.counts.visits ≡ 0) × (l.halted ≡ false)) ks (k ∷ []) all (all_of (λ (l : Kept). (l.counts.visits ≡ 0) × (l.halted ≡ false)) (k ∷ []) ((new.unvisited, new.goes_on), tt))
@@ -116,10 +116,10 @@ followed_of place [] (k ∷ ks) are = absurd are
 followed_of place (f ∷ fs) [] are = absurd are
 
 -- the run of these tracks is that of the script
-pub same_run : (s : Script) (ks : List Kept) (rounds : ℕ) → AreTracks talking 0 (script_targets s.header s.targets) ks → rounds ≡ s.header.rounds → script_run s ≡ run_of rounds ks
-same_run s ks rounds are same =
+pub same_run : (keeps : Bool) (s : Script) (ks : List Kept) (rounds : ℕ) → AreTracks talking 0 (script_targets keeps s.header s.targets) ks → rounds ≡ s.header.rounds → script_run keeps s ≡ run_of rounds ks
+same_run keeps s ks rounds are same =
     let RunWith : List Followed → ℕ → Run = λ fs n. record { targets = fs; rounds = n } in
-    ap (λ fs. RunWith fs s.header.rounds) (sym (followed_of 0 (script_targets s.header s.targets) ks are)) ∙ ap (RunWith (map (λ (k : Kept). k.followed) ks)) (sym same)
+    ap (λ fs. RunWith fs s.header.rounds) (sym (followed_of 0 (script_targets keeps s.header s.targets) ks are)) ∙ ap (RunWith (map (λ (k : Kept). k.followed) ks)) (sym same)
 
 -- ---- visits
 
@@ -130,8 +130,8 @@ as_many_tracks place [] (k ∷ ks) are = absurd are
 as_many_tracks place (f ∷ fs) [] are = absurd are
 
 -- as many targets ended as there are
-pub as_many_ends : (s : Script) (ends : List TargetEnd) (wires : List Shelved) → IsScriptRun s ends wires → length ends ≡ length s.targets
-as_many_ends s ends wires run = ap (length {A = TargetEnd}) run.ends_are ∙ as_many_tracks 0 (script_targets s.header s.targets) run.tracks run.over.tracks_are ∙ followed_length s.header s.targets
+pub as_many_ends : (keeps : Bool) (s : Script) (ends : List TargetEnd) (wires : List Shelved) → IsScriptRun keeps s ends wires → length ends ≡ length s.targets
+as_many_ends keeps s ends wires run = ap (length {A = TargetEnd}) run.ends_are ∙ as_many_tracks 0 (script_targets keeps s.header s.targets) run.tracks run.over.tracks_are ∙ followed_length keeps s.header s.targets
 
 -- a track has at most all its visits
 pub at_most_all : (rounds : ℕ) (k : Kept) (halted : Bool) → k.halted ≡ halted → HasAllVisits rounds k → k.counts.visits ≤ rounds
@@ -146,7 +146,7 @@ through_ends rounds (e ∷ ends) many = (many 0 (omega arith), through_ends roun
 -- ---- wires
 
 -- the wires of one track more, which stands behind the others
-behind : (ks : List Kept) (ws : List Shelved) (k : Kept) (w : Shelved) → AllZip AreWiresOf ks ws → AreWiresOf k w → AllZip AreWiresOf (ks ++ k ∷ []) (ws ++ w ∷ [])
+pub behind : (ks : List Kept) (ws : List Shelved) (k : Kept) (w : Shelved) → AllZip AreWiresOf ks ws → AreWiresOf k w → AllZip AreWiresOf (ks ++ k ∷ []) (ws ++ w ∷ [])
 behind [] [] k w are is = (is, tt)
 behind (l ∷ ks) (v ∷ ws) k w are is = (are.0, behind ks ws k w are.1 is)
 behind [] (v ∷ ws) k w are is = absurd are
@@ -178,19 +178,17 @@ each_more rounds visits at n many before inside all enough is =
     let same : n ≡ get_or visits at 0 = is ∙ get_or_default_zero visits at n inside in
     below_more _ _ before (omega (arith, same, all, enough))
 
--- where all was printed, each target was visited through
-pub through_of : {T E : Type 0} (r : Result T E) (rounds : ℕ) (ends : List TargetEnd) (visits seen : List ℕ) → visits ≡ map visits_counted ends → seen ≡ visits → OnOk r (EachIndex seen (λ k. rounds ≤ get_or seen k 0))
-    → OnOk r (AreVisitedThrough rounds ends)
-through_of (Ok done) rounds ends visits seen counted same many =
+-- where each count that was seen is that of the rounds, each target was visited through
+pub through_seen : (rounds : ℕ) (ends : List TargetEnd) (visits seen : List ℕ) → visits ≡ map visits_counted ends → seen ≡ visits → EachIndex seen (λ k. rounds ≤ get_or seen k 0) → AreVisitedThrough rounds ends
+through_seen rounds ends visits seen counted same many =
     through_ends rounds ends (λ i inside. subst (λ ns. rounds ≤ get_or ns i 0) (same ∙ counted) (many i (omega (arith, inside, ap (length {A = ℕ}) (same ∙ counted), length-map ends visits_counted))))
-through_of (Err e) rounds ends visits seen counted same many = tt
 
 first_target : (ts : List ScriptTarget) → 1 ≤ length ts → (t : ScriptTarget) × (slice_get ts 0 ≡ Some t)
 first_target [] some = absurd (omega (arith, some))
 first_target (t ∷ ts) some = (t, refl)
 
--- nothing is a part of what is printed of a script
-pub none_printed : (page : Bool) (s : Script) (held : Option (List ℕ)) → 1 ≤ length s.targets → (text : List ℕ) × MayBeCut page s text × Appends held held text
-none_printed page s held some =
+-- nothing is a part of the bodies of a script
+pub no_bodies : (s : Script) (held : Option (List ℕ)) → 1 ≤ length s.targets → CutsBodies s held held cuts.Memory
+no_bodies s held some =
     let t = first_target s.targets some in
-    ([], inl (record { texts = []; are = tt; target = t.0; stands = t.1; part = []; is_part = record { events = []; are = tt; says = refl }; says = refl }), appends_none held)
+    ([], record { texts = []; are = tt; target = t.0; stands = t.1; part = []; is_part = record { events = []; are = tt; says = refl }; says = refl }, appends_none held)

@@ -21,7 +21,7 @@ all_accepted events = map (λ _. Accepted 200) events
 
 -- what is counted of a target of a script over these events, where the body of each was accepted
 abbrev pub accepted_counts : Header → ScriptTarget → List Event → Counts
-accepted_counts h t events = visit_counts (script_followed h t) events (all_accepted events)
+accepted_counts h t events = visit_counts (script_followed true h t) events (all_accepted events)
 
 -- how a target of a script ended: its numbers are those of the events of its first replies, each of whose bodies was accepted; events of some rounds are missing just where it was halted
 pub record IsScriptEnd (h : Header) (t : ScriptTarget) (end : TargetEnd) : Type 0 where

@@ -24,7 +24,7 @@ use Rattle.bridge_cli.specs.declared.replaying.Cut.TheVariants.{Write, Memory}
 use Rattle.bridge_cli.specs.declared.status.Status.{Status}
 use Rattle.bridge_cli.specs.declared.status.Status.TheVariants.{Done, WriteFailed, WantOfMemory}
 use Rattle.bridge_cli.specs.Statuses.{code_of, IsTold}
-use Rattle.bridge_cli.specs.Replays.{script_tracking, IsReplyEvent, AreEvents, body_after, bodies_of, IsTextOfSome, IsTextOf, AreTexts, joined_texts, IsReplay, IsReplayOfSome, IsReplayWith, MayBeCut}
+use Rattle.bridge_cli.specs.Replays.{script_tracking, IsReplyEvent, AreEvents, body_after, bodies_of, IsTextOfSome, IsTextOf, AreTexts, joined_texts, IsLastShown, IsReplay, IsReplayOfSome, IsReplayWith, MayBeCut}
 use Rattle.bridge_cli.specs.declared.stop.Stop.{Stop}
 use Rattle.bridge_cli.specs.declared.words.Command.{Command}
 use Rattle.bridge_cli.specs.CommandWords.{IsCommand, AskForNo, prints_pieces}
@@ -118,6 +118,10 @@ pub record StandsForAll (h : Header) (t : ScriptTarget) (state : Following) : Ty
 abbrev pub ShowsLast : Following → List Shown → List Shown → Type 0
 ShowsLast state before after = (shown : Shown) × ShowsLatest state shown × (after ≡ before ++ shown ∷ [])
 
+-- what a target shows behind its last event stands behind what others show
+abbrev pub ShowsOneMore : Header → ScriptTarget → List Shown → List Shown → Type 0
+ShowsOneMore h t before after = (shown : Shown) × IsLastShown h t shown × (after ≡ before ++ shown ∷ [])
+
 -- what was printed of a target where it was cut off: a front of the bodies that were made
 abbrev pub CutsTarget : Header → ScriptTarget → Option (List ℕ) → Option (List ℕ) → Cut → Type 0
 CutsTarget h t before after Write = (text : List ℕ) × IsTextOfSome h t text × WroteFront before after text
@@ -151,17 +155,25 @@ abbrev pub PrintsBodies : {T : Type 0} → Script → Option (List ℕ) → Opti
 PrintsBodies s before after (Ok done) = (text : List ℕ) × IsReplay s text × Appends before after text
 PrintsBodies s before after (Err cut) = CutsBodies s before after cut
 
--- what printing a text came to
-abbrev pub PrintsText : List ℕ → Option (List ℕ) → Option (List ℕ) → Result ⊤ Cut → Type 0
-PrintsText text before after (Ok done) = Appends before after text
-PrintsText text before after (Err Write) = WroteFront before after text
-PrintsText text before after (Err Memory) = Appends before after []
+-- what was printed of a text where it was cut off: a front of it, or nothing
+abbrev pub CutsText : List ℕ → Option (List ℕ) → Option (List ℕ) → Cut → Type 0
+CutsText text before after Write = WroteFront before after text
+CutsText text before after Memory = Appends before after []
 
--- what printing a script came to, with its page or without it: at want of memory no part of the page is printed, or all of it
-abbrev pub PrintsScript : Bool → Script → Option (List ℕ) → Option (List ℕ) → Result ⊤ Cut → Type 0
+-- what printing a text came to
+abbrev pub PrintsText : {T : Type 0} → List ℕ → Option (List ℕ) → Option (List ℕ) → Result T Cut → Type 0
+PrintsText text before after (Ok done) = Appends before after text
+PrintsText text before after (Err cut) = CutsText text before after cut
+
+-- what was printed of a script, with its page or without it, where it was cut off: at want of memory no part of the page, or all of it
+abbrev pub CutsScript : Bool → Script → Option (List ℕ) → Option (List ℕ) → Cut → Type 0
+CutsScript page s before after Write = (text : List ℕ) × MayBeCut page s text × WroteFront before after text
+CutsScript page s before after Memory = (text : List ℕ) × MayBeCut page s text × Appends before after text
+
+-- what printing a script came to, with its page or without it
+abbrev pub PrintsScript : {T : Type 0} → Bool → Script → Option (List ℕ) → Option (List ℕ) → Result T Cut → Type 0
 PrintsScript page s before after (Ok done) = (text : List ℕ) × IsReplayWith page s text × Appends before after text
-PrintsScript page s before after (Err Write) = (text : List ℕ) × MayBeCut page s text × WroteFront before after text
-PrintsScript page s before after (Err Memory) = (text : List ℕ) × MayBeCut page s text × Appends before after text
+PrintsScript page s before after (Err cut) = CutsScript page s before after cut
 
 -- what printing the report of targets that ended so came to: it is printed, and none was halted; or memory was wanted for it, or was wanting to a target
 abbrev pub ReportsEnds : List TargetEnd → Option (List ℕ) → Option (List ℕ) → Result ⊤ Cut → Type 0

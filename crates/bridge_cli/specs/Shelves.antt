@@ -1,6 +1,6 @@
 -- What stands on the shelf of the world behind `replay` and `load`: the wires of each target, and what their talks tell.
 -- The bridge's own.
-use Rattle.std.specs.Prelude.{◌≡◌, ◌⊎◌, ℕ, ◌+◌, true, false, List, [], ◌∷◌, ◌++◌, length, Option, option_map, ⊤}
+use Rattle.std.specs.Prelude.{◌≡◌, ◌⊎◌, ℕ, ◌+◌, Bool, true, false, List, [], ◌∷◌, ◌++◌, length, Option, is_some, option_map, ⊤}
 use Rattle.page_model.specs.declared.event.Event.{Event}
 use Rattle.bridge_ports.specs.declared.memory_world.Shelved.{Shelved}
 use Rattle.bridge_ports.specs.declared.talk.End.TheVariants.{Left}
@@ -36,23 +36,25 @@ AreTalksOfReplies plan (talk ∷ earlier) = IsTalkOfReply (reply_of plan (length
 
 -- ---- pairs
 
--- the wires of a script's target, once it was visited for each round: they are in the places of its number; the talks of its scrapes tell the events that its records come to, and what was posted is, in order, the texts of these events; each talk is of the reply of its number
-pub record IsShelvedPair (h : Header) (number : ℕ) (t : ScriptTarget) (pair : ShelvedPair) : Type 0 where
+-- the wires of a script's target, once it was visited for each round: they are in the places of its number, and have the plans of the target, that of its posts with what is posted kept or not; the talks of its scrapes tell the events that its records come to, and what was posted is, in order, the texts of these events; each talk is of the reply of its number
+pub record IsShelvedPair (keeps : Bool) (h : Header) (number : ℕ) (t : ScriptTarget) (pair : ShelvedPair) : Type 0 where
   pub scrape_home : IsHome number false (seen_of pair.scrape)
   pub post_home : IsHome number true (seen_of pair.post)
+  pub scrape_by : pair.scrape.plan ≡ scrape_plan h t
+  pub post_by : pair.post.plan ≡ post_plan keeps h t
   pub events : List Event
   pub posted : List Posted
   pub are : AreEvents h t.scrapes events
   pub all : length events ≡ length t.scrapes
-  pub bodies : BodiesOf talking (script_followed h t) 0 pair.scrape.talks pair.post.talks events posted
+  pub bodies : BodiesOf talking (script_followed keeps h t) 0 pair.scrape.talks pair.post.talks events posted
   pub scraped : AreTalksOfReplies (scrape_plan h t) pair.scrape.talks
-  pub answered : AreTalksOfReplies (post_plan h t) pair.post.talks
+  pub answered : AreTalksOfReplies (post_plan keeps h t) pair.post.talks
 
 -- one pair for each target, in order; the first has this number
-abbrev pub AreShelvedPairs : Header → ℕ → List ScriptTarget → List ShelvedPair → Type 0
-AreShelvedPairs h number [] [] = ⊤
-AreShelvedPairs h number (t ∷ ts) (pair ∷ pairs) = IsShelvedPair h number t pair × AreShelvedPairs h (number + 1) ts pairs
-AreShelvedPairs h number _ _ = ⊥
+abbrev pub AreShelvedPairs : Bool → Header → ℕ → List ScriptTarget → List ShelvedPair → Type 0
+AreShelvedPairs keeps h number [] [] = ⊤
+AreShelvedPairs keeps h number (t ∷ ts) (pair ∷ pairs) = IsShelvedPair keeps h number t pair × AreShelvedPairs keeps h (number + 1) ts pairs
+AreShelvedPairs keeps h number _ _ = ⊥
 
 -- ---- the shelf
 
@@ -61,10 +63,10 @@ abbrev pub put_all : List ShelvedPair → List ShelvedPair → List ShelvedPair
 put_all [] shelf = shelf
 put_all (pair ∷ pairs) shelf = put_all pairs (pair ∷ shelf)
 
--- the wires of a script's targets were handed in, targets in order, where the shelf is told
+-- the wires of a script's targets were handed in, targets in order, where there is a shelf: then what was posted is kept
 pub record IsShelfOf (s : Script) (before after : Option (List ShelvedPair)) : Type 0 where
   pub pairs : List ShelvedPair
-  pub are : AreShelvedPairs s.header 1 s.targets pairs
+  pub are : AreShelvedPairs (is_some before) s.header 1 s.targets pairs
   pub shelf : after ≡ option_map (put_all pairs) before
 
 -- ---- how a world is left

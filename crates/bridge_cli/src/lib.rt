@@ -4,6 +4,7 @@
 mod answer;
 mod commands;
 mod digits;
+mod in_turn;
 mod limits;
 mod loading;
 mod pages;

@@ -64,7 +64,8 @@ pub(crate) fn print_report<R: Threads + Wait + Sync, W: World, O: Sink>(
     ensures kept { KeepsAllButShelf (W.world world.old) (W.world world.new) (W.files world.old) (W.files world.new)
         (W.home world.old) (W.home world.new) (W.given world.old) (W.given world.new) (W.coming world.old) (W.coming world.new) }
 {
-    let over = match run_script(rt, alloc, script, SCRAPERS) {
+    let keeps = world.has_shelf();
+    let over = match run_script(rt, alloc, script, SCRAPERS, keeps) {
         Ok(over) => over,
         Err(AllocError) => return Err(Cut::Memory),
     };

@@ -1,16 +1,18 @@
 //! What `replay` prints of a script: the bodies of its targets, and behind them the federation page of what they show.
-ghost use Rattle.std.specs.Prelude.{◌≡◌, IfOk, OnOk, length, map, EachIndex, slice_index, ◌≤◌};
+ghost use Rattle.std.specs.Prelude.{◌≡◌, true, IfOk, OnOk, map};
 ghost use Rattle.federation_page.specs.Gathering.{AreShowable};
 ghost use Rattle.target_table.specs.Paging.{federated_text};
 ghost use Rattle.replay_script.specs.RightScripts.{IsRightScript};
-ghost use Rattle.bridge_cli.specs.Rounds.{visits_counted, AreVisitedThrough};
+ghost use Rattle.bridge_cli.specs.Replays.{AreLastShown};
+ghost use Rattle.bridge_cli.specs.Rounds.{visits_counted, AreVisitedWires};
 ghost use Rattle.bridge_cli.specs.Shelves.{IsShelfOf, KeepsAllButShelf};
-ghost use Rattle.bridge_cli.specs.Printed.{CutCause, PrintsText, PrintsScript};
+ghost use Rattle.bridge_cli.specs.Printed.{CutCause, PrintsText, PrintsBodies, PrintsScript};
 
+use crate::in_turn::{Over, Wanted, print_in_turn};
 use crate::replaying::{Cut, print_targets};
 use crate::shelving::shelve;
 use crate::turns::run_script;
-use bridge_ports::{Failed, Sink, World, write_all};
+use bridge_ports::{Failed, Shelved, Sink, World, write_all};
 use label_sets::Memory;
 use page_model::Shown;
 use page_model::page_laws::right_pages;
@@ -38,31 +40,6 @@ fn print_page<O: Sink>(alloc: Global, shown: &[Shown], output: &mut O) -> Result
     }
 }
 
-/// Prints the bodies of the visits that were counted of each target, and behind them the page, where it is asked for.
-fn print_visited<O: Sink>(
-    alloc: Global,
-    script: &Script,
-    visits: &[u64],
-    page: bool,
-    output: &mut O,
-) -> Result<(), Cut>
-    requires right { IsRightScript script.now }
-    requires each { length visits.now ≡ length script.now.targets }
-    ensures printed { PrintsScript page script.now (O.held output.old) (O.held output.new) result }
-    ensures cause { CutCause (O.write_faults output.old) (O.write_faults output.new) result }
-    ensures visited { OnOk result (EachIndex visits.now (λ k. script.now.header.rounds ≤ slice_index visits.now k)) }
-{
-    right_pages();
-    let shown = match print_targets(alloc, script, visits, page, output) {
-        Ok(shown) => shown,
-        Err(cut) => return Err(cut),
-    };
-    if page {
-        return print_page(alloc, shown.as_slice(), output);
-    }
-    Ok(())
-}
-
 /// How many visits of each target were counted, in order.
 fn visits_of(alloc: Global, ends: &[TargetEnd]) -> Result<Vec<u64>, Memory>
     ensures { IfOk result (λ visits. visits.items ≡ map visits_counted ends.now) }
@@ -74,23 +51,87 @@ fn visits_of(alloc: Global, ends: &[TargetEnd]) -> Result<Vec<u64>, Memory>
     Ok(visits)
 }
 
-/// Prints what the visits of the targets that ended so came to.
-fn print_ended<O: Sink>(
+/// Visits the targets of a script by several scrapers at once, and then prints the bodies of the visits, which are made
+/// once more for it.
+fn print_by_pool<R: Threads + Wait + Sync, O: Sink>(
+    rt: &R,
     alloc: Global,
     script: &Script,
-    ends: &[TargetEnd],
-    page: bool,
+    scrapers: u32,
+    wanted: Wanted,
     output: &mut O,
-) -> Result<(), Cut>
-    requires right { IsRightScript script.now }
-    requires each { length ends.now ≡ length script.now.targets }
-    ensures printed { PrintsScript page script.now (O.held output.old) (O.held output.new) result }
+) -> Result<Over, Cut>
+    requires { IsRightScript script.now }
+    ensures printed { PrintsBodies script.now (O.held output.old) (O.held output.new) result }
     ensures cause { CutCause (O.write_faults output.old) (O.write_faults output.new) result }
-    ensures visited { OnOk result (AreVisitedThrough script.now.header.rounds ends.now) }
+    ensures wires { IfOk result (λ over. AreVisitedWires wanted.keeps script.now over.wires.items) }
+    ensures shown { wanted.page ≡ true → IfOk result (λ over. AreLastShown script.now.header script.now.targets over.shown.items) }
 {
-    match visits_of(alloc, ends) {
-        Ok(visits) => print_visited(alloc, script, visits.as_slice(), page, output),
-        Err(AllocError) => Err(Cut::Memory),
+    let over = match run_script(rt, alloc, script, scrapers, wanted.keeps) {
+        Ok(over) => over,
+        Err(AllocError) => return Err(Cut::Memory),
+    };
+    let visits = match visits_of(alloc, over.ends.as_slice()) {
+        Ok(visits) => visits,
+        Err(AllocError) => return Err(Cut::Memory),
+    };
+    match print_targets(alloc, script, visits.as_slice(), wanted.page, output) {
+        Ok(shown) => Ok(Over {
+            wires: over.wires,
+            shown,
+        }),
+        Err(cut) => Err(cut),
+    }
+}
+
+/// Visits the targets of a script by so many scrapers, and prints the bodies of their visits. One scraper prints each
+/// body as it posts it.
+fn print_bodies<R: Threads + Wait + Sync, O: Sink>(
+    rt: &R,
+    alloc: Global,
+    script: &Script,
+    scrapers: u32,
+    wanted: Wanted,
+    output: &mut O,
+) -> Result<Over, Cut>
+    requires { IsRightScript script.now }
+    ensures printed { PrintsBodies script.now (O.held output.old) (O.held output.new) result }
+    ensures cause { CutCause (O.write_faults output.old) (O.write_faults output.new) result }
+    ensures wires { IfOk result (λ over. AreVisitedWires wanted.keeps script.now over.wires.items) }
+    ensures shown { wanted.page ≡ true → IfOk result (λ over. AreLastShown script.now.header script.now.targets over.shown.items) }
+{
+    if scrapers == 1 {
+        return print_in_turn(alloc, script, wanted, output);
+    }
+    print_by_pool(rt, alloc, script, scrapers, wanted, output)
+}
+
+/// Prints the bodies of the visits of a script's targets, and the page behind them, where it is asked for. Gives the
+/// targets' wires, in order; what was posted is kept where that is asked for.
+fn print_visits<R: Threads + Wait + Sync, O: Sink>(
+    rt: &R,
+    alloc: Global,
+    script: &Script,
+    scrapers: u32,
+    wanted: Wanted,
+    output: &mut O,
+) -> Result<Vec<Shelved>, Cut>
+    requires { IsRightScript script.now }
+    ensures printed { PrintsScript wanted.page script.now (O.held output.old) (O.held output.new) result }
+    ensures cause { CutCause (O.write_faults output.old) (O.write_faults output.new) result }
+    ensures wires { IfOk result (λ wires. AreVisitedWires wanted.keeps script.now wires.items) }
+{
+    right_pages();
+    let Over { wires, shown } = match print_bodies(rt, alloc, script, scrapers, wanted, output) {
+        Ok(over) => over,
+        Err(cut) => return Err(cut),
+    };
+    if !wanted.page {
+        return Ok(wires);
+    }
+    match print_page(alloc, shown.as_slice(), output) {
+        Ok(()) => Ok(wires),
+        Err(cut) => Err(cut),
     }
 }
 
@@ -112,15 +153,15 @@ pub(crate) fn print_script<R: Threads + Wait + Sync, W: World, O: Sink>(
     ensures kept { KeepsAllButShelf (W.world world.old) (W.world world.new) (W.files world.old) (W.files world.new)
         (W.home world.old) (W.home world.new) (W.given world.old) (W.given world.new) (W.coming world.old) (W.coming world.new) }
 {
-    let over = match run_script(rt, alloc, script, scrapers) {
-        Ok(over) => over,
-        Err(AllocError) => return Err(Cut::Memory),
+    let wanted = Wanted {
+        page,
+        keeps: world.has_shelf(),
     };
-    match print_ended(alloc, script, over.ends.as_slice(), page, output) {
-        Ok(()) => {}
+    let wires = match print_visits(rt, alloc, script, scrapers, wanted, output) {
+        Ok(wires) => wires,
         Err(cut) => return Err(cut),
-    }
-    match shelve(alloc, over.wires, world) {
+    };
+    match shelve(alloc, wires, world) {
         Ok(()) => Ok(()),
         Err(AllocError) => Err(Cut::Memory),
     }

@@ -131,10 +131,11 @@ fn print<R: Threads + Wait + Sync, W: World, O: Sink>(
 ///
 /// A source that does not tell its bytes has some bytes, and the answer is to those.
 ///
-/// `replay` and `load` start threads and wait for them, so what is said here holds where the call returns. The answer
-/// of `replay` is the same for every number of scrapers. With the word `page` the federation page of what the targets
-/// show behind their last scrapes follows the bodies. At status 0 the wires of the targets, which are in memory, are on
-/// the shelf of the world, targets in order: their talks tell what was scraped, and that the bodies were posted.
+/// `load`, and `replay` with several scrapers, start threads and wait for them, so what is said here holds where the
+/// call returns. The answer of `replay` is the same for every number of scrapers. With the word `page` the federation
+/// page of what the targets show behind their last scrapes follows the bodies. At status 0 the wires of the targets,
+/// which are in memory, are on the shelf of the world, where it has one, targets in order: their talks tell what was
+/// scraped, and that the bodies were posted.
 pub fn bridge<R: Threads + Wait + Sync, W: World, I: Source, O: Sink>(
     rt: &R,
     alloc: Global,

@@ -28,11 +28,12 @@ fn tracks_over<R: Threads + Wait + Sync>(
     alloc: Global,
     script: &Script,
     scrapers: u32,
+    keeps: bool,
 ) -> Result<Vec<Track<MemoryWire>>, Memory>
     requires { IsRightScript script.now }
-    ensures { IfOk result (λ tracks. IsRunOver talking (script_run script.now) tracks.items) }
+    ensures { IfOk result (λ tracks. IsRunOver talking (script_run keeps script.now) tracks.items) }
 {
-    let tracks = new_tracks(alloc, script)?;
+    let tracks = new_tracks(alloc, script, keeps)?;
     match run_targets(rt, alloc, tracks, script.header.rounds, scrapers) {
         Ok(tracks) => Ok(tracks),
         Err(TableFault::Memory(tracks)) => {
@@ -43,16 +44,18 @@ fn tracks_over<R: Threads + Wait + Sync>(
 }
 
 /// Visits each target of a script once for each round, by so many scrapers. Visits are missing where memory was wanted.
+/// What is posted is kept where that is asked for.
 pub(crate) fn run_script<R: Threads + Wait + Sync>(
     rt: &R,
     alloc: Global,
     script: &Script,
     scrapers: u32,
+    keeps: bool,
 ) -> Result<ScriptRun, Memory>
     requires { IsRightScript script.now }
-    ensures { IfOk result (λ run. IsScriptRun script.now run.ends.items run.wires.items) }
+    ensures { IfOk result (λ run. IsScriptRun keeps script.now run.ends.items run.wires.items) }
 {
-    let tracks = tracks_over(rt, alloc, script, scrapers)?;
+    let tracks = tracks_over(rt, alloc, script, scrapers, keeps)?;
     match ends_of(alloc, tracks.as_slice()) {
         Ok(ends) => {
             let wires = wires_of(alloc, tracks)?;

@@ -1,13 +1,12 @@
 //! The tracks of a script's targets, over wires that answer what the script says.
-ghost use Rattle.std.specs.Prelude.{◌≡◌, ◌+◌, ◌<◌, ◌≤◌, false, true, length, IfOk};
+ghost use Rattle.std.specs.Prelude.{◌≡◌, ◌+◌, ◌<◌, IfOk};
 ghost use Rattle.std.specs.List.{AllZip};
-ghost use Rattle.bridge_ports.specs.Plans.{new_wire};
 ghost use Rattle.replay_script.specs.RightScripts.{IsRightHeader, IsRightScript};
 ghost use Rattle.replay_script.specs.ScriptRules.{most_targets};
-ghost use Rattle.replay_script.specs.WirePlans.{scrape_plan, post_plan};
 ghost use Rattle.series_table.specs.HttpTalks.{talking};
+ghost use Rattle.series_table.specs.Records.{IsTrack};
 ghost use Rattle.target_table.specs.Tables.{AreTracks, AreUnvisited};
-ghost use Rattle.bridge_cli.specs.Rounds.{script_place, script_followed, script_targets, AreWiresOf, IsUnvisited};
+ghost use Rattle.bridge_cli.specs.Rounds.{new_scrape_wire, new_post_wire, script_followed, script_targets, AreWiresOf, IsUnvisited};
 
 use bridge_ports::{MemoryWire, Place, Shelved};
 use label_sets::{List, Memory};
@@ -15,64 +14,75 @@ use replay_script::{Header, Script, ScriptTarget, collector, default_reply, sett
 use series_table::{Track, TrackFault};
 use std::alloc::{AllocError, Global};
 
-/// The wire that answers the scrapes of the target of a number.
-fn scrape_wire(
-    alloc: Global,
-    header: &Header,
-    target: &ScriptTarget,
-    number: u32,
-) -> Result<MemoryWire, Memory>
-    requires { IsRightHeader header.now }
-    ensures { IfOk result (λ wire. wire ≡ new_wire (script_place number false) (scrape_plan header.now target.now)) }
-{
-    let replies = target.scrapes.copy()?;
-    let place = Place {
-        number,
-        post: false,
-    };
-    Ok(MemoryWire::new(alloc, place, replies, None, header.cut, List::new(alloc)))
+/// A target of a script, which is to be visited.
+#[derive(Clone, Copy)]
+pub(crate) struct Turn<'a> {
+    pub(crate) header: &'a Header,
+    pub(crate) target: &'a ScriptTarget,
+    /// Its place among the targets, counted from 0.
+    pub(crate) place: u32,
+    /// Whether what is posted for it is kept.
+    pub(crate) keeps: bool,
 }
 
-/// The wire that answers the posts of the target of a number.
-fn post_wire(
-    alloc: Global,
-    header: &Header,
-    target: &ScriptTarget,
-    number: u32,
-) -> Result<MemoryWire, Memory>
-    requires { IsRightHeader header.now }
-    ensures { IfOk result (λ wire. wire ≡ new_wire (script_place number true) (post_plan header.now target.now)) }
+/// The wire that answers the scrapes of a target.
+fn scrape_wire(alloc: Global, turn: Turn<'_>) -> Result<MemoryWire, Memory>
+    requires right { IsRightHeader turn.header.now }
+    requires few { turn.place < most_targets }
+    ensures { IfOk result (λ wire. wire ≡ new_scrape_wire turn.entry.header.now turn.entry.target.now (turn.entry.place + 1)) }
 {
-    let replies = target.posts.copy()?;
-    let after = default_reply(alloc)?;
-    let place = Place { number, post: true };
+    let replies = turn.target.scrapes.copy()?;
+    let place = Place {
+        number: turn.place + 1,
+        post: false,
+    };
     Ok(MemoryWire::new(
         alloc,
         place,
         replies,
-        Some(after),
-        header.cut,
+        None,
+        turn.header.cut,
         List::new(alloc),
     ))
 }
 
-/// The track of the target at a place, counted from 0, before its first visit.
-fn new_track(
-    alloc: Global,
-    header: &Header,
-    target: &ScriptTarget,
-    place: u32,
-) -> Result<Track<MemoryWire>, Memory>
-    requires right { IsRightHeader header.now }
-    requires few { place < most_targets }
-    ensures { IfOk result (IsUnvisited place (script_followed header.now target.now)) }
+/// The wire that answers the posts of a target.
+fn post_wire(alloc: Global, turn: Turn<'_>) -> Result<MemoryWire, Memory>
+    requires right { IsRightHeader turn.header.now }
+    requires few { turn.place < most_targets }
+    ensures { IfOk result (λ wire. wire ≡ new_post_wire turn.entry.keeps turn.entry.header.now turn.entry.target.now (turn.entry.place + 1)) }
 {
-    let number = place + 1;
-    let scraped = target.target.copy()?;
+    let replies = turn.target.posts.copy()?;
+    let after = default_reply(alloc)?;
+    let place = Place {
+        number: turn.place + 1,
+        post: true,
+    };
+    let mut wire = MemoryWire::new(
+        alloc,
+        place,
+        replies,
+        Some(after),
+        turn.header.cut,
+        List::new(alloc),
+    );
+    if !turn.keeps {
+        wire.forget();
+    }
+    Ok(wire)
+}
+
+/// The track of a target before its first visit.
+pub(crate) fn new_track(alloc: Global, turn: Turn<'_>) -> Result<Track<MemoryWire>, Memory>
+    requires right { IsRightHeader turn.header.now }
+    requires few { turn.place < most_targets }
+    ensures { IfOk result (IsUnvisited turn.entry.place (script_followed turn.entry.keeps turn.entry.header.now turn.entry.target.now)) }
+{
+    let scraped = turn.target.target.copy()?;
     let to = collector(alloc)?;
-    let scrape = scrape_wire(alloc, header, target, number)?;
-    let post = post_wire(alloc, header, target, number)?;
-    match Track::new(alloc, scraped, to, settings(header), scrape, post) {
+    let scrape = scrape_wire(alloc, turn)?;
+    let post = post_wire(alloc, turn)?;
+    match Track::new(alloc, scraped, to, settings(turn.header), scrape, post) {
         Ok(track) => {
             track.facts();
             Ok(track)
@@ -90,17 +100,28 @@ pub(crate) fn give_up(tracks: Vec<Track<MemoryWire>>) {
     left.destroy_empty();
 }
 
-/// The tracks of a script's targets in order, before their first visits.
-pub(crate) fn new_tracks(alloc: Global, script: &Script) -> Result<Vec<Track<MemoryWire>>, Memory>
+/// The tracks of a script's targets in order, before their first visits. What they post is kept where that is asked
+/// for.
+pub(crate) fn new_tracks(
+    alloc: Global,
+    script: &Script,
+    keeps: bool,
+) -> Result<Vec<Track<MemoryWire>>, Memory>
     requires { IsRightScript script.now }
-    ensures are { IfOk result (λ tracks. AreTracks talking 0 (script_targets script.now.header script.now.targets) tracks.items) }
+    ensures are { IfOk result (λ tracks. AreTracks talking 0 (script_targets keeps script.now.header script.now.targets) tracks.items) }
     ensures unvisited { IfOk result (λ tracks. AreUnvisited tracks.items) }
 {
     let targets = script.targets.as_slice();
     let mut tracks = Vec::with_capacity(alloc, targets.len())?;
     let mut at = 0usize;
     while at < targets.len() {
-        match new_track(alloc, &script.header, &targets[at], at as u32) {
+        let turn = Turn {
+            header: &script.header,
+            target: &targets[at],
+            place: at as u32,
+            keeps,
+        };
+        match new_track(alloc, turn) {
             Ok(track) => {
                 tracks.push_reserved(track);
                 at += 1;
@@ -114,14 +135,14 @@ pub(crate) fn new_tracks(alloc: Global, script: &Script) -> Result<Vec<Track<Mem
     Ok(tracks)
 }
 
-/// The wires of a track. That these say how many talks they made is for the proof alone: their talks follow their
-/// plans.
-fn track_wires(track: Track<MemoryWire>) -> Shelved
+/// The wires of a track.
+pub(crate) fn track_wires(track: Track<MemoryWire>) -> Shelved
     ensures wires { AreWiresOf track result }
+    ensures track { IsTrack talking track }
 {
     let (scrape, post) = track.into_wires();
-    let _scrapes = scrape.finished();
-    let _posts = post.finished();
+    scrape.facts();
+    post.facts();
     Shelved { scrape, post }
 }
 

@@ -3,3 +3,4 @@ pub mod Laws
 mod PlanCases
 pub mod PlanLaws
 pub mod WorldCases
+pub mod Walks

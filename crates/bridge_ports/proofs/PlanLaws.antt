@@ -1,5 +1,5 @@
 -- How a wire in memory keeps its talks: what its calls owe to the definitions of wires.
-use Rattle.std.proofs.Common.{◌≡◌, ℕ, zero, suc, ◌+◌, ◌-◌, ◌≤◌, List, [], ◌∷◌, ◌++◌, length, take, drop, Option, Some, None, refl, sym, ap, ◌∙◌, arith, append-nil, inl, inr, subst}
+use Rattle.std.proofs.Common.{◌≡◌, ℕ, Bool, false, zero, suc, ◌+◌, ◌-◌, ◌≤◌, List, [], ◌∷◌, ◌++◌, length, take, drop, Option, Some, None, refl, sym, ap, ◌∙◌, arith, append-nil, inl, inr, subst}
 use Rattle.std.specs.Prelude.{◌≢◌, slice_get, Contains}
 use Rattle.std.proofs.lemmas.List.{take-append-drop}
 use Rattle.std.proofs.Math.Seq.{take-add, drop-append_seam}
@@ -13,7 +13,7 @@ use Rattle.bridge_ports.specs.declared.kept.Kept.{Kept}
 use Rattle.bridge_ports.specs.Talks.{Plan, reply_of, Spoken, nothing_said, talk_of, no_reply}
 use Rattle.bridge_ports.specs.declared.talk.Place.{Place}
 use Rattle.bridge_ports.specs.Keeping.{KeptState, kept_to}
-use Rattle.bridge_ports.specs.Plans.{MemoryState, reply_now, FailsBy, Fails, EndsAs, Follows, AreTalksOf, GoesOn, IsOfPlan, MayEnd, talk_ended, kept_talk, kept_talks, kept_now, memory_state, KeepsPlan, talk_at}
+use Rattle.bridge_ports.specs.Plans.{MemoryState, reply_now, FailsBy, Fails, EndsAs, Follows, AreTalksOf, GoesOn, IsOfPlan, MayEnd, talk_ended, kept_plan, kept_talk, kept_talks, kept_now, memory_state, KeepsPlan, talk_at}
 
 -- as many talks as are kept stand in front of the earlier ones
 pub length-kept_talks : (plan : Plan) (earlier : List Talk) (ks : List Kept) → length (kept_talks plan earlier ks) ≡ length ks + length earlier
@@ -32,8 +32,8 @@ kept_talks-push plan earlier (j ∷ ks) k = kept_talks-push plan (kept_talk plan
 
 -- a finished talk is told as the one that was under way, with its end
 pub kept_is : (plan : Plan) (earlier : ℕ) (k : Kept) (at : ℕ) → at ≡ (reply_of plan earlier).at
-    → kept_talk plan earlier k ≡ talk_of k.end (kept_now plan earlier at k.sent k.read)
-kept_is plan earlier k at is = λ i. record { at = sym is i; sent = k.sent; got = take k.read (reply_of plan earlier).got; end = k.end }
+    → kept_talk plan earlier k ≡ talk_of k.end (kept_now plan earlier at k.all.bytes k.read)
+kept_is plan earlier k at is = λ i. record { at = sym is i; sent = k.all.bytes; got = take k.read (reply_of plan earlier).got; end = k.end }
 
 -- a talk under way follows its reply
 pub follows_now : (reply : MemoryReply) (now : Spoken) (stage : Stage) → stage ≢ stages.Idle → GoesOn stage reply now → Follows reply now.at now.sent now.got
@@ -144,21 +144,21 @@ pub reply_kept : (plan : Plan) (ks : List Kept) → reply_of plan (length (kept_
 reply_kept plan ks = ap (reply_of plan) (length-kept plan ks)
 
 -- the talk under way, kept as a finished one, is told so
-pub talk_kept : (place : Place) (plan : Plan) (faults calls readies : ℕ) (lean : Option ℕ) (t new : KeptState) (end : End)
+pub talk_kept : (place : Place) (plan : Bool → Plan) (faults calls readies : ℕ) (lean : Option ℕ) (t new : KeptState) (end : End)
     → KeepsPlan plan t → MayEnd end (memory_state place plan faults calls readies lean t) → new ≡ kept_to end t
     → memory_state place plan faults calls readies lean new ≡ talk_ended end (memory_state place plan faults calls readies lean t)
 talk_kept place plan faults calls readies lean t new end x may is =
     ap (memory_state place plan faults calls readies lean) is
     ∙ ap (λ (talks : List Talk). record (memory_state place plan faults calls readies lean t) { talks = talks; stage = stages.Idle; now = nothing_said }) told
   where
-    told : kept_talks plan [] (t.kept ++ record { sent = t.sent; read = t.read; end = end } ∷ []) ≡ talk_of end (kept_now plan (length t.kept) t.at t.sent t.read) ∷ kept_talks plan [] t.kept
-    told = kept_talks-push plan [] t.kept (record { sent = t.sent; read = t.read; end = end })
-        ∙ ap (λ (n : ℕ). kept_talk plan n (record { sent = t.sent; read = t.read; end = end }) ∷ kept_talks plan [] t.kept) (length-kept plan t.kept)
-        ∙ ap (λ (talk : Talk). talk ∷ kept_talks plan [] t.kept) (kept_is plan (length t.kept) (record { sent = t.sent; read = t.read; end = end }) t.at (reading_is (reply_of plan (length (kept_talks plan [] t.kept))) (kept_now plan (length t.kept) t.at t.sent t.read) t.stage (is_talking (memory_state place plan faults calls readies lean t) end may) x.follows.present
-        ∙ ap (λ (r : MemoryReply). r.at) (reply_kept plan t.kept)))
+    told : kept_talks (plan t.keeps) [] (t.kept ++ record { all = record { bytes = t.sent }; sent = t.held; read = t.read; end = end } ∷ []) ≡ talk_of end (kept_now (plan t.keeps) (length t.kept) t.at t.sent t.read) ∷ kept_talks (plan t.keeps) [] t.kept
+    told = kept_talks-push (plan t.keeps) [] t.kept (record { all = record { bytes = t.sent }; sent = t.held; read = t.read; end = end })
+        ∙ ap (λ (n : ℕ). kept_talk (plan t.keeps) n (record { all = record { bytes = t.sent }; sent = t.held; read = t.read; end = end }) ∷ kept_talks (plan t.keeps) [] t.kept) (length-kept (plan t.keeps) t.kept)
+        ∙ ap (λ (talk : Talk). talk ∷ kept_talks (plan t.keeps) [] t.kept) (kept_is (plan t.keeps) (length t.kept) (record { all = record { bytes = t.sent }; sent = t.held; read = t.read; end = end }) t.at (reading_is (reply_of (plan t.keeps) (length (kept_talks (plan t.keeps) [] t.kept))) (kept_now (plan t.keeps) (length t.kept) t.at t.sent t.read) t.stage (is_talking (memory_state place plan faults calls readies lean t) end may) x.follows.present
+        ∙ ap (λ (r : MemoryReply). r.at) (reply_kept (plan t.keeps) t.kept)))
 
 -- what a wire in memory keeps holds still, once the talk under way ended
-pub plan_kept : (place : Place) (plan : Plan) (faults calls readies : ℕ) (lean : Option ℕ) (t new : KeptState) (end : End)
+pub plan_kept : (place : Place) (plan : Bool → Plan) (faults calls readies : ℕ) (lean : Option ℕ) (t new : KeptState) (end : End)
     → KeepsPlan plan t → MayEnd end (memory_state place plan faults calls readies lean t) → new ≡ kept_to end t → KeepsPlan plan new
 plan_kept place plan faults calls readies lean t new end x may is = record {
   follows = subst IsOfPlan (sym (talk_kept place plan faults calls readies lean t new end x may is))
@@ -179,13 +179,13 @@ pub reply_past : (plan : Plan) (ks : List Kept) → slice_get plan.replies (leng
 reply_past plan ks none past = rw (length-kept plan ks, none, past) refl
 
 -- a talk that is connected follows its reply still, where that has a connection
-pub plan_connected : (plan : Plan) (t new : KeptState) → KeepsPlan plan t → t.stage ≡ stages.Begun → (reply_of plan (length (kept_talks plan [] t.kept))).end ≢ ConnectFailed
+pub plan_connected : (plan : Bool → Plan) (t new : KeptState) → KeepsPlan plan t → t.stage ≡ stages.Begun → (reply_of (plan t.keeps) (length (kept_talks (plan t.keeps) [] t.kept))).end ≢ ConnectFailed
     → new ≡ record t { stage = stages.Connected } → KeepsPlan plan new
 plan_connected plan t new x begun some e = subst (KeepsPlan plan) (sym e) (record {
   follows = record {
     some_bytes = x.follows.some_bytes;
     past = x.follows.past;
-    present = (follows_now (reply_of plan (length (kept_talks plan [] t.kept))) (kept_now plan (length t.kept) t.at t.sent t.read) t.stage (λ (idle : t.stage ≡ stages.Idle). absurd (cc (begun, idle))) x.follows.present, some);
+    present = (follows_now (reply_of (plan t.keeps) (length (kept_talks (plan t.keeps) [] t.kept))) (kept_now (plan t.keeps) (length t.kept) t.at t.sent t.read) t.stage (λ (idle : t.stage ≡ stages.Idle). absurd (cc (begun, idle))) x.follows.present, some);
   };
   within = x.within;
 })
@@ -200,26 +200,26 @@ follows_read plan t more some x =
     subst (Follows whole t.at t.sent) (sym (first more)) (follows_on whole t.at t.sent t.read some (subst (Follows whole t.at t.sent) (first t.read) x) more)
 
 -- so does one that reads on
-pub plan_read : (plan : Plan) (t new : KeptState) (count : ℕ) → KeepsPlan plan t → t.stage ≡ stages.Connected → t.read + count ≤ length (reply_of plan (length t.kept)).got
+pub plan_read : (plan : Bool → Plan) (t new : KeptState) (count : ℕ) → KeepsPlan plan t → t.stage ≡ stages.Connected → t.read + count ≤ length (reply_of (plan t.keeps) (length t.kept)).got
     → new ≡ record t { read = t.read + count } → KeepsPlan plan new
 plan_read plan t new count x connected fits e = subst (KeepsPlan plan) (sym e) (record {
   follows = record {
     some_bytes = x.follows.some_bytes;
     past = x.follows.past;
-    present = subst (λ (s : Stage). GoesOn s (reply_of plan (length (kept_talks plan [] t.kept))) (kept_now plan (length t.kept) t.at t.sent (t.read + count))) (sym connected)
-        (let p = subst (λ (s : Stage). GoesOn s (reply_of plan (length (kept_talks plan [] t.kept))) (kept_now plan (length t.kept) t.at t.sent t.read)) connected x.follows.present in
-        (follows_read plan t (t.read + count) p.1 p.0, p.1));
+    present = subst (λ (s : Stage). GoesOn s (reply_of (plan t.keeps) (length (kept_talks (plan t.keeps) [] t.kept))) (kept_now (plan t.keeps) (length t.kept) t.at t.sent (t.read + count))) (sym connected)
+        (let p = subst (λ (s : Stage). GoesOn s (reply_of (plan t.keeps) (length (kept_talks (plan t.keeps) [] t.kept))) (kept_now (plan t.keeps) (length t.kept) t.at t.sent t.read)) connected x.follows.present in
+        (follows_read (plan t.keeps) t (t.read + count) p.1 p.0, p.1));
   };
   within = fits;
 })
 
 -- more bytes that are read are told behind those before
-pub read_told : (place : Place) (plan : Plan) (faults calls readies : ℕ) (lean : Option ℕ) (t new : KeptState) (count : ℕ) (bytes : List ℕ)
-    → new ≡ record t { read = t.read + count } → bytes ≡ take count (drop t.read (reply_of plan (length t.kept)).got)
+pub read_told : (place : Place) (plan : Bool → Plan) (faults calls readies : ℕ) (lean : Option ℕ) (t new : KeptState) (count : ℕ) (bytes : List ℕ)
+    → new ≡ record t { read = t.read + count } → bytes ≡ take count (drop t.read (reply_of (plan t.keeps) (length t.kept)).got)
     → memory_state place plan faults calls readies lean new
-    ≡ record (memory_state place plan faults calls readies lean t) { now = record { at = t.at; sent = t.sent; got = take t.read (reply_of plan (length t.kept)).got ++ bytes } }
+    ≡ record (memory_state place plan faults calls readies lean t) { now = record { at = t.at; sent = t.sent; got = take t.read (reply_of (plan t.keeps) (length t.kept)).got ++ bytes } }
 read_told place plan faults calls readies lean t new count bytes is given =
-    let whole = (reply_of plan (length t.kept)).got in
+    let whole = (reply_of (plan t.keeps) (length t.kept)).got in
     let e : take (t.read + count) whole ≡ take t.read whole ++ bytes = reads_on whole t.read count ∙ ap (λ (b : List ℕ). take t.read whole ++ b) (sym given) in
     ap (memory_state place plan faults calls readies lean) is
     ∙ ap (λ (got : List ℕ). record (memory_state place plan faults calls readies lean t) { now = record { at = t.at; sent = t.sent; got = got } }) e
@@ -230,3 +230,39 @@ pub number_kept : (plan : Plan) (ks : List Kept) (number : ℕ) (k : Kept) → 1
 number_kept plan ks number k low high is =
     ap (slice_get (kept_talks plan [] ks)) (ap (λ (n : ℕ). n - number) (length-kept plan ks))
     ∙ kept_at plan [] ks (number - 1) (length ks - number) (number - 1) k is (omega arith) (omega arith)
+
+-- what is told of talks does not depend on whether what is sent is kept
+talks_told : (plan : Plan) (keeps : Bool) (earlier : List Talk) (ks : List Kept) → kept_talks (record plan { keeps = keeps }) earlier ks ≡ kept_talks plan earlier ks
+talks_told plan keeps earlier [] = refl
+talks_told plan keeps earlier (k ∷ ks) = talks_told plan keeps (kept_talk plan (length earlier) k ∷ earlier) ks
+
+-- nor does whether they follow the plan
+talks_follow : (plan : Plan) (keeps : Bool) (talks : List Talk) → AreTalksOf plan talks → AreTalksOf (record plan { keeps = keeps }) talks
+talks_follow plan keeps [] are = tt
+talks_follow plan keeps (talk ∷ earlier) are = (are.0, talks_follow plan keeps earlier are.1)
+
+-- a wire that keeps nothing from now on tells the same
+pub forgotten_told : (place : Place) (replies : List MemoryReply) (after : Option MemoryReply) (most : ℕ) (failing : List ℕ) (faults calls readies : ℕ) (lean : Option ℕ) (t new : KeptState)
+    → new ≡ record t { keeps = false }
+    → memory_state place (kept_plan replies after most failing) faults calls readies lean new
+    ≡ record (memory_state place (kept_plan replies after most failing) faults calls readies lean t) { plan = kept_plan replies after most failing false }
+forgotten_told place replies after most failing faults calls readies lean t new is =
+    let plan = kept_plan replies after most failing in
+    ap (memory_state place plan faults calls readies lean) is
+    ∙ ap (λ (talks : List Talk). record (memory_state place plan faults calls readies lean t) { plan = plan false; talks = talks }) (talks_told (plan t.keeps) false [] t.kept)
+
+-- and its talks follow the plan still
+pub forgotten_follows : (replies : List MemoryReply) (after : Option MemoryReply) (most : ℕ) (failing : List ℕ) (t new : KeptState)
+    → KeepsPlan (kept_plan replies after most failing) t → new ≡ record t { keeps = false } → KeepsPlan (kept_plan replies after most failing) new
+forgotten_follows replies after most failing t new x is =
+    let plan = kept_plan replies after most failing in
+    let told = talks_told (plan t.keeps) false [] t.kept in
+    let now = kept_now (plan t.keeps) (length t.kept) t.at t.sent t.read in
+    subst (KeepsPlan plan) (sym is) (record {
+      follows = record {
+        some_bytes = x.follows.some_bytes;
+        past = subst (AreTalksOf (plan false)) (sym told) (talks_follow (plan t.keeps) false (kept_talks (plan t.keeps) [] t.kept) x.follows.past);
+        present = subst (λ (talks : List Talk). GoesOn t.stage (reply_of (plan t.keeps) (length talks)) now) (sym told) x.follows.present;
+      };
+      within = x.within;
+    })

@@ -40,7 +40,7 @@ file_of files path = option_map (λ (f : FileState). f.bytes) (find (λ (f : Fil
 
 -- a plan without replies
 abbrev pub no_plan : Plan
-no_plan = record { replies = []; after = None; most = 1; failing = [] }
+no_plan = record { replies = []; after = None; most = 1; failing = []; keeps = true }
 
 -- the pair of a number that none was given for
 abbrev pub bare_pair : ℕ → Option (MemoryState × MemoryState)

@@ -1,6 +1,6 @@
 -- Wires in memory: what their type keeps of the talks that they made.
 -- The bridge's own.
-use Rattle.std.specs.Prelude.{◌≡◌, ◌≢◌, ℕ, ◌+◌, ◌-◌, ◌^◌, ◌≤◌, ◌⊎◌, min, List, [], ◌∷◌, ◌++◌, length, take, drop, slice_get, Contains, Option, Some, None, ⊤}
+use Rattle.std.specs.Prelude.{◌≡◌, ◌≢◌, ℕ, ◌+◌, ◌-◌, ◌^◌, ◌≤◌, ◌⊎◌, min, Bool, List, [], ◌∷◌, ◌++◌, length, take, drop, slice_get, Contains, Option, Some, None, ⊤}
 use Rattle.bridge_ports.specs.declared.talk.End.{End}
 use Rattle.bridge_ports.specs.declared.talk.End.TheVariants.{ConnectFailed, WriteFailed, ReadFailed, Ended, Left}
 use Rattle.bridge_ports.specs.declared.talk.Talk.{Talk}
@@ -28,7 +28,7 @@ pub record MemoryState : Type 0 where
   pub talks : List Talk
   pub now : Spoken
 
--- what is seen of it as a wire: it tells all
+-- what is seen of it as a wire: it tells all, kept or not
 abbrev pub seen_of : MemoryState → WireState
 seen_of m = record {
   place = m.place;
@@ -148,28 +148,28 @@ talk_at talks number = slice_get talks (length talks - number)
 
 -- ---- how a wire in memory keeps its talks
 
--- the talk that so many talks went before, as it is kept: its reply is not copied
+-- the talk that so many talks went before, as it is told: its reply is not copied
 abbrev pub kept_talk : Plan → ℕ → Kept → Talk
-kept_talk plan earlier k = record { at = (reply_of plan earlier).at; sent = k.sent; got = take k.read (reply_of plan earlier).got; end = k.end }
+kept_talk plan earlier k = record { at = (reply_of plan earlier).at; sent = k.all.bytes; got = take k.read (reply_of plan earlier).got; end = k.end }
 
 -- behind these talks, those that are kept in their order
 abbrev pub kept_talks : Plan → List Talk → List Kept → List Talk
 kept_talks plan earlier [] = earlier
 kept_talks plan earlier (k ∷ ks) = kept_talks plan (kept_talk plan (length earlier) k ∷ earlier) ks
 
--- the plan of a wire that was made so
-abbrev pub kept_plan : List MemoryReply → Option MemoryReply → ℕ → List ℕ → Plan
-kept_plan replies after most failing = record { replies = replies; after = after; most = most; failing = failing }
+-- the plan of a wire that was made so, by whether what is sent is kept
+abbrev pub kept_plan : List MemoryReply → Option MemoryReply → ℕ → List ℕ → Bool → Plan
+kept_plan replies after most failing keeps = record { replies = replies; after = after; most = most; failing = failing; keeps = keeps }
 
 -- the talk under way, behind so many talks, as it is kept
 abbrev pub kept_now : Plan → ℕ → ℕ → List ℕ → ℕ → Spoken
 kept_now plan earlier at sent read = record { at = at; sent = sent; got = take read (reply_of plan earlier).got }
 
 -- what is seen of the fields of a wire in memory
-abbrev pub memory_state : Place → Plan → ℕ → ℕ → ℕ → Option ℕ → KeptState → MemoryState
+abbrev pub memory_state : Place → (Bool → Plan) → ℕ → ℕ → ℕ → Option ℕ → KeptState → MemoryState
 memory_state place plan faults calls readies lean t = record {
   place = place;
-  plan = plan;
+  plan = plan t.keeps;
   faults = faults;
   calls = calls;
   readies = readies;
@@ -178,14 +178,14 @@ memory_state place plan faults calls readies lean t = record {
   room = t.room;
   stage = t.stage;
   left = t.left;
-  talks = kept_talks plan [] t.kept;
-  now = kept_now plan (length t.kept) t.at t.sent t.read;
+  talks = kept_talks (plan t.keeps) [] t.kept;
+  now = kept_now (plan t.keeps) (length t.kept) t.at t.sent t.read;
 }
 
 -- the kept talks follow the plan, and no more was read than the reply under way has
-pub record KeepsPlan (plan : Plan) (t : KeptState) : Type 0 where
-  pub follows : FollowsPlan plan (kept_talks plan [] t.kept) t.stage (kept_now plan (length t.kept) t.at t.sent t.read)
-  pub within : t.read ≤ length (reply_of plan (length t.kept)).got
+pub record KeepsPlan (plan : Bool → Plan) (t : KeptState) : Type 0 where
+  pub follows : FollowsPlan (plan t.keeps) (kept_talks (plan t.keeps) [] t.kept) t.stage (kept_now (plan t.keeps) (length t.kept) t.at t.sent t.read)
+  pub within : t.read ≤ length (reply_of (plan t.keeps) (length t.kept)).got
 
 -- how often `ready` was called, and which of its calls answers want of memory, stay
 pub record KeepsReadies (old new : MemoryState) : Type 0 where

@@ -1,6 +1,6 @@
 -- Talks over a wire, and what a wire is: a client that connects anew for each request, writes it, and reads the reply.
 -- RFC 9112, section 9 (one request and one reply on each connection, "Connection: close"); the counts and conditions are the bridge's own.
-use Rattle.std.specs.Prelude.{◌≡◌, ℕ, ◌-◌, ◌≤◌, List, [], ◌∷◌, ◌++◌, length, slice_get, Option, Some, None, option_map, unwrap_or, ⊤}
+use Rattle.std.specs.Prelude.{◌≡◌, ℕ, ◌-◌, ◌≤◌, Bool, List, [], ◌∷◌, ◌++◌, length, slice_get, Option, Some, None, option_map, unwrap_or, ⊤}
 use Rattle.std.specs.Option.{option_or}
 use Rattle.bridge_ports.specs.declared.talk.End.{End}
 use Rattle.bridge_ports.specs.declared.talk.End.TheVariants.{ConnectFailed, Ended, Left}
@@ -12,12 +12,13 @@ use Rattle.bridge_ports.specs.declared.talk.Stage.TheVariants as stages
 
 -- ---- plans: what a wire in memory is to answer
 
--- the replies in order, the one past them, the most bytes that one read hands out, and the numbers of the calls that fail
+-- the replies in order, the one past them, the most bytes that one read hands out, the numbers of the calls that fail, and whether what is sent is kept, so that it can be asked for
 pub record Plan : Type 0 where
   pub replies : List MemoryReply
   pub after : Option MemoryReply
   pub most : ℕ
   pub failing : List ℕ
+  pub keeps : Bool
 
 -- what is answered where no reply is left: no connection, at 0
 abbrev pub no_reply : MemoryReply

@@ -1,8 +1,10 @@
-//! Talks as a wire in memory keeps them, in memory that is taken beforehand.
-ghost use Rattle.std.specs.Prelude.{◌≡◌, ◌≢◌, ◌+◌, ◌-◌, ◌^◌, ◌<◌, ◌≤◌, [], ◌∷◌, ◌++◌, All, IfOk, OnOk, OnErr, length, vec_len};
+//! Talks as a wire in memory keeps them, in memory that is taken beforehand: with what was sent, or
+//! without it.
+ghost use Rattle.std.specs.Prelude.{◌≡◌, ◌≢◌, ◌+◌, ◌-◌, ◌^◌, ◌<◌, ◌≤◌, [], All, true, false, IfOk, OnOk, OnErr, length, vec_len};
 ghost use Rattle.bridge_ports.specs.declared.talk.Stage.TheVariants as stages;
-ghost use Rattle.bridge_ports.specs.Keeping.{IsSpare};
+ghost use Rattle.bridge_ports.specs.Keeping.{IsSpare, IsAllKept, kept_of};
 
+use crate::all_bytes::{AllBytes, Piece};
 use crate::talk::{End, Stage};
 use label_sets::{Bytes, Memory};
 use std::alloc::Global;
@@ -12,6 +14,9 @@ use std::mem;
 /// A finished talk: what was sent, how many bytes of its reply were read, and how it ended.
 #[derive(Drop)]
 pub(crate) struct Kept {
+    /// All bytes that were sent, which only proofs read.
+    pub(crate) all: AllBytes,
+    /// These bytes where the wire keeps them, else none.
     pub(crate) sent: Bytes,
     pub(crate) read: usize,
     pub(crate) end: End,
@@ -25,16 +30,21 @@ pub(crate) struct KeptTalks {
     /// A buffer for each talk that is allowed.
     spares: Vec<Vec<u8>>,
     room: u64,
+    /// Whether what is sent is kept.
+    keeps: bool,
     stage: Stage,
     at: u64,
-    sent: Vec<u8>,
+    /// All bytes that were sent in the talk under way, which only proofs read.
+    all: AllBytes,
+    /// These bytes where they are kept, else none.
+    held: Vec<u8>,
     read: usize,
     left: u64,
 }
 
 impl Model for KeptTalks {
     ghost use Rattle.std.specs.Prelude.{vec_len};
-    ghost use Rattle.bridge_ports.specs.Keeping.{KeptState, KeepsRoom};
+    ghost use Rattle.bridge_ports.specs.Keeping.{KeptState, KeepsRoom, KeepsBytes};
 
     ghost Value = { KeptState };
 
@@ -42,18 +52,21 @@ impl Model for KeptTalks {
       kept = t.kept.items;
       allowed = vec_len t.spares;
       room = t.room;
+      keeps = t.keeps;
       stage = t.stage;
       at = t.at;
-      sent = t.sent.items;
+      sent = t.all.bytes;
+      held = t.held.items;
       read = t.read;
       left = t.left;
     } };
 
-    ghost invariant = { λ t. KeepsRoom t.stage t.room t.left t.kept t.spares t.sent };
+    ghost invariant = { λ t. KeepsRoom t.keeps t.stage t.room t.left t.kept t.spares t.held
+        × KeepsBytes t.keeps t.kept.items t.all.bytes t.held.items };
 }
 
 impl KeptTalks {
-    ghost use Rattle.bridge_ports.specs.Keeping.{no_talks, kept_to};
+    ghost use Rattle.bridge_ports.specs.Keeping.{no_talks, kept_sent, kept_to};
 
     /// No talks. It takes no memory.
     pub(crate) fn new(alloc: Global) -> KeptTalks
@@ -64,17 +77,34 @@ impl KeptTalks {
             kept: Vec::new(alloc),
             spares: Vec::new(alloc),
             room: 0,
+            keeps: true,
             stage: Stage::Idle,
             at: 0,
-            sent: Vec::new(alloc),
+            all: AllBytes::new(),
+            held: Vec::new(alloc),
             read: 0,
             left: 0,
         }
     }
 
+    /// From now on nothing is kept of what is sent.
+    pub(crate) fn forget(&mut self)
+        ensures { self.new ≡ record self.old { keeps = false } }
+    {
+        self.keeps = false;
+    }
+
+    /// Whether what is sent is kept.
+    pub(crate) fn keeps(&self) -> bool
+        ensures { result ≡ self.now.keeps }
+    {
+        self.keeps
+    }
+
     /// The finished talks in their order.
     pub(crate) fn finished(&self) -> &[Kept]
-        ensures { result.now ≡ self.now.kept }
+        ensures talks { result.now ≡ self.now.kept }
+        ensures whole { self.now.keeps ≡ true → All IsAllKept result.now }
     {
         self.kept.as_slice()
     }
@@ -93,13 +123,14 @@ impl KeptTalks {
         self.read
     }
 
-    /// Takes the room of `count` talks of at most `room` sent bytes each.
+    /// Takes the room of `count` talks of at most `room` sent bytes each; where nothing is kept, none
+    /// for the bytes.
     pub(crate) fn ready(&mut self, alloc: Global, count: u32, room: u64) -> Result<(), Memory>
         requires { self.old.stage ≡ stages.Idle }
         ensures done { OnOk result (self.new ≡ record self.old { allowed = count; room = room }) }
         ensures refused { OnErr result (self.new ≡ self.old) }
     {
-        let spares = spare_buffers(alloc, count, room)?;
+        let spares = spare_buffers(alloc, count, kept_count(self.keeps, room))?;
         self.kept.reserve(count as usize)?;
         self.spares = spares;
         self.room = room;
@@ -115,11 +146,13 @@ impl KeptTalks {
           stage = stages.Begun;
           at = at;
           sent = [];
+          held = [];
           read = 0;
           left = self.old.room;
         } }
     {
-        self.sent = self.spares.pop().unwrap();
+        self.all = AllBytes::new();
+        self.held = self.spares.pop().unwrap();
         self.stage = Stage::Begun;
         self.at = at;
         self.read = 0;
@@ -134,14 +167,15 @@ impl KeptTalks {
         self.stage = Stage::Connected;
     }
 
-    /// Keeps bytes that were sent.
+    /// Takes note of bytes that were sent, and keeps them where that is wanted.
     pub(crate) fn send(&mut self, piece: &[u8])
         requires connected { self.old.stage ≡ stages.Connected }
         requires fits { length piece.now ≤ self.old.left }
-        ensures { self.new ≡ record self.old
-            { sent = self.old.sent ++ piece.now; left = self.old.left - length piece.now } }
+        ensures { self.new ≡ kept_sent piece.now self.old }
     {
-        self.sent.extend_from_slice(piece).unwrap();
+        let count = kept_count(self.keeps, piece.len() as u64) as usize;
+        self.held.extend_from_slice(&piece[..count]).unwrap();
+        self.all = self.all.and(&Piece { bytes: piece });
         self.left -= piece.len() as u64;
     }
 
@@ -158,9 +192,11 @@ impl KeptTalks {
         requires { self.old.stage ≢ stages.Idle }
         ensures { self.new ≡ kept_to end self.old }
     {
-        let sent = mem::replace(&mut self.sent, Vec::new(self.alloc));
+        let all = mem::replace(&mut self.all, AllBytes::new());
+        let held = mem::replace(&mut self.held, Vec::new(self.alloc));
         self.kept.push_reserved(Kept {
-            sent: Bytes::from_vec(sent),
+            all,
+            sent: Bytes::from_vec(held),
             read: self.read,
             end,
         });
@@ -168,6 +204,14 @@ impl KeptTalks {
         self.at = 0;
         self.read = 0;
     }
+}
+
+// Of so many bytes so many are kept: all or none.
+fn kept_count(keeps: bool, count: u64) -> u64
+    ensures kept { result ≡ kept_of keeps count }
+    ensures few { result ≤ count }
+{
+    if keeps { count } else { 0 }
 }
 
 // So many empty buffers of so many bytes each.

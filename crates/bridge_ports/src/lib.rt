@@ -3,6 +3,7 @@
 //! library's readers and writers.
 #![tactic(auto)]
 
+mod all_bytes;
 mod copy_front;
 mod door;
 mod kept;
@@ -21,6 +22,7 @@ mod wire;
 mod world;
 mod writing;
 
+pub use all_bytes::{AllBytes, Piece};
 pub use door::Door;
 pub use memory_door::{MemoryConn, MemoryDoor};
 pub use memory_sink::MemorySink;

@@ -1,5 +1,5 @@
 //! A wire over replies in memory.
-ghost use Rattle.std.specs.Prelude.{◌≡◌, ℕ, ◌<◌, ◌≤◌, ◌↔◌, [], ◌++◌, true, Option, Some, None, IsErr, IfOk, OnOk, OnErr, IsSomeAnd, Contains, length, take, min};
+ghost use Rattle.std.specs.Prelude.{◌≡◌, ℕ, ◌<◌, ◌≤◌, ◌↔◌, [], ◌++◌, true, false, Option, Some, None, is_some, IsErr, IfSome, IfOk, OnOk, OnErr, IsSomeAnd, Contains, length, take, min};
 ghost use Rattle.std.specs.Io.{ReadsAtMost, WritesAtMost};
 ghost use Rattle.bridge_ports.specs.Causes.{HasCause};
 ghost use Rattle.bridge_ports.specs.InMemory.{one_more, most_at_once};
@@ -66,7 +66,7 @@ impl MemoryWire {
     ) -> MemoryWire
         requires { 1 ≤ most }
         ensures { result ≡ new_wire place
-            (record { replies = replies; after = after; most = most; failing = failing }) }
+            (record { replies = replies; after = after; most = most; failing = failing; keeps = true }) }
     {
         MemoryWire {
             place,
@@ -89,20 +89,30 @@ impl MemoryWire {
         self.replies.as_slice()
     }
 
-    /// How many talks are finished; each is one that the reply of its number gives.
+    /// How many talks are finished.
     pub fn finished(&self) -> u64
-        ensures count { result ≡ length self.now.talks }
-        ensures planned { IsOfPlan self.now }
+        ensures { result ≡ length self.now.talks }
     {
         self.talks.finished().len() as u64
     }
 
-    /// What was sent in the finished talk of this number, counted from 1.
-    pub fn sent(&self, number: u64) -> &[u8]
-        requires { (1 ≤ number) × (number ≤ length self.now.talks) }
-        ensures { IsSomeAnd (talk_at self.now.talks number) (λ talk. result.now ≡ talk.sent) }
+    /// For the proof of a caller: each talk is one that the reply of its number gives. It does nothing.
+    pub fn facts(&self)
+        ensures { IsOfPlan self.now }
     {
-        self.kept(number).sent.as_slice()
+        let _calls = self.calls;
+    }
+
+    /// What was sent in the finished talk of this number, counted from 1, where the wire keeps it.
+    pub fn sent(&self, number: u64) -> Option<&[u8]>
+        requires { (1 ≤ number) × (number ≤ length self.now.talks) }
+        ensures bytes { IfSome result (λ bytes. IsSomeAnd (talk_at self.now.talks number) (λ talk. bytes.now ≡ talk.sent)) }
+        ensures kept { is_some result ≡ self.now.plan.keeps }
+    {
+        if !self.talks.keeps() {
+            return None;
+        }
+        Some(self.kept(number).sent.as_slice())
     }
 
     /// How the finished talk of this number, counted from 1, ended.
@@ -118,6 +128,14 @@ impl MemoryWire {
         ensures { self.new ≡ record self.old { lean = Some call } }
     {
         self.lean = Some(call);
+    }
+
+    /// From now on nothing is kept of what is sent. The wire's talks are as before, but
+    /// [`MemoryWire::sent`] tells nothing of them any more.
+    pub fn forget(&mut self)
+        ensures { self.new ≡ record self.old { plan = record self.old.plan { keeps = false } } }
+    {
+        self.talks.forget();
     }
 }
 
@@ -144,7 +162,8 @@ impl MemoryWire {
     // The finished talk of this number, counted from 1.
     fn kept(&self, number: u64) -> &Kept
         requires { (1 ≤ number) × (number ≤ length self.now.talks) }
-        ensures sent { IsSomeAnd (talk_at self.now.talks number) (λ talk. result.now.sent ≡ talk.sent) }
+        ensures sent { self.now.plan.keeps ≡ true
+            → IsSomeAnd (talk_at self.now.talks number) (λ talk. result.now.sent ≡ talk.sent) }
         ensures ended { IsSomeAnd (talk_at self.now.talks number) (λ talk. result.now.end ≡ talk.end) }
     {
         &self.talks.finished()[(number - 1) as usize]
@@ -212,7 +231,7 @@ impl Wire for MemoryWire {
     ghost state = { seen_of };
 
     /// Takes the room of `count` talks of at most `room` sent bytes each, but in the call that
-    /// `lean_at` names.
+    /// `lean_at` names. Once it forgets it takes none for the bytes.
     fn ready(&mut self, alloc: Global, count: u32, room: u64) -> Result<(), Memory>
         requires { (seen_of self.old).stage ≡ stages.Idle }
         ensures done { OnOk result (seen_of self.new ≡ made_ready count room (seen_of self.old)) }

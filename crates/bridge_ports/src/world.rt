@@ -1,5 +1,5 @@
 //! What the program finds outside: the trait of a world.
-ghost use Rattle.std.specs.Prelude.{◌≡◌, ℕ, List, ◌∷◌, Option, Some, None, true, false, IsSome, IfOk, OnOk, OnErr, ◌<◌, length};
+ghost use Rattle.std.specs.Prelude.{◌≡◌, ℕ, List, ◌∷◌, Option, Some, None, true, false, IsSome, is_some, IfOk, OnOk, OnErr, ◌<◌, length};
 ghost use Rattle.std.specs.Io.{ReadsAtMost};
 ghost use Rattle.bridge_ports.specs.Causes.{HasCause};
 ghost use Rattle.bridge_ports.specs.declared.talk.Address.{Address as AnyAddress};
@@ -127,4 +127,8 @@ pub trait World {
         ensures home { home self.new ≡ home self.old }
         ensures given { given self.new ≡ given self.old }
         ensures coming { coming self.new ≡ coming self.old };
+
+    /// Whether it has a shelf. Where it has none, a pair of wires that is handed in is given up.
+    fn has_shelf(&self) -> bool
+        ensures { result ≡ is_some (world self.now).shelf };
 }

@@ -1,6 +1,6 @@
 //! Tests of `packed_keys`.
-use label_sets::{Label, LabelSet, Memory, Name, Text};
-use packed_keys::{Keys, SampleKey, SeenKeys, SeenNames, SeenSets};
+use label_sets::{Kind, Label, LabelSet, List, Memory, Name, SeriesKey, Text};
+use packed_keys::{Keys, SampleKey, SeenKeys, SeenNames, SeenSets, SeriesPlaces};
 use std::alloc::{AllocError, Global};
 use std::test::Fail;
 
@@ -149,5 +149,51 @@ fn names_are_seen_once(rt: HostRuntime) -> Result<(), Fail> {
     let mut seen = SeenNames::new(alloc);
     assert_eq!(rt; two_names(alloc, &mut seen)?, [None, None, None, Some(0)]);
     assert!(rt; is_name(alloc, &seen, 1, "request")?);
+    Ok(())
+}
+
+/// A key of this name and kind.
+fn series(alloc: Global, name: &str, kind: Kind) -> Result<SeriesKey, Memory> {
+    Ok(SeriesKey {
+        name: Name::from_str(alloc, name)?,
+        kind,
+        unit: Text::from_str(alloc, "")?,
+        labels: set(alloc, "")?,
+    })
+}
+
+/// The places of counters of these names.
+fn places_of_counters(alloc: Global, names: &str) -> Result<SeriesPlaces, Memory> {
+    let mut keys = Vec::new(alloc);
+    for name in names.split_whitespace() {
+        keys.push(series(alloc, name, Kind::Counter)?)?;
+    }
+    Ok(SeriesPlaces::of(alloc, List::from_vec(keys)?))
+}
+
+/// The place of a key of this name and kind.
+fn place_of(
+    alloc: Global,
+    places: &mut SeriesPlaces,
+    name: &str,
+    kind: Kind,
+) -> Result<Option<usize>, Memory> {
+    let key = series(alloc, name, kind)?;
+    places.find(alloc, &key)
+}
+
+#[test]
+fn keys_of_a_kind_that_is_lacking_stand_nowhere(rt: HostRuntime) -> Result<(), Fail> {
+    let alloc = rt.alloc();
+    let mut places = places_of_counters(alloc, "a b c d e f g h i j")?;
+    assert_eq!(rt; place_of(alloc, &mut places, "f", Kind::Counter)?, Some(5));
+    assert_eq!(rt; place_of(alloc, &mut places, "b", Kind::Gauge)?, None);
+    assert_eq!(rt; place_of(alloc, &mut places, "h", Kind::Gauge)?, None);
+    assert_eq!(rt; place_of(alloc, &mut places, "b", Kind::Counter)?, Some(1));
+    assert_eq!(rt; place_of(alloc, &mut places, "j", Kind::Counter)?, Some(9));
+    assert_eq!(rt; place_of(alloc, &mut places, "j", Kind::Unknown)?, None);
+    assert_eq!(rt; place_of(alloc, &mut places, "k", Kind::Counter)?, None);
+    assert_eq!(rt; place_of(alloc, &mut places, "j", Kind::Gauge)?, None);
+    assert_eq!(rt; place_of(alloc, &mut places, "a", Kind::Counter)?, Some(0));
     Ok(())
 }

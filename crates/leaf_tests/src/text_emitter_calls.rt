@@ -122,3 +122,51 @@ fn keeps_what_was_there(rt: HostRuntime) -> Result<(), AllocError> {
     assert_eq!(rt; std::str::from_utf8(&out), Ok(expected));
     Ok(())
 }
+
+/// A text of any length.
+#[derive(Drop)]
+struct Long {
+    bytes: Vec<u8>,
+}
+
+impl Emit for Long {
+    ghost use Rattle.std.specs.Prelude.{◌++◌, codes};
+
+    ghost text = { λ l. codes "<" ++ l.bytes.items ++ codes ">" };
+
+    fn emit<E: Emitter>(&self, out: &mut E) {
+        out.put(b"<");
+        out.put(self.bytes.as_slice());
+        out.put(b">");
+    }
+}
+
+fn text_with(alloc: Global, len: usize) -> Result<Long, AllocError> {
+    let mut bytes = Vec::with_capacity(alloc, len)?;
+    for at in 0..len {
+        bytes.push((at % 251) as u8)?;
+    }
+    Ok(Long { bytes })
+}
+
+/// Whether a line is printed as far as an output has room, and the call says whether that was all of it.
+fn is_printed_into(alloc: Global, text: &Long, room: usize) -> Result<bool, AllocError> {
+    let mut line = Vec::new(alloc);
+    write(text, &mut line)?;
+    line.push(b'\n')?;
+    let mut out = MemorySink::new(alloc, room as u64, List::new(alloc))?;
+    let printed = print_line(text, &mut out).is_ok();
+    let end = line.len().min(room);
+    Ok(printed == (line.len() <= room) && out.held() == &line[..end])
+}
+
+#[test]
+fn prints_what_is_longer_than_its_room(rt: HostRuntime) -> Result<(), AllocError> {
+    for len in [32_765usize, 32_766, 32_767, 32_768, 32_769, 70_000] {
+        let text = text_with(rt.alloc(), len)?;
+        for room in [0usize, 1, 32_768, 69_000, 200_000] {
+            assert_eq!(rt; is_printed_into(rt.alloc(), &text, room)?, true);
+        }
+    }
+    Ok(())
+}

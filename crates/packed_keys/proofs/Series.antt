@@ -1,5 +1,5 @@
 -- Packed keys of series, and their places in a list.
-use Rattle.std.proofs.Common.{◌≡◌, ℕ, zero, suc, Bool, true, false, ◌||◌, List, [], ◌∷◌, ◌++◌, Option, Some, None, option_map, refl, sym, ap, subst, ◌∙◌, ◌==◌, arith, append_assoc}
+use Rattle.std.proofs.Common.{◌≡◌, ℕ, zero, suc, Bool, true, false, ◌||◌, ◌&&◌, List, [], ◌∷◌, ◌++◌, Option, Some, None, option_map, refl, sym, ap, subst, ◌∙◌, ◌==◌, arith, append_assoc}
 use Rattle.std.specs.Prelude.{MatchOption, slice_get, Result, Ok, Err, OnOk}
 use Rattle.std.specs.List.{list_any, IsDistinct, AllByRecursion}
 use Rattle.std.specs.Str.{bytes_eq}
@@ -9,11 +9,12 @@ use Rattle.std.proofs.lemmas.List.{map-append}
 use Rattle.std.proofs.lemmas.List.Folds.{list_any-append}
 use Rattle.std.proofs.lemmas.Option.{slice_get-map, same_Some}
 use Rattle.label_sets.specs.declared.series_key.SeriesKey.{SeriesKey}
-use Rattle.label_sets.specs.Keys.{kind_place, key_eq}
+use Rattle.label_sets.specs.Keys.{kind_place, kind_eq, key_eq}
+use Rattle.label_sets.specs.Labels.{label_sets_eq}
 use Rattle.label_sets.proofs.Laws.{kind_decides, key_decides, same_tests}
 use Rattle.byte_table.proofs.Laws.{among}
 use Rattle.packed_keys.specs.Packing.{part_bytes, labels_bytes, part_at, labels_in, series_bytes}
-use Rattle.packed_keys.specs.Places.{IsPlace, AreBytesOf}
+use Rattle.packed_keys.specs.Places.{IsPlace, AreBytesOf, is_of_kind, AreNotOfKind}
 use Rattle.packed_keys.proofs.Packed.{part_back, set_back}
 
 -- ---- no two keys have the same bytes
@@ -132,6 +133,20 @@ stands_at (k ∷ keys) key (suc at) e = rest (key_eq key k) (stands_at keys key 
 
 pub next_place : (keys : List SeriesKey) (key : SeriesKey) (at : ℕ) → slice_get keys at ≡ Some key → IsPlace keys key (Some at)
 next_place keys key at e = record { there = sym (stands_at keys key at e); place = λ once. e }
+
+-- a key of whose kind no key is stands nowhere
+no_kind : (keys : List SeriesKey) (key : SeriesKey) → AreNotOfKind keys key.kind → list_any (key_eq key) keys ≡ false
+no_kind [] key none = refl
+no_kind (k ∷ keys) key none = by (bytes_eq key.name k.name) (kind_eq key.kind k.kind) (no_kind keys key) none
+  where
+    by : (names kinds : Bool) → (AreNotOfKind keys key.kind → list_any (key_eq key) keys ≡ false) → (kinds || list_any (is_of_kind key.kind) keys) ≡ false
+        → ((names && kinds && bytes_eq key.unit k.unit && label_sets_eq key.labels k.labels) || list_any (key_eq key) keys) ≡ false
+    by names true rest none = absurd cc
+    by true false rest none = rest none
+    by false false rest none = rest none
+
+pub no_place : (keys : List SeriesKey) (key : SeriesKey) → AreNotOfKind keys key.kind → IsPlace keys key None
+no_place keys key none = record { there = sym (no_kind keys key none); place = λ once. tt }
 
 -- ---- packing
 

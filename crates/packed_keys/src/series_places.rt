@@ -1,11 +1,12 @@
 //! Where the keys of series stand in a list.
-ghost use Rattle.std.specs.Prelude.{◌≡◌, IfOk, IfSome, slice_get, Some};
-ghost use Rattle.packed_keys.specs.Places.{IsPlace, AreBytesOf};
+ghost use Rattle.std.specs.Prelude.{◌≡◌, false, IfOk, IfSome, slice_get, Some};
+ghost use Rattle.std.specs.Bool.{OnTrue};
+ghost use Rattle.packed_keys.specs.Places.{IsPlace, AreBytesOf, AreNotOfKind};
 
 use crate::key_row::{is_at, near};
-use crate::packing::put_series;
+use crate::packing::{kind_byte, put_series};
 use byte_table::ByteTable;
-use label_sets::{List, Memory, SeriesKey};
+use label_sets::{Kind, List, Memory, SeriesKey};
 use std::alloc::Global;
 use std::marker::Model;
 
@@ -21,7 +22,9 @@ pub struct SeriesPlaces {
     other: usize,
     /// Up to where keys were looked through, so that each is at most once.
     passed: usize,
-    /// The keys as bytes, once a key stood nowhere behind.
+    /// A kind of which no key is, once a key of it stood nowhere behind: such keys need no table.
+    lacking: Option<Kind>,
+    /// The keys as bytes, once another key stood nowhere behind.
     table: Option<ByteTable>,
     /// The room in which a key is packed.
     packed: Vec<u8>,
@@ -30,13 +33,13 @@ pub struct SeriesPlaces {
 impl Model for SeriesPlaces {
     ghost use Rattle.std.specs.Prelude as spec;
     ghost use Rattle.label_sets.specs.declared.series_key.SeriesKey.{SeriesKey as Key};
-    ghost use Rattle.packed_keys.specs.Places.{AreBytesOf as Are};
+    ghost use Rattle.packed_keys.specs.Places.{AreBytesOf as Are, AreNotOfKind as AreNot};
 
     ghost Value = { spec.List Key };
 
     ghost view = { λ p. p.keys };
 
-    ghost invariant = { λ p. spec.IfSome p.table (Are p.keys) };
+    ghost invariant = { λ p. spec.IfSome p.table (Are p.keys) × spec.IfSome p.lacking (AreNot p.keys) };
 }
 
 /// The place of a key from a place on, to the end.
@@ -68,6 +71,18 @@ fn table_of(
     Ok(table)
 }
 
+/// Whether a key is of this kind.
+fn has_kind(keys: &List<SeriesKey>, kind: Kind) -> bool
+    ensures { result ≡ false → AreNotOfKind keys.now kind }
+{
+    for key in keys.as_slice() {
+        if kind_byte(kind) == kind_byte(key.kind) {
+            return true;
+        }
+    }
+    false
+}
+
 /// The place of a key, by the table of the keys' bytes.
 fn place_of(
     keys: &List<SeriesKey>,
@@ -93,6 +108,7 @@ impl SeriesPlaces {
             next: 0,
             other: 0,
             passed: 0,
+            lacking: None,
             table: None,
             packed: Vec::new(alloc),
         }
@@ -128,13 +144,44 @@ impl SeriesPlaces {
         place_from(&self.keys, self.next.max(self.passed), key)
     }
 
+    /// Whether it is known that no key is of this kind.
+    fn lacks(&self, kind: Kind) -> bool
+        ensures { OnTrue result (AreNotOfKind self.now kind) }
+    {
+        match self.lacking {
+            Some(lacking) => kind_byte(lacking) == kind_byte(kind),
+            None => false,
+        }
+    }
+
+    /// Looks once whether no key is of this kind, and tells it where it is so.
+    fn look_for_kind(&mut self, kind: Kind) -> bool
+        ensures lacking { OnTrue result (AreNotOfKind self.old kind) }
+        ensures same { self.new ≡ self.old }
+    {
+        if self.table.is_some() || self.lacking.is_some() {
+            return false;
+        }
+        if has_kind(&self.keys, kind) {
+            return false;
+        }
+        self.lacking = Some(kind);
+        true
+    }
+
     /// The place of a key that is not near the last answer.
     fn find_far(&mut self, alloc: Global, key: &SeriesKey) -> Result<Option<usize>, Memory>
         ensures place { IfOk result (IsPlace self.old key.now) }
         ensures same { self.new ≡ self.old }
     {
+        if self.lacks(key.kind) {
+            return Ok(None);
+        }
         if let Some(at) = self.behind(key) {
             return Ok(Some(at));
+        }
+        if self.look_for_kind(key.kind) {
+            return Ok(None);
         }
         self.look_up(alloc, key)
     }

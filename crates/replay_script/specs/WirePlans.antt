@@ -1,6 +1,6 @@
 -- What the wires of a script's target answer: the plans of its two wires in memory.
 -- The bridge's own; the default reply after RFC 9112, sections 4 to 6.
-use Rattle.std.specs.Prelude.{[], ◌++◌, codes, Some, None}
+use Rattle.std.specs.Prelude.{Bool, true, [], ◌++◌, codes, Some, None}
 use Rattle.bridge_ports.specs.declared.talk.End.TheVariants.{Ended}
 use Rattle.bridge_ports.specs.declared.talk.MemoryReply.{MemoryReply}
 use Rattle.bridge_ports.specs.declared.talk.Address.{Address}
@@ -15,11 +15,11 @@ default_reply = record { at = 0; got = codes "HTTP/1.1 200 OK\r\n" ++ codes "Con
 
 -- the plan of a target's scrape wire
 abbrev pub scrape_plan : Header → ScriptTarget → Plan
-scrape_plan header t = record { replies = t.scrapes; after = None; most = header.cut; failing = [] }
+scrape_plan header t = record { replies = t.scrapes; after = None; most = header.cut; failing = []; keeps = true }
 
--- the plan of a target's post wire
-abbrev pub post_plan : Header → ScriptTarget → Plan
-post_plan header t = record { replies = t.posts; after = Some default_reply; most = header.cut; failing = [] }
+-- the plan of a target's post wire, by whether what is posted is kept
+abbrev pub post_plan : Bool → Header → ScriptTarget → Plan
+post_plan keeps header t = record { replies = t.posts; after = Some default_reply; most = header.cut; failing = []; keeps = keeps }
 
 -- where the bodies of a script are posted
 unfoldable pub script_collector : Address

@@ -226,11 +226,29 @@ fn memory_wire_answers_its_replies(rt: HostRuntime) -> Result<(), Fail> {
     assert_eq!(rt; one_talk(alloc, &mut wire, &mut into)?, (9, Some(2)));
     let mut talks = 0u64;
     for number in 1..=wire.finished() {
-        assert_eq!(rt; wire.sent(number), b"xyz".as_slice());
+        assert_eq!(rt; wire.sent(number), Some(b"xyz".as_slice()));
         assert_eq!(rt; wire.ended(number), End::Left);
         talks = number;
     }
     assert_eq!(rt; talks, 2);
+    Ok(())
+}
+
+// It takes no memory for what is sent, however much that may be.
+#[test]
+fn memory_wire_that_forgets_tells_its_talks(rt: HostRuntime) -> Result<(), Fail> {
+    let alloc = rt.alloc();
+    let mut into = [0u8; 8];
+    let mut wire = wire(alloc, b"abc", &[])?;
+    wire.forget();
+    wire.ready(alloc, 1, u64::MAX)?;
+    assert_eq!(rt; one_talk(alloc, &mut wire, &mut into)?, (7, Some(2)));
+    if wire.finished() == 1 {
+        assert_eq!(rt; wire.ended(1), End::Left);
+        assert!(rt; wire.sent(1).is_none());
+    } else {
+        assert!(rt; false);
+    }
     Ok(())
 }
 

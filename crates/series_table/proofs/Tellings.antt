@@ -5,7 +5,7 @@ use Rattle.bridge_ports.specs.declared.talk.Talk.{Talk}
 use Rattle.bridge_ports.specs.Talks.{ToldTalks, Tells}
 
 -- the talks that are told
-abbrev told_talks : Option ToldTalks → Option (List Talk)
+abbrev pub told_talks : Option ToldTalks → Option (List Talk)
 told_talks told = option_map (λ (t : ToldTalks). t.talks) told
 
 -- where it tells now it told before

@@ -1,5 +1,6 @@
 -- A visit that was made keeps what a track keeps, and is one event more.
-use Rattle.std.proofs.Common.{◌≡◌, ℕ, ◌<◌, Bool, false, suc, List, ◌∷◌, length, Option, Some, refl, sym, ap, subst, ◌∙◌, arith}
+use Rattle.std.proofs.Common.{◌≡◌, ℕ, ◌<◌, Bool, false, suc, List, ◌∷◌, length, Option, Some, None, refl, sym, ap, subst, ◌∙◌, arith}
+use Rattle.std.proofs.lemmas.Option.{none-some, same_Some}
 use Rattle.page_model.specs.declared.event.Event.{Event}
 use Rattle.page_model.specs.declared.event.Shown.{Shown}
 use Rattle.bridge_ports.specs.declared.talk.Talk.{Talk}
@@ -16,12 +17,12 @@ use Rattle.series_table.specs.declared.counts.Counts.{Counts}
 use Rattle.series_table.specs.declared.making.Prepared.{Prepared}
 use Rattle.series_table.specs.Talking.{Followed}
 use Rattle.series_table.specs.HttpTalks.{talking}
-use Rattle.series_table.specs.Emission.{tracking_of, post_text_after}
+use Rattle.series_table.specs.Emission.{tracking_of, IsEventOf, post_text_after}
 use Rattle.series_table.specs.Counting.{with_visit, visit_counts, has_failed}
-use Rattle.series_table.specs.Making.{IsMade, IsPrepared, point_counts}
-use Rattle.series_table.specs.Records.{Kept, IsTrack, IsDone, IsShownOf, BodiesOf, talks_of}
+use Rattle.series_table.specs.Making.{IsMade, IsPrepared, point_counts, whole_request}
+use Rattle.series_table.specs.Records.{Kept, IsTrack, IsDone, IsBodyOf, IsShownOf, BodiesOf, talks_of}
 use Rattle.series_table.specs.Keeping.{followed_by, kept_by}
-use Rattle.series_table.proofs.Tellings.{tells_before, tells_both, tells_on}
+use Rattle.series_table.proofs.Tellings.{told_talks, tells_before, tells_both, tells_on}
 use Rattle.series_table.proofs.Histories.{event_fits, run_fits, all_counted, visit_fits}
 use Rattle.series_table.proofs.Halting.{same_plans}
 use Rattle.series_table.proofs.Tallies.{counts_rise, same_tally, visits_rise}
@@ -39,7 +40,7 @@ tried most room text p m p1 last ready h = subst (λ (told : Option ToldTalks). 
 
 -- the text of an event
 event_text : (aim : Aim) (s p : WireState) (events : List Event) (e : Event) (f1 : Following) (made : Prepared) → IsMade aim (tracking_of (followed_by aim s.plan p.plan)) events e f1 made
-    → made.text ≡ post_text_after talking (followed_by aim s.plan p.plan) events e
+    → (whole_request made.text) ≡ post_text_after talking (followed_by aim s.plan p.plan) events e
 unfolding talking
 event_text aim s p events e f1 made m = m.text
 
@@ -47,11 +48,11 @@ event_text aim s p events e f1 made m = m.text
 record Facts (aim : Aim) (s0 s1 p0 p1 : WireState) (f0 f1 : Following) (shown : Shown) (second : Option Shown) (counts : Counts) (made : Prepared) (event : Event) (last : Try) : Type 0 where
   track : IsTrack talking (kept_by aim s0 p0 f0 shown second counts false)
   few : counts.visits < 1000000
-  prepared : IsPrepared aim s0 s1 p0 (made_ready aim.settings.tries (length made.text) p0) f0 f1 made event
+  prepared : IsPrepared aim s0 s1 p0 (made_ready aim.settings.tries (length (whole_request made.text)) p0) f0 f1 made event
   idle_post : p1.stage ≡ stages.Idle
   place_post : p1.place ≡ p0.place
   plan_post : p1.plan ≡ p0.plan
-  told_post : Tells (GrewByRun aim.settings.tries made.text last) p0.told p1.told
+  told_post : Tells (GrewByRun aim.settings.tries (whole_request made.text) last) p0.told p1.told
 
 -- the same target
 abbrev followed_before : Aim → WireState → WireState → Followed
@@ -81,7 +82,7 @@ bodies_of aim s0 s1 p0 p1 f0 f1 shown second counts made event last x scrapes po
     let r = x.track.history in
     let m = made_of aim s0 s1 p0 p1 f0 f1 shown second counts made event last x in
     let t = tells_before (GrewByEvent aim.settings.limit aim.settings.max_page aim.target.address event) s0.told s1.told scrapes x.prepared.scrape.told a in
-    let u = tells_before (GrewByRun aim.settings.tries made.text last) p0.told p1.told posts x.told_post b in
+    let u = tells_before (GrewByRun aim.settings.tries (whole_request made.text) last) p0.told p1.told posts x.told_post b in
     let run : GrewByRun aim.settings.tries (post_text_after talking f r.events event) last u.0 posts = subst (λ text. GrewByRun aim.settings.tries text last u.0 posts) (event_text aim s0 p0 r.events event f1 made m) u.2 in
     visit_fits f r.events r.posted t.0 scrapes u.0 posts event last (r.bodies t.0 u.0 t.1 u.1) t.2 run
 
@@ -148,11 +149,11 @@ did aim s0 s1 p0 p1 f0 f1 shown second counts made event last x =
         scrape_place = x.prepared.scrape.place;
         post_place = x.place_post;
         scrape_tells = tells_on (GrewByEvent aim.settings.limit aim.settings.max_page aim.target.address event) s0.told s1.told x.prepared.scrape.told;
-        post_tells = tells_on (GrewByRun aim.settings.tries made.text last) p0.told p1.told x.told_post;
+        post_tells = tells_on (GrewByRun aim.settings.tries (whole_request made.text) last) p0.told p1.told x.told_post;
       };
       told = λ scrapes posts a b new_scrapes new_posts c d. (
           let grew = tells_both (GrewByEvent aim.settings.limit aim.settings.max_page aim.target.address event) s0.told s1.told scrapes new_scrapes x.prepared.scrape.told a c in
-          let run = tells_both (GrewByRun aim.settings.tries made.text last) p0.told p1.told posts new_posts x.told_post b d in
+          let run = tells_both (GrewByRun aim.settings.tries (whole_request made.text) last) p0.told p1.told posts new_posts x.told_post b d in
           let own : GrewByRun aim.settings.tries (post_text_after talking f r.events event) last posts new_posts = subst (λ text. GrewByRun aim.settings.tries text last posts new_posts) (event_text aim s0 p0 r.events event f1 made m) run in
           record {
             earlier = r.events;
@@ -174,7 +175,7 @@ did aim s0 s1 p0 p1 f0 f1 shown second counts made event last x =
 
 facts_of : (aim : Aim) (s0 s1 p0 m p1 : WireState) (f0 f1 : Following) (shown : Shown) (second : Option Shown) (counts : Counts) (halted : Bool) (made : Prepared) (event : Event) (posted : Posted)
     → IsTrack talking (kept_by aim s0 p0 f0 shown second counts halted) → halted ≡ false → counts.visits < 1000000 → IsPrepared aim s0 s1 p0 m f0 f1 made event
-    → (done : IsPosting aim.settings.tries made.text m p1 posted) → Facts aim s0 s1 p0 p1 f0 f1 shown second counts made event done.last
+    → (done : IsPosting aim.settings.tries (whole_request made.text) m p1 posted) → Facts aim s0 s1 p0 p1 f0 f1 shown second counts made event done.last
 facts_of aim s0 s1 p0 m p1 f0 f1 shown second counts halted made event posted track working few prepared done = record {
   track = subst (λ b. IsTrack talking (kept_by aim s0 p0 f0 shown second counts b)) working track;
   few = few;
@@ -182,12 +183,12 @@ facts_of aim s0 s1 p0 m p1 f0 f1 shown second counts halted made event posted tr
   idle_post = done.free;
   place_post = done.place ∙ ap (λ (w : WireState). w.place) prepared.room;
   plan_post = done.plan ∙ ap (λ (w : WireState). w.plan) prepared.room;
-  told_post = tried aim.settings.tries (length made.text) made.text p0 m p1 done.last prepared.room done.told;
+  told_post = tried aim.settings.tries (length (whole_request made.text)) (whole_request made.text) p0 m p1 done.last prepared.room done.told;
 }
 
 -- what a track keeps stays where a visit was made
 pub track_goes_on : (aim : Aim) (s0 s1 p0 m p1 : WireState) (f0 f1 : Following) (shown : Shown) (second : Option Shown) (counts : Counts) (halted : Bool) (made : Prepared) (event : Event) (posted : Posted)
-    → IsTrack talking (kept_by aim s0 p0 f0 shown second counts halted) → halted ≡ false → counts.visits < 1000000 → IsPrepared aim s0 s1 p0 m f0 f1 made event → IsPosting aim.settings.tries made.text m p1 posted
+    → IsTrack talking (kept_by aim s0 p0 f0 shown second counts halted) → halted ≡ false → counts.visits < 1000000 → IsPrepared aim s0 s1 p0 m f0 f1 made event → IsPosting aim.settings.tries (whole_request made.text) m p1 posted
     → IsTrack talking (kept_by aim s1 p1 f1 made.shown (Some made.second) (with_visit counts made.failed made.points posted) halted)
 track_goes_on aim s0 s1 p0 m p1 f0 f1 shown second counts halted made event posted track working few prepared done =
     let x = facts_of aim s0 s1 p0 m p1 f0 f1 shown second counts halted made event posted track working few prepared done in
@@ -207,10 +208,29 @@ track_goes_on aim s0 s1 p0 m p1 f0 f1 shown second counts halted made event post
 
 -- what such a visit did
 pub visit_done : (aim : Aim) (s0 s1 p0 m p1 : WireState) (f0 f1 : Following) (shown : Shown) (second : Option Shown) (counts : Counts) (halted : Bool) (made : Prepared) (event : Event) (posted : Posted)
-    → IsTrack talking (kept_by aim s0 p0 f0 shown second counts halted) → halted ≡ false → counts.visits < 1000000 → IsPrepared aim s0 s1 p0 m f0 f1 made event → IsPosting aim.settings.tries made.text m p1 posted
+    → IsTrack talking (kept_by aim s0 p0 f0 shown second counts halted) → halted ≡ false → counts.visits < 1000000 → IsPrepared aim s0 s1 p0 m f0 f1 made event → IsPosting aim.settings.tries (whole_request made.text) m p1 posted
     → IsDone talking (kept_by aim s0 p0 f0 shown second counts halted) (kept_by aim s1 p1 f1 made.shown (Some made.second) (with_visit counts made.failed made.points posted) halted)
 visit_done aim s0 s1 p0 m p1 f0 f1 shown second counts halted made event posted track working few prepared done =
     let x = facts_of aim s0 s1 p0 m p1 f0 f1 shown second counts halted made event posted track working few prepared done in
     let base = did aim s0 s1 p0 p1 f0 f1 shown second counts made event done.last x in
     let posted_so = subst (λ p. IsDone talking (kept_by aim s0 p0 f0 shown second counts false) (kept_by aim s1 p1 f1 made.shown (Some made.second) (with_visit counts made.failed made.points p) false)) (sym done.result_is) base in
     subst (λ b. IsDone talking (kept_by aim s0 p0 f0 shown second counts b) (kept_by aim s1 p1 f1 made.shown (Some made.second) (with_visit counts made.failed made.points posted) b)) (sym working) posted_so
+
+-- ---- the body
+
+-- the event of a scrape is told by its new talk
+told_event : (f : Followed) (e : Event) (old new : Option ToldTalks) → Tells (GrewByEvent f.settings.limit f.settings.max_page f.target.address e) old new → (scrapes : List Talk) → told_talks old ≡ Some scrapes
+    → (talk : Talk) × (told_talks new ≡ Some (talk ∷ scrapes)) × IsEventOf talking f talk e
+told_event f e (Some old) (Some new) h scrapes is = (h.0, ap Some (h.1 ∙ ap (λ ts. h.0 ∷ ts) (same_Some old.talks scrapes is)), event_fits f h.0 e h.2)
+told_event f e (Some old) None h scrapes is = absurd h
+told_event f e None new h scrapes is = absurd (none-some scrapes is)
+
+-- a visit that was made gives its body
+pub gives_body : (aim : Aim) (s0 s1 p0 m p1 : WireState) (f0 f1 : Following) (shown shown_now : Shown) (second second_now : Option Shown) (counts counts_now : Counts) (halted halted_now : Bool) (made : Prepared) (event : Event)
+    → IsPrepared aim s0 s1 p0 m f0 f1 made event
+    → IsBodyOf talking (kept_by aim s0 p0 f0 shown second counts halted) (kept_by aim s1 p1 f1 shown_now second_now counts_now halted_now) made.text.body.items
+gives_body aim s0 s1 p0 m p1 f0 f1 shown shown_now second second_now counts counts_now halted halted_now made event prepared = record {
+  event = event;
+  told = λ scrapes is. told_event (followed_by aim s0.plan p0.plan) event s0.told s1.told prepared.scrape.told scrapes is;
+  text = λ earlier stands. (let made_so = prepared.made (tracking_of (followed_by aim s0.plan p0.plan)) earlier stands in (made_so.body, made_so.stands));
+}

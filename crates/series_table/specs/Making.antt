@@ -1,6 +1,6 @@
 -- What a visit makes before its posts.
 -- The bridge's own.
-use Rattle.std.specs.Prelude.{◌≡◌, ℕ, ◌+◌, ◌*◌, List, ◌∷◌, length, Option, Some, None, Result, Ok, Err}
+use Rattle.std.specs.Prelude.{◌≡◌, ℕ, ◌+◌, ◌*◌, List, ◌∷◌, ◌++◌, length, Option, Some, None, Result, Ok, Err}
 use Rattle.page_model.specs.declared.event.Event.{Event}
 use Rattle.page_model.specs.declared.event.Shown.{Shown}
 use Rattle.page_model.specs.Presence.{page_of_outcome}
@@ -16,6 +16,7 @@ use Rattle.scrape_client.specs.Scraping.{IsScrape, IsCutShort}
 use Rattle.series_table.specs.declared.aim.Aim.{Aim}
 use Rattle.series_table.specs.declared.making.Taken.{Taken}
 use Rattle.series_table.specs.declared.making.Prepared.{Prepared}
+use Rattle.series_table.specs.declared.post_text.PostText.{PostText}
 use Rattle.series_table.specs.declared.point_counts.PointCounts.{PointCounts}
 use Rattle.series_table.specs.Counting.{over_metrics, valued_in, unvalued_in, as_count, has_failed}
 use Rattle.series_table.specs.Records.{IsScrapedWithin}
@@ -28,6 +29,10 @@ due_after (Some first) visits interval = as_count (first + visits * interval)
 -- the points of a tree, counted
 abbrev pub point_counts : Request → PointCounts
 point_counts tree = record { valued = as_count (over_metrics valued_in tree); unvalued = as_count (over_metrics unvalued_in tree) }
+
+-- a request of two parts, whole
+abbrev pub whole_request : PostText → List ℕ
+whole_request t = t.head.items ++ t.body.items
 
 -- one scrape was made, and the state took its event
 pub record TookEvent (aim : Aim) (old new : WireState) (before after : Following) (taken : Taken) (event : Event) : Type 0 where
@@ -49,7 +54,8 @@ ShowsTwice s pages = (pages.1 ≡ pages.0) × ((target : Scraped) (t : Tracking)
 -- what was made of an event behind these earlier ones
 pub record IsMade (aim : Aim) (t : Tracking) (earlier : List Event) (event : Event) (after : Following) (p : Prepared) : Type 0 where
   pub stands : StandsFor aim.target t after (event ∷ earlier)
-  pub text : p.text ≡ post_request aim.to (request_text (request_after aim.target t earlier event))
+  pub text : whole_request p.text ≡ post_request aim.to (request_text (request_after aim.target t earlier event))
+  pub body : p.text.body.items ≡ request_text (request_after aim.target t earlier event)
   pub shown : p.shown ≡ latest_shown aim.target (event ∷ earlier)
   pub points : p.points ≡ point_counts (request_after aim.target t earlier event)
 
@@ -59,7 +65,7 @@ pub record IsPrepared (aim : Aim) (old new post_old post_new : WireState) (befor
   pub page : IsScrapedWithin aim.settings.limit (page_of_outcome event.outcome)
   pub failed : p.failed ≡ has_failed event
   pub second : p.second ≡ p.shown
-  pub room : post_new ≡ made_ready aim.settings.tries (length p.text) post_old
+  pub room : post_new ≡ made_ready aim.settings.tries (length (whole_request p.text)) post_old
   pub made : (t : Tracking) (earlier : List Event) → StandsFor aim.target t before earlier → IsMade aim t earlier event after p
 
 -- what comes of all that a visit does before its posts: nothing was posted

@@ -6,7 +6,8 @@ use Rattle.page_model.specs.declared.event.Shown.{Shown}
 use Rattle.page_model.specs.declared.page.Page.{Page}
 use Rattle.page_model.specs.Pages.{IsScrapedPage}
 use Rattle.page_model.specs.Presence.{page_of_outcome}
-use Rattle.target_core.specs.Events.{latest_shown}
+use Rattle.target_core.specs.Events.{request_after, latest_shown}
+use Rattle.otlp_json.specs.Texts.{request_text}
 use Rattle.target_core.specs.States.{Following, StandsFor}
 use Rattle.series_table.specs.declared.counts.Counts.{Counts}
 use Rattle.bridge_ports.specs.declared.talk.Talk.{Talk}
@@ -178,6 +179,18 @@ pub record IsHalted (before after : Kept) : Type 0 where
 abbrev pub Visits : Talking → Kept → Kept → Visited → Type 0
 Visits w before after Done = IsDone w before after
 Visits w before after Halted = IsHalted before after
+
+-- what a visit came to, told by what it gave
+abbrev pub visited_as : {A : Type 0} → Option A → Visited
+visited_as (Some given) = Done
+visited_as None = Halted
+
+-- the body of one visit more, whose scrape came to an event, which its new talk tells where the wire tells: behind all events for which the target's state stood it is the text of this one, and the state then stands for one event more
+pub record IsBodyOf (w : Talking) (before after : Kept) (body : List ℕ) : Type 0 where
+  pub event : Event
+  pub told : (scrapes : List Talk) → talks_of before.scrape ≡ Some scrapes → (talk : Talk) × (talks_of after.scrape ≡ Some (talk ∷ scrapes)) × IsEventOf w before.followed talk event
+  pub text : (earlier : List Event) → StandsFor before.followed.target (tracking_of before.followed) before.following earlier
+      → (body ≡ request_text (request_after before.followed.target (tracking_of before.followed) earlier event)) × StandsFor before.followed.target (tracking_of before.followed) after.following (event ∷ earlier)
 
 -- a wire that may be given to a track: no talk is under way, and where it tells, it had none
 pub record IsFresh (wire : WireState) : Type 0 where

@@ -6,7 +6,7 @@ ghost use Rattle.otlp_json.specs.Texts.{request_text};
 ghost use Rattle.http_talk.specs.Requests.{post_request};
 ghost use Rattle.series_table.specs.Talking.{AreInRange};
 ghost use Rattle.series_table.specs.Counting as counting;
-ghost use Rattle.series_table.specs.Making.{due_after, TakesEvent, ShowsTwice, Prepares};
+ghost use Rattle.series_table.specs.Making.{due_after, whole_request, TakesEvent, ShowsTwice, Prepares};
 
 use crate::aim::Aim;
 use crate::point_counts::{PointCounts, of_tree};
@@ -106,7 +106,8 @@ fn body_request(
     tree: &Request,
     last_len: usize,
 ) -> Result<PostText, Memory>
-    ensures { IfOk result (λ text. text ≡ post_request to.now (request_text tree.now)) }
+    ensures text { IfOk result (λ text. whole_request text ≡ post_request to.now (request_text tree.now)) }
+    ensures body { IfOk result (λ text. text.body.items ≡ request_text tree.now) }
 {
     let mut body = Vec::with_capacity(alloc, last_len.saturating_add(last_len / 8))?;
     write(tree, &mut body)?;

@@ -1,12 +1,12 @@
 //! The track of one target: its wires, its state, what it shows and what it counts.
-ghost use Rattle.std.specs.Prelude.{◌≡◌, ◌<◌, ◌≤◌, [], IfOk, IfErr};
+ghost use Rattle.std.specs.Prelude.{◌≡◌, ◌<◌, ◌≤◌, [], IfOk, IfErr, IfSome};
 ghost use Rattle.target_core.specs.Events.{latest_shown};
 ghost use Rattle.target_core.specs.States.{StandsFor};
 ghost use Rattle.series_table.specs.declared.track.TrackFault.TheVariants as faults;
 ghost use Rattle.series_table.specs.Talking.{AreInRange};
 ghost use Rattle.series_table.specs.HttpTalks.{talking};
 ghost use Rattle.series_table.specs.Moving.{without_second};
-ghost use Rattle.series_table.specs.Records.{IsFresh, IsNew, IsTrack, PostsWhatItsTalksTell, Visits, most_visits};
+ghost use Rattle.series_table.specs.Records.{IsBodyOf, IsFree, IsFresh, IsNew, IsTrack, PostsWhatItsTalksTell, Visits, most_visits, visited_as};
 
 use crate::aim::Aim;
 use crate::counts::Counts;
@@ -135,8 +135,22 @@ impl<W: Wire> Track<W> {
         ensures visit { Visits talking self.old self.new result }
         ensures sentence { PostsWhatItsTalksTell talking self.new }
     {
+        match self.next_body(alloc) {
+            Some(_) => Visited::Done,
+            None => Visited::Halted,
+        }
+    }
+
+    /// Visits the target, and gives the body that was posted, which is the JSON text of the scrape's event, whatever
+    /// became of the posts. `None` stands for want of memory, as `Halted` does.
+    pub fn next_body(&mut self, alloc: Global) -> Option<Vec<u8>>
+        requires { self.old.counts.visits < most_visits }
+        ensures visit { Visits talking self.old self.new (visited_as result) }
+        ensures sentence { PostsWhatItsTalksTell talking self.new }
+        ensures body { IfSome result (λ body. IsBodyOf talking self.old self.new body.items) }
+    {
         if self.halted {
-            return Visited::Halted;
+            return None;
         }
         let due = due_after(self.first, self.counts.visits, self.aim.settings.interval);
         match prepare(
@@ -156,13 +170,21 @@ impl<W: Wire> Track<W> {
                 self.counts = self.counts.with_visit(made.failed, made.points, posted);
                 self.shown = made.shown;
                 self.second = Some(made.second);
-                Visited::Done
+                Some(made.text.into_body())
             }
             Err(_) => {
                 self.halted = true;
-                Visited::Halted
+                None
             }
         }
+    }
+
+    /// The wire of its scrapes.
+    pub fn scrape_wire(&self) -> &W
+        ensures wire { W.state result.now ≡ self.now.scrape }
+        ensures free { IsFree self.now.followed.scrape_plan self.now.scrape }
+    {
+        &self.scrape
     }
 
     /// What the target shows: the page of its last visit that was made, which is empty where that scrape failed or

@@ -205,6 +205,10 @@ where
     ) -> Result<(), Memory> {
         Ok(())
     }
+
+    fn has_shelf(&self) -> bool {
+        false
+    }
 }
 
 /// Listens at an address, where that can be had.

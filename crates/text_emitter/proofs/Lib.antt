@@ -3,4 +3,3 @@ mod Ends
 pub mod Folds
 pub mod Laws
 pub mod PrintLaws
-pub mod Walks

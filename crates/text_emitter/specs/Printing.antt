@@ -13,6 +13,10 @@ pub record Printing : Type 0 where
   pub faults : ℕ
   pub text : List ℕ
 
+-- an output of this name, what it held and how many writes had failed before, and the text so far
+abbrev pub printing_to : GName → Option (List ℕ) → ℕ → List ℕ → Printing
+printing_to name before faults text = record { name = name; before = before; faults = faults; text = text }
+
 -- the same output, and this text
 abbrev pub printing : Printing → List ℕ → Printing
 printing p text = record { name = p.name; before = p.before; faults = p.faults; text = text }

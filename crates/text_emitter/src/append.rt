@@ -3,8 +3,8 @@
 ghost use Rattle.std.specs.Prelude.{◌≡◌, fold, length, take, OnOk, OnErr};
 ghost use Rattle.text_emitter.specs.Emitters.{append_push};
 
-use crate::all_bytes::{AllBytes, Piece};
 use crate::byte_emitter::Pieces;
+use bridge_ports::{AllBytes, Piece};
 use std::alloc::AllocError;
 use std::marker::Model;
 use std::mem;

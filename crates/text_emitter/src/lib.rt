@@ -5,7 +5,6 @@
 //! a vector, and [`print_line`] writes them to an output.
 #![tactic(auto)]
 
-mod all_bytes;
 mod append;
 mod byte_emitter;
 mod count;

@@ -4,10 +4,9 @@ ghost use Rattle.std.specs.Prelude.{◌≡◌, ◌++◌, [], true, false, List a
 ghost use Rattle.bridge_ports.specs.Causes.{HasCause};
 ghost use Rattle.text_emitter.specs.Printing.{Printing as Written, printing, print_push, Prints};
 
-use crate::all_bytes::{AllBytes, Piece};
 use crate::byte_emitter::Pieces;
 use arrayvec::ArrayVec;
-use bridge_ports::{Sink, write_all};
+use bridge_ports::{AllBytes, Piece, Sink, write_all};
 use std::marker::Model;
 use std::snapshot::Snapshot;
 
@@ -28,19 +27,14 @@ pub(crate) struct Printing<'a, O: Sink> {
 }
 
 impl<'a, O: Sink> Model for Printing<'a, O> {
-    ghost use Rattle.text_emitter.specs.Printing.{Printing as Written, Prints};
+    ghost use Rattle.text_emitter.specs.Printing.{Printing as Written, printing_to, Prints};
 
     ghost Value = { Written };
 
-    ghost view = { λ p. record {
-      name = p.output.ghost_name;
-      before = O.held p.before.value;
-      faults = O.write_faults p.before.value;
-      text = p.all.bytes;
-    } };
+    ghost view = { λ p. printing_to p.output.ghost_name (O.held p.before.value) (O.write_faults p.before.value) p.all.bytes };
 
     ghost invariant = { λ p. Prints (O.held p.output.now) (O.write_faults p.output.now) p.room.items p.failed
-        (record { name = p.output.ghost_name; before = O.held p.before.value; faults = O.write_faults p.before.value; text = p.all.bytes }) };
+        (printing_to p.output.ghost_name (O.held p.before.value) (O.write_faults p.before.value) p.all.bytes) };
 }
 
 /// Writes what is in the room, unless a write failed.
@@ -85,7 +79,8 @@ impl<'a, O: Sink> Printing<'a, O> {
         }
     }
 
-    /// Writes what is left, and tells whether a write failed.
+    /// Writes what is left, and gives the output back. That a write failed is told through `failed`: of a pair that
+    /// holds the output, a caller would not know that it is the one that was handed in.
     pub(crate) fn finish(self, failed: &mut bool) -> &'a mut O
         ensures name { result.ghost_name ≡ self.entry.name }
         ensures prints { Prints (O.held result.now) (O.write_faults result.now) [] failed.new self.entry }

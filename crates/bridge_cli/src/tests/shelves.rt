@@ -6,13 +6,15 @@ use std::test::Fail;
 const TWO_TARGETS: &[u8] =
     b"bridge-script 1\nrounds 2\ntarget j h:1 /metrics\npage 10 text 21\n# TYPE c counter\nc 5\n\nscrape 20 connect 0\n\ntarget k h:2 /metrics\nscrape 10 connect 0\n\nscrape 20 connect 0\n\n";
 
-/// Whether the finished talks of a wire ended so, in order.
+/// Whether the finished talks of a wire ended so, in order, and the wire keeps what was sent.
 fn ended_so(wire: &MemoryWire, ends: &[End]) -> bool {
     if wire.finished() != ends.len() as u64 {
         return false;
     }
     for number in 1..=wire.finished() {
-        if ends.get(number as usize - 1) != Some(&wire.ended(number)) {
+        if ends.get(number as usize - 1) != Some(&wire.ended(number))
+            || wire.sent(number).is_none()
+        {
             return false;
         }
     }

@@ -216,4 +216,8 @@ impl<'a, R: Clock + Sync> World for GatedWorld<'a, R> {
     ) -> Result<(), Memory> {
         self.world.shelve(alloc, scrape, post)
     }
+
+    fn has_shelf(&self) -> bool {
+        self.world.has_shelf()
+    }
 }

@@ -2,7 +2,7 @@ use Rattle.std.proofs.Common.{length, ap, ◌∙◌, arith, rules}
 use Rattle.replay_script.specs.declared.script.ScriptTarget.{ScriptTarget}
 use Rattle.replay_script.specs.RightScripts.{IsRightTarget}
 use Rattle.bridge_cli.proofs.ReplayLaws.{all_at, place_in_same, targets_more, script_cut, script_full}
-use Rattle.bridge_cli.proofs.ShownLaws.{shown_more, shown_all}
+use Rattle.bridge_cli.proofs.ShownLaws.{shows_one, shown_more, shown_all}
 use Rattle.bridge_cli.proofs.VisitLaws.{each_more}
 use Rattle.bridge_cli.proofs.replaying.print_targets.Goals as goal
 
@@ -23,8 +23,8 @@ loop-at-preserved g c =
           (all_at (IsRightTarget c.args.script.now.header) c.args.script.now.targets c.loop-at.at c.index-targets-at.result c.requires.right.targets stands).scrapes c.in-Ok.ensures.visited
           (search rules),
       c.loop-at.invariant.5,
-      λ asked. shown_more c.args.script.now.header c.args.script.now.targets c.loop-at.at c.index-targets-at.result c.in-Ok.state _ _ stands
-          (c.loop-at.invariant.6 asked) c.in-Ok.ensures.stands (c.in-Ok-keep_shown.ensures asked),
+      λ asked. shown_more c.args.script.now.header c.args.script.now.targets c.loop-at.at c.index-targets-at.result _ _ stands
+          (c.loop-at.invariant.6 asked) (shows_one c.args.script.now.header c.index-targets-at.result c.in-Ok.state _ _ c.in-Ok.ensures.stands (c.in-Ok-keep_shown.ensures asked)),
     )
 
 pub returns-in-Err-clause-printed : goal.returns-in-Err-clause-printed

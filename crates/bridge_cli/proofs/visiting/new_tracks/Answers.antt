@@ -17,7 +17,7 @@ loop-at-preserved c =
       c.loop-at.invariant.1,
       omega (arith, c.push_reserved.ensures.len, c.loop-at.invariant.2),
       omega (arith, c.push_reserved.ensures.capacity, c.loop-at.invariant.3),
-      subst (AreTracks talking 0 (script_targets h (take (c.loop-at.at + 1) ts))) (sym c.push_reserved.ensures.items)
-          (next_track h ts c.loop-at.at t c.loop-at.tracks.items c.in-Ok.track inside (c.index-targets-at.is ∙ ap (λ us. get_or us c.loop-at.at t) c.loop-at.invariant.1) c.loop-at.invariant.4 c.in-Ok.ensures),
-      subst AreUnvisited (sym c.push_reserved.ensures.items) (unvisited_more c.loop-at.tracks.items c.in-Ok.track c.loop-at.at (script_followed h t) c.loop-at.invariant.5 c.in-Ok.ensures),
+      subst (AreTracks talking 0 (script_targets c.args.keeps h (take (c.loop-at.at + 1) ts))) (sym c.push_reserved.ensures.items)
+          (next_track c.args.keeps h ts c.loop-at.at t c.loop-at.tracks.items c.in-Ok.track inside (c.index-targets-at.is ∙ ap (λ us. get_or us c.loop-at.at t) c.loop-at.invariant.1) c.loop-at.invariant.4 c.in-Ok.ensures.at),
+      subst AreUnvisited (sym c.push_reserved.ensures.items) (unvisited_more c.loop-at.tracks.items c.in-Ok.track c.loop-at.at (script_followed c.args.keeps h t) c.loop-at.invariant.5 c.in-Ok.ensures),
     )

@@ -16,7 +16,7 @@ returns-in-Ok-ready g c =
             shown = c.in-Ok-shown_twice.shown;
             second = c.in-Ok-shown_twice.second;
           })
-          taken.1 refl c.of_tree.ensures c.in-Ok-body_request.ensures c.in-Ok-shown_twice.ensures
+          taken.1 refl c.of_tree.ensures c.in-Ok-body_request.ensures.text c.in-Ok-body_request.ensures.body c.in-Ok-shown_twice.ensures
           (c.in-Ok-ready.ensures.done ∙ ap (λ (n : ℕ). made_ready c.args.aim.now.settings.tries n (g.W.Wire.state c.args.post.now)) c.len.ensures),
     )
 

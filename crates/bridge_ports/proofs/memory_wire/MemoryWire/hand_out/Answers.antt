@@ -10,9 +10,10 @@ pub invariant_of-self : goal.invariant_of-self
 invariant_of-self c =
     let w = c.self.inside in
     let plan = kept_plan w.replies w.after w.most w.failing in
+    let told = plan w.talks.keeps in
     let s = c.reply.result.got.now in
-    let whole : c.reply.result.got.now ≡ (reply_of plan (length w.talks.kept)).got =
-    ap (λ (r : MemoryReply). r.got) (c.reply.ensures ∙ ap reply_now (sym c.self.view_is) ∙ reply_kept plan w.talks.kept) in
+    let whole : c.reply.result.got.now ≡ (reply_of told (length w.talks.kept)).got =
+    ap (λ (r : MemoryReply). r.got) (c.reply.ensures ∙ ap reply_now (sym c.self.view_is) ∙ reply_kept told w.talks.kept) in
     let long = ap length whole in
     let count = c.copy_front-count.ensures.count in
     let taken = length-take (length s - c.read.result) (drop c.read.result s) in
@@ -25,15 +26,16 @@ pub returns-clause-wire : goal.returns-clause-wire
 returns-clause-wire c =
     let w = c.self.inside in
     let plan = kept_plan w.replies w.after w.most w.failing in
+    let told = plan w.talks.keeps in
     let s = c.reply.result.got.now in
     let n = c.copy_front-count.result in
-    let whole : c.reply.result.got.now ≡ (reply_of plan (length w.talks.kept)).got =
-    ap (λ (r : MemoryReply). r.got) (c.reply.ensures ∙ ap reply_now (sym c.self.view_is) ∙ reply_kept plan w.talks.kept) in
+    let whole : c.reply.result.got.now ≡ (reply_of told (length w.talks.kept)).got =
+    ap (λ (r : MemoryReply). r.got) (c.reply.ensures ∙ ap reply_now (sym c.self.view_is) ∙ reply_kept told w.talks.kept) in
     let rest : take (length s - c.read.result) (drop c.read.result s) ≡ drop c.read.result s =
     take_all (length s - c.read.result) (drop c.read.result s) (omega (arith, length-drop c.read.result s)) in
     let front = take-append-le n c.copy_front-count.new.into (drop c.min-most.result c.args.into.now) (omega (arith, c.copy_front-count.ensures.count, c.copy_front-count.auto.into)) in
     let bytes = take n (c.copy_front-count.new.into ++ drop c.min-most.result c.args.into.now) in
-    let given : take n (c.copy_front-count.new.into ++ drop c.min-most.result c.args.into.now) ≡ take n (drop w.talks.read (reply_of plan (length w.talks.kept)).got) =
+    let given : take n (c.copy_front-count.new.into ++ drop c.min-most.result c.args.into.now) ≡ take n (drop w.talks.read (reply_of told (length w.talks.kept)).got) =
     front ∙ c.copy_front-count.ensures.copied ∙ ap (take n) rest
     ∙ ap (λ (i : ℕ). take n (drop i s)) c.read.ensures
     ∙ ap (λ (b : List ℕ). take n (drop w.talks.read b)) whole in

@@ -11,8 +11,8 @@ returns-in-Some c =
     let found = c.in-Some.ensures.lookup in
     let at : slice_get c.as_slice.result.now (length c.finished.result.now) ≡ Some c.in-Some.reply.now =
     slice_get-get_or c.as_slice.result.now (length c.finished.result.now) c.in-Some.reply.now found.3.0 ∙ ap Some (sym found.1) in
-    let there : slice_get w.replies (length w.talks.kept) ≡ Some c.in-Some.reply.now = cc (at, c.as_slice.ensures, c.finished.ensures) in
-    reply_listed (kept_plan w.replies w.after w.most w.failing) w.talks.kept c.in-Some.reply.now _ there c.planned_from.ensures
+    let there : slice_get w.replies (length w.talks.kept) ≡ Some c.in-Some.reply.now = cc (at, c.as_slice.ensures, c.finished.ensures.talks) in
+    reply_listed (kept_plan w.replies w.after w.most w.failing w.talks.keeps) w.talks.kept c.in-Some.reply.now _ there c.planned_from.ensures
     ∙ ap reply_now c.self.view_is
 
 pub returns-in-Some-after : goal.returns-in-Some-after
@@ -20,8 +20,8 @@ returns-in-Some-after c =
     let w = c.self.inside in
     let at : slice_get c.as_slice.result.now (length c.finished.result.now) ≡ None =
     slice_get_past c.as_slice.result.now (length c.finished.result.now) c.in-None.ensures.lookup.3 in
-    let past : slice_get w.replies (length w.talks.kept) ≡ None = cc (at, c.as_slice.ensures, c.finished.ensures) in
-    reply_after (kept_plan w.replies w.after w.most w.failing) w.talks.kept c.in-Some-after.reply _ past c.in-Some-after.is c.planned_from-in-Some-after.ensures
+    let past : slice_get w.replies (length w.talks.kept) ≡ None = cc (at, c.as_slice.ensures, c.finished.ensures.talks) in
+    reply_after (kept_plan w.replies w.after w.most w.failing w.talks.keeps) w.talks.kept c.in-Some-after.reply _ past c.in-Some-after.is c.planned_from-in-Some-after.ensures
     ∙ ap reply_now c.self.view_is
 
 pub returns-in-None-after : goal.returns-in-None-after
@@ -29,6 +29,6 @@ returns-in-None-after c =
     let w = c.self.inside in
     let at : slice_get c.as_slice.result.now (length c.finished.result.now) ≡ None =
     slice_get_past c.as_slice.result.now (length c.finished.result.now) c.in-None.ensures.lookup.3 in
-    let past : slice_get w.replies (length w.talks.kept) ≡ None = cc (at, c.as_slice.ensures, c.finished.ensures) in
-    reply_past (kept_plan w.replies w.after w.most w.failing) w.talks.kept past c.in-None-after.is
+    let past : slice_get w.replies (length w.talks.kept) ≡ None = cc (at, c.as_slice.ensures, c.finished.ensures.talks) in
+    reply_past (kept_plan w.replies w.after w.most w.failing w.talks.keeps) w.talks.kept past c.in-None-after.is
     ∙ ap reply_now c.self.view_is

@@ -25,13 +25,13 @@ use denote.Triple.Entry.{alive}
 use denote.Triple.Spec.{Meets, triple_of}
 use denote.Triple.Table.{entered}
 use denote.Triple.Walked.{says, Stays, stay_dropped, walk_of, ends_at, walk_Meets, Goes-dropped}
-use Rattle.text_emitter.proofs.Walks.{none, none_made}
-use Rattle.text_emitter.specs.contracts.all_bytes.AllBytes as AllBytes
-use Rattle.text_emitter.specs.contracts.all_bytes.Piece as Piece
-use Rattle.text_emitter.specs.contracts.all_bytes.AllBytes.and as F
-use Rattle.text_emitter.specs.contracts.all_bytes.AllBytes.and.Key.{name as #self}
-use Rattle.text_emitter.proofs.all_bytes.AllBytes.and.Statement as stated
-use Rattle.text_emitter.proofs.all_bytes.AllBytes.and.Code as code
+use Rattle.bridge_ports.proofs.Walks.{none, none_made}
+use Rattle.bridge_ports.specs.contracts.all_bytes.AllBytes as AllBytes
+use Rattle.bridge_ports.specs.contracts.all_bytes.Piece as Piece
+use Rattle.bridge_ports.specs.contracts.all_bytes.AllBytes.and as F
+use Rattle.bridge_ports.specs.contracts.all_bytes.AllBytes.and.Key.{name as #self}
+use Rattle.bridge_ports.proofs.all_bytes.AllBytes.and.Statement as stated
+use Rattle.bridge_ports.proofs.all_bytes.AllBytes.and.Code as code
 
 abbrev function : Fn
 function = code.function

@@ -23,12 +23,12 @@ use denote.Triple.Entry.{alive}
 use denote.Triple.Spec.{Meets, triple_of}
 use denote.Triple.Table.{entered}
 use denote.Triple.Walked.{says, Stays, walk_of, ends_at, walk_Meets}
-use Rattle.text_emitter.proofs.Walks.{none, none_made}
-use Rattle.text_emitter.specs.contracts.all_bytes.AllBytes as AllBytes
-use Rattle.text_emitter.specs.contracts.all_bytes.AllBytes.new as F
-use Rattle.text_emitter.specs.contracts.all_bytes.AllBytes.new.Key.{name as #self}
-use Rattle.text_emitter.proofs.all_bytes.AllBytes.new.Statement as stated
-use Rattle.text_emitter.proofs.all_bytes.AllBytes.new.Code as code
+use Rattle.bridge_ports.proofs.Walks.{none, none_made}
+use Rattle.bridge_ports.specs.contracts.all_bytes.AllBytes as AllBytes
+use Rattle.bridge_ports.specs.contracts.all_bytes.AllBytes.new as F
+use Rattle.bridge_ports.specs.contracts.all_bytes.AllBytes.new.Key.{name as #self}
+use Rattle.bridge_ports.proofs.all_bytes.AllBytes.new.Statement as stated
+use Rattle.bridge_ports.proofs.all_bytes.AllBytes.new.Code as code
 
 abbrev function : Fn
 function = code.function

@@ -5,10 +5,10 @@ ghost use Rattle.std.specs.Borrow.{ftrue};
 
 use std::marker::Model;
 
-/// All bytes that were appended, also those for which there was no memory. It takes no memory, and its
-/// methods do nothing at run time.
+/// All bytes that were appended, also those that are kept nowhere. It takes no memory, and its methods
+/// do nothing at run time.
 #[derive(Drop)]
-pub(crate) struct AllBytes {
+pub struct AllBytes {
     ghost bytes: { List ℕ },
 }
 
@@ -16,15 +16,19 @@ impl Model for AllBytes {
     ghost also_owns = { λ _. ftrue };
 }
 
+// It owns nothing.
+unsafe impl Send for AllBytes {}
+
 /// What is appended at once.
 #[derive(Clone, Copy, Drop)]
-pub(crate) struct Piece<'a> {
-    pub(crate) bytes: &'a [u8],
+pub struct Piece<'a> {
+    /// The bytes that come behind those before.
+    pub bytes: &'a [u8],
 }
 
 impl AllBytes {
     /// No bytes.
-    pub(crate) fn new() -> AllBytes
+    pub fn new() -> AllBytes
         ensures { result.bytes ≡ [] }
     {
         AllBytes {}
@@ -32,7 +36,7 @@ impl AllBytes {
 
     /// These bytes, and a piece behind them.
     #[inline(always)]
-    pub(crate) fn and(&self, _piece: &Piece<'_>) -> AllBytes
+    pub fn and(&self, _piece: &Piece<'_>) -> AllBytes
         ensures { result.bytes ≡ self.now.bytes ++ _piece.now.bytes.now }
     {
         AllBytes {}
