@@ -18,6 +18,9 @@ ghost use Rattle.line_scan.specs.LineReading.{setting_of};
 ghost use Rattle.page_feeding.specs.PageFeeding.{Answers};
 ghost use Rattle.federation_page.specs.Gathering.{AreShowable, IsShowable};
 
+mod asked;
+
+use crate::asked::{input, number};
 use federation_page::{gather, text};
 use label_sets::Text;
 use page_model::page_laws::right_pages;
@@ -109,13 +112,8 @@ fn main(rt: HostRuntime) -> io::Result<()> {
     let mut words = env::args(&rt)?.into_iter();
     let _program = words.next();
     let form = words.next();
-    let turns = words
-        .next()
-        .and_then(|word| word.parse::<u32>().ok())
-        .unwrap_or(0);
-    let mut bytes = Vec::new(alloc);
-    let mut input = rt.stdin();
-    io::Read::read_to_end(&mut input, &mut bytes)?;
+    let turns = number(words.next(), 0);
+    let bytes = input(&rt)?;
     if bytes.len() > 1_000_000_000 {
         println!(rt; "too long")?;
         return Ok(());
@@ -264,6 +262,7 @@ loop-place-preserved c = (
 pub returns : goal.returns
 returns c = lettered c.loop-place.all.items (omega (arith, c.loop-place.invariant.0, c.loop-place.all.ok.0)) c.loop-place.invariant.1
 END
+add_parts time_gather asked
 build_program time_gather gather 0
 node_page "$samples" >"$work/page"
 

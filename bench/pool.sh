@@ -30,6 +30,9 @@ ghost use Rattle.target_table.specs.Runs.{IsRightRun};
 ghost use Rattle.target_table.specs.Tables.{AreTracks, AreUnvisited};
 ghost use Rattle.scraper_pool.specs.Turns.{run_of};
 
+mod asked;
+
+use crate::asked::number;
 use bridge_ports::{Address, End, Failed, MemoryReply, MemoryWire, Place, Settings, Target, Wire};
 use label_sets::{Bytes, List, Memory, Text};
 use scraper_pool::{TableFault, Track, run_targets};
@@ -292,20 +295,15 @@ fn timed<R: Threads + Wait + Clock + Sync>(
     }
 }
 
-/// The number that a word writes.
-fn number(word: Option<String>) -> u32 {
-    word.and_then(|word| word.parse::<u32>().ok()).unwrap_or(1)
-}
-
 fn main(rt: HostRuntime) -> io::Result<()> {
     let mut reply = Vec::from_slice(rt.alloc(), b"HTTP/1.1 200 OK\r\n\r\n")?;
     let mut input = rt.stdin();
     io::Read::read_to_end(&mut input, &mut reply)?;
     let mut words = env::args(&rt)?.into_iter();
     let _program = words.next();
-    let scrapers = number(words.next());
-    let rounds = number(words.next()).clamp(1, 1_000);
-    let pause = Duration::from_millis(u64::from(number(words.next())));
+    let scrapers = number(words.next(), 1);
+    let rounds = number(words.next(), 1).clamp(1, 1_000);
+    let pause = Duration::from_millis(u64::from(number(words.next(), 1)));
     let (took, sum, taken) = timed(&rt, rt.alloc(), reply.as_slice(), scrapers, rounds, pause)?;
     println!(rt; "{took} {sum} {taken}")
 }
@@ -326,6 +324,7 @@ sed -e 's/Rattle\.scraper_pool\.proofs\.tests\./Rattle.time_pool.proofs./' -e 's
 mkdir -p "$proofs/posted"
 sed 's/proofs\.close\./proofs.posted./' "$proofs/close/Invariants.antt" >"$proofs/posted/Invariants.antt"
 
+add_parts time_pool asked
 build_program time_pool 1 1 0
 python3 - "$work/proved" "$work/page" "$work/small" "$turns" <<'COMPARE'
 import os

@@ -20,8 +20,13 @@ add_program time_scrape "scrape_client http_talk text_grammar bridge_ports page_
 
 ghost use Rattle.std.specs.Prelude.{◌≤◌};
 
-use bridge_ports::{Address, End, MemoryReply, MemoryWire, Place, Target};
-use label_sets::{Bytes, List, Text};
+mod asked;
+mod one_target;
+
+use crate::asked::{input, number};
+use crate::one_target::target;
+use bridge_ports::{End, MemoryReply, MemoryWire, Place, Target};
+use label_sets::{Bytes, List};
 use page_model::{Outcome, PageFault, Treatment};
 use scrape_client::scrape;
 use std::alloc::{AllocError, Global};
@@ -34,17 +39,6 @@ const CHUNK: usize = 4_096;
 const LIMIT: u32 = 200_000;
 
 const MOST_BYTES: u32 = 67_108_864;
-
-fn target(alloc: Global) -> Result<Target, AllocError> {
-    let job = Text::from_str(alloc, "j")?;
-    let instance = Text::from_str(alloc, "h:1")?;
-    let address = Address {
-        host: Bytes::from_slice(alloc, "h".as_bytes())?,
-        port: 1,
-        path: Bytes::from_slice(alloc, b"/metrics")?,
-    };
-    Ok(Target::new(job, instance, address, false))
-}
 
 /// A reply with this page.
 fn reply_of(alloc: Global, page: &[u8], chunked: bool) -> Result<Vec<u8>, AllocError> {
@@ -103,17 +97,6 @@ fn scrape_page(
     }
 }
 
-fn turns(rt: &HostRuntime) -> io::Result<u32> {
-    let mut words = env::args(rt)?.into_iter();
-    let _program = words.next();
-    Ok(
-        words
-            .next()
-            .and_then(|word| word.parse::<u32>().ok())
-            .unwrap_or(3),
-    )
-}
-
 fn compare(rt: &HostRuntime, page: &[u8], most: u32, chunked: bool) -> io::Result<()>
     requires { 1 ≤ most }
 {
@@ -136,10 +119,10 @@ fn compare(rt: &HostRuntime, page: &[u8], most: u32, chunked: bool) -> io::Resul
 }
 
 fn main(rt: HostRuntime) -> io::Result<()> {
-    let mut page = Vec::new(rt.alloc());
-    let mut input = rt.stdin();
-    io::Read::read_to_end(&mut input, &mut page)?;
-    for _ in 0..turns(&rt)? {
+    let page = input(&rt)?;
+    let mut words = env::args(&rt)?.into_iter();
+    let _program = words.next();
+    for _ in 0..number(words.next(), 3) {
         compare(&rt, page.as_slice(), 4_096, false)?;
         compare(&rt, page.as_slice(), 4_096, true)?;
         compare(&rt, page.as_slice(), 65_536, false)?;
@@ -148,6 +131,7 @@ fn main(rt: HostRuntime) -> io::Result<()> {
     Ok(())
 }
 END
+add_parts time_scrape asked one_target
 build_program time_scrape 1
 taskset -c "$core" "$work/proved" "$turns" <"$work/page" >"$work/times"
 if ! awk '$5 != "true" || $6 != "true" { exit 1 }' "$work/times"; then

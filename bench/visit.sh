@@ -27,10 +27,13 @@ ghost use Rattle.start_times.specs.Scrapes.{moment_after};
 ghost use Rattle.target_core.specs.States.{HasNextMoment};
 ghost use Rattle.series_table.specs.Records.{IsFresh};
 
-use bridge_ports::{
-    Address, End, MemoryReply, MemoryWire, Place, Settings, Target,
-};
-use label_sets::{Bytes, List, Text};
+mod asked;
+mod one_target;
+
+use crate::asked::{input, number};
+use crate::one_target::target;
+use bridge_ports::{Address, End, MemoryReply, MemoryWire, Place, Settings};
+use label_sets::{Bytes, List};
 use page_model::{Event, Outcome, PageFault, Treatment};
 use series_table::{Track, TrackFault};
 use std::alloc::{AllocError, Global};
@@ -48,17 +51,6 @@ const SETTINGS: Settings = Settings {
 };
 
 const TAKEN: &[u8] = b"HTTP/1.1 200 OK\r\n\r\n";
-
-fn target(alloc: Global) -> Result<Target, AllocError> {
-    let job = Text::from_str(alloc, "j")?;
-    let instance = Text::from_str(alloc, "h:1")?;
-    let address = Address {
-        host: Bytes::from_slice(alloc, "h".as_bytes())?,
-        port: 1,
-        path: Bytes::from_slice(alloc, b"/metrics")?,
-    };
-    Ok(Target::new(job, instance, address, false))
-}
 
 fn collector(alloc: Global) -> Result<Address, AllocError> {
     Ok(Address {
@@ -227,19 +219,15 @@ fn run(rt: &HostRuntime, page: &[u8], count: u32, alone: bool) -> io::Result<()>
 }
 
 fn main(rt: HostRuntime) -> io::Result<()> {
-    let mut page = Vec::new(rt.alloc());
-    let mut input = rt.stdin();
-    io::Read::read_to_end(&mut input, &mut page)?;
+    let page = input(&rt)?;
     let mut words = env::args(&rt)?.into_iter();
     let _program = words.next();
-    let count = words
-        .next()
-        .and_then(|word| word.parse::<u32>().ok())
-        .unwrap_or(3);
+    let count = number(words.next(), 3);
     let alone = words.next().is_some();
     run(&rt, page.as_slice(), count, alone)
 }
 MAIN
+add_parts time_visit asked one_target
 build_program time_visit 1
 taskset -c "$core" python3 - "$here" "$work/proved" "$work/page" "$turns" <<'COMPARE'
 import subprocess

@@ -26,6 +26,57 @@ add_program() {
     echo "$1: $2" >>"$work/crates.txt"
 }
 
+# A module of what a program is asked.
+asked() {
+    cat <<'PART'
+//! What the program of a benchmark is asked: its words and its input.
+use std::io;
+
+/// The number that a word writes, or this one where it writes none.
+pub fn number(word: Option<String>, otherwise: u32) -> u32 {
+    word.and_then(|word| word.parse::<u32>().ok())
+        .unwrap_or(otherwise)
+}
+
+/// All that is on the input.
+pub fn input(rt: &HostRuntime) -> io::Result<Vec<u8>> {
+    let mut bytes = Vec::new(rt.alloc());
+    let mut input = rt.stdin();
+    io::Read::read_to_end(&mut input, &mut bytes)?;
+    Ok(bytes)
+}
+PART
+}
+
+# A module of the target that a program scrapes.
+one_target() {
+    cat <<'PART'
+//! The target that a benchmark scrapes: `h:1` of the job `j`.
+use bridge_ports::{Address, Target};
+use label_sets::{Bytes, Text};
+use std::alloc::{AllocError, Global};
+
+/// The target.
+pub fn target(alloc: Global) -> Result<Target, AllocError> {
+    let job = Text::from_str(alloc, "j")?;
+    let instance = Text::from_str(alloc, "h:1")?;
+    let address = Address {
+        host: Bytes::from_slice(alloc, "h".as_bytes())?,
+        port: 1,
+        path: Bytes::from_slice(alloc, b"/metrics")?,
+    };
+    Ok(Target::new(job, instance, address, false))
+}
+PART
+}
+
+# Adds modules to the program of this name.
+add_parts() {
+    program=$1
+    shift
+    for part in "$@"; do "$part" >"$work/crates/$program/src/$part.rt"; done
+}
+
 # Builds the program of this name by a run with the further words.
 build_program() {
     built=$1

@@ -10,15 +10,18 @@ add_program time_writing "open_writing openmetrics_grammar target_core bridge_po
 //! Reads a page of OpenMetrics, and writes it, or the JSON of its event, as often as asked. With no turns it
 //! puts the written text on the output.
 #![tactic(auto)]
-use bridge_ports::Address;
-use label_sets::{Bytes, Text};
+mod asked;
+mod one_target;
+
+use crate::asked::{input, number};
+use crate::one_target::target;
 use openmetrics_grammar::OpenPage;
 use page_model::{Event, Outcome, Page, PageFault, Treatment};
 use std::alloc::{AllocError, Global};
 use std::env;
 use std::io;
 use std::io::Write;
-use target_core::{Target, TargetState};
+use target_core::TargetState;
 
 const PIECE: usize = 65_536;
 
@@ -31,17 +34,6 @@ fn read_page(alloc: Global, bytes: &[u8]) -> Result<Page, PageFault> {
         page.feed(piece)?;
     }
     page.finish()
-}
-
-fn target(alloc: Global) -> Result<Target, AllocError> {
-    let job = Text::from_str(alloc, "j")?;
-    let instance = Text::from_str(alloc, "h:1")?;
-    let address = Address {
-        host: Bytes::from_slice(alloc, "h".as_bytes())?,
-        port: 1,
-        path: Bytes::from_slice(alloc, b"/metrics")?,
-    };
-    Ok(Target::new(job, instance, address, false))
 }
 
 /// Writes the page so many times, and gives how many bytes that were.
@@ -78,10 +70,8 @@ fn main(rt: HostRuntime) -> io::Result<()> {
     let mut words = env::args(&rt)?.into_iter();
     let _program = words.next();
     let form = words.next();
-    let turns = words.next().and_then(|word| word.parse::<u32>().ok()).unwrap_or(0);
-    let mut bytes = Vec::new(alloc);
-    let mut input = rt.stdin();
-    io::Read::read_to_end(&mut input, &mut bytes)?;
+    let turns = number(words.next(), 0);
+    let bytes = input(&rt)?;
     let page = match read_page(alloc, bytes.as_slice()) {
         Ok(page) => page,
         Err(PageFault::Refused { line, rule }) => {
@@ -108,6 +98,7 @@ fn main(rt: HostRuntime) -> io::Result<()> {
     println!(rt; "{}", written(alloc, &page, turns)?)
 }
 END
+add_parts time_writing asked one_target
 build_program time_writing open 1
 (cd "$here" && python3 -c "
 import sys

@@ -41,12 +41,9 @@ words_answer words command left status text is has = record { bytes = has.bytes;
 
 -- where the command that words ask for stops, they do
 pub words_stop : (words : List (List ℕ)) (command : Command) (left : Option (List ℕ)) (stop : Stop) → IsCommand words command → StopsAs (Answers command) left stop → StopsAs (IsAnswer words) left stop
-words_stop words command left NoForm is has = words_answer words command left _ _ is has
-words_stop words command left (Refused line rule) is has = words_answer words command left _ _ is has
-words_stop words command left (BadScript line) is has = words_answer words command left _ _ is has
-words_stop words command left TooLong is has = words_answer words command left _ _ is has
 words_stop words command left Read is has = tt
 words_stop words command left Memory is has = tt
+words_stop words command left _ is has = words_answer words command left _ _ is has
 
 -- ---- where a command stops
 
@@ -110,18 +107,14 @@ no_fault fault status before now other same = tells_fault fault status before no
 -- where a command stops, its status is that of a failed read just where the count of reads that failed rose
 pub stop_fault : (before now : ℕ) (stop : Stop) (status : Status) (text : List ℕ) → IsStopAnswer stop status text → StopCause before now stop
     → TellsFault (code_of statuses.ReadFailed) (code_of status) before now
-stop_fault before now NoForm status text said cause = no_fault _ _ before now (λ e. omega (arith, e)) cause
-stop_fault before now (Refused line rule) status text said cause = no_fault _ _ before now (λ e. omega (arith, e)) cause
-stop_fault before now (BadScript line) status text said cause = no_fault _ _ before now (λ e. omega (arith, e)) cause
-stop_fault before now TooLong status text said cause = no_fault _ _ before now (λ e. omega (arith, e)) cause
 stop_fault before now Read status text said cause = tells_fault _ _ before now (λ _. cause) (λ other. absurd (other refl))
-stop_fault before now Memory status text said cause = no_fault _ _ before now (λ e. omega (arith, e)) cause
 stop_fault before now (Refused line rule) status text (wanting takes) cause = no_fault _ _ before now (λ e. omega (arith, e)) cause
 stop_fault before now (BadScript line) status text (wanting takes) cause = no_fault _ _ before now (λ e. omega (arith, e)) cause
 stop_fault before now Memory status text (wanting takes) cause = no_fault _ _ before now (λ e. omega (arith, e)) cause
 stop_fault before now NoForm status text (wanting takes) cause = absurd takes
 stop_fault before now TooLong status text (wanting takes) cause = absurd takes
 stop_fault before now Read status text (wanting takes) cause = absurd takes
+stop_fault before now _ status text said cause = no_fault _ _ before now (λ e. omega (arith, e)) cause
 
 -- ---- the program
 
@@ -139,14 +132,10 @@ form_told status e = (λ f. omega (arith, e, f), λ f. omega (arith, e, f), λ f
 
 -- each status but that of a failed write has a text or none
 pub told_or_not : (status : Status) → status ≢ statuses.WriteFailed → IsTold (code_of status) ⊎ IsUntold (code_of status)
-told_or_not statuses.Done other = inl (omega arith, omega arith, omega arith)
-told_or_not statuses.Refused other = inl (omega arith, omega arith, omega arith)
-told_or_not statuses.NoForm other = inl (omega arith, omega arith, omega arith)
 told_or_not statuses.ReadFailed other = inr (inl refl)
 told_or_not statuses.WriteFailed other = absurd (other refl)
 told_or_not statuses.WantOfMemory other = inr (inr refl)
-told_or_not statuses.ScriptRefused other = inl (omega arith, omega arith, omega arith)
-told_or_not statuses.TooLong other = inl (omega arith, omega arith, omega arith)
+told_or_not _ other = inl (omega arith, omega arith, omega arith)
 
 -- nothing is left of an empty text
 none_left : (front rest : List ℕ) → [] ≡ front ++ rest → rest ≡ []

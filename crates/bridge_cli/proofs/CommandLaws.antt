@@ -113,12 +113,9 @@ command_form (Load number targets rounds) bytes status text says e = omega (arit
 
 -- what prints in pieces takes memory
 pub pieces_take : (command : Command) → takes_memory command ≡ false → prints_pieces command ≡ false
-pieces_take Help e = refl
-pieces_take Version e = refl
-pieces_take (Check format) e = refl
-pieces_take (Convert format target nanos) e = refl
 pieces_take (Replay scrapers page) e = absurd (true≢false e)
 pieces_take (Load number targets rounds) e = absurd (true≢false e)
+pieces_take _ e = refl
 
 -- ---- what follows
 

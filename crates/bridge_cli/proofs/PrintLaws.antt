@@ -1,6 +1,6 @@
 -- From what is to be printed, and how printing ended, to what the program answers.
-use Rattle.std.proofs.Common.{◌≡◌, ◌≢◌, ℕ, Bool, true, false, List, [], Option, Some, None, Result, Ok, Err, OnOk, OnErr, refl, sym, subst, ◌∙◌, ◌⊎◌, inl, inr, arith}
-use Rattle.std.specs.Prelude.{⊤}
+use Rattle.std.proofs.Common.{◌≡◌, ◌≢◌, ℕ, Bool, true, false, cond, List, [], Option, Some, None, Result, Ok, Err, OnOk, OnErr, refl, sym, ap, subst, ◌∙◌, ◌⊎◌, inl, inr, arith}
+use Rattle.std.specs.Prelude.{⊤, nat_eq}
 use Rattle.std.specs.Io.KnownBytes.{Appends}
 use Rattle.std.proofs.lemmas.Bool.{true≢false}
 use Rattle.replay_script.specs.declared.script.Script.{Script}
@@ -122,39 +122,24 @@ words_printed words command left p is of = record {
 -- the answer to a stop
 -- the answer of a stop as a text
 pub stop_whole : (stop : Stop) (status : Status) (p : Printed) → IsStopPrinted stop status p → (text : List ℕ) × IsStopAnswer stop status text
-stop_whole stop status (Tree request) is = absurd is
-stop_whole stop status (Bodies script scrapers page) is = absurd is
-stop_whole stop status (Report script) is = absurd is
 stop_whole stop status (Whole t) is = (_, is)
+stop_whole stop status _ is = absurd is
 
 -- a stop has no other status than its own, or that of want of memory
 stop_not : (stop : Stop) (status other : Status) (text : List ℕ) → IsStopAnswer stop status text → stop_status stop ≢ other → statuses.WantOfMemory ≢ other → status ≢ other
 stop_not stop status other text stop_answers.said own memory = own
 stop_not stop status other text (stop_answers.wanting takes) own memory = memory
 
--- no stop is done
-stop_undone : (stop : Stop) (status : Status) (text : List ℕ) → IsStopAnswer stop status text → status ≢ statuses.Done
-stop_undone stop status text is = stop_not stop status statuses.Done text is (by stop) (λ e. absurd cc)
-  where
-    by : (s : Stop) → stop_status s ≢ statuses.Done
-    by stops.NoForm e = absurd cc
-    by (stops.Refused line rule) e = absurd cc
-    by (stops.BadScript line) e = absurd cc
-    by stops.TooLong e = absurd cc
-    by stops.Read e = absurd cc
-    by stops.Memory e = absurd cc
+-- none is done, and none is of a write that failed
+stop_ends : (stop : Stop) → (stop_status stop ≢ statuses.Done) × (stop_status stop ≢ statuses.WriteFailed)
+stop_ends stops.NoForm = (λ e. absurd cc, λ e. absurd cc)
+stop_ends _ = (λ e. absurd cc, λ e. absurd cc)
 
--- none is of a write that failed
+stop_undone : (stop : Stop) (status : Status) (text : List ℕ) → IsStopAnswer stop status text → status ≢ statuses.Done
+stop_undone stop status text is = stop_not stop status statuses.Done text is (stop_ends stop).0 (λ e. absurd cc)
+
 pub stop_unwritten : (stop : Stop) (status : Status) (p : Printed) → IsStopPrinted stop status p → status ≢ statuses.WriteFailed
-stop_unwritten stop status p is = let answer = stop_whole stop status p is in stop_not stop status statuses.WriteFailed answer.0 answer.1 (by stop) (λ e. absurd cc)
-  where
-    by : (s : Stop) → stop_status s ≢ statuses.WriteFailed
-    by stops.NoForm e = absurd cc
-    by (stops.Refused line rule) e = absurd cc
-    by (stops.BadScript line) e = absurd cc
-    by stops.TooLong e = absurd cc
-    by stops.Read e = absurd cc
-    by stops.Memory e = absurd cc
+stop_unwritten stop status p is = let answer = stop_whole stop status p is in stop_not stop status statuses.WriteFailed answer.0 answer.1 (stop_ends stop).1 (λ e. absurd cc)
 
 -- where nothing was read, none is of a read that failed
 pub stop_unread : (stop : Stop) (status : Status) (p : Printed) → IsStopPrinted stop status p → IsUnread stop → status ≢ statuses.ReadFailed
@@ -169,9 +154,6 @@ stop_unread stop status p is unread = let answer = stop_whole stop status p is i
     by stops.Read u e = u
 
 pub stop_printed : (words : List (List ℕ)) (left : Option (List ℕ)) (stop : Stop) (status : Status) (p : Printed) → IsStopPrinted stop status p → StopsAs (IsAnswer words) left stop → IsPrintedFor words left status p
-stop_printed words left stop status (Tree request) is stops = absurd is
-stop_printed words left stop status (Bodies script scrapers page) is stops = absurd is
-stop_printed words left stop status (Report script) is stops = absurd is
 stop_printed words left stop status (Whole t) is stops = record {
   gives = says;
   parts = λ told text e. let has = says told text e in record { bytes = has.bytes; on_input = has.on_input; says = whole (code_of status) text has.says };
@@ -182,27 +164,22 @@ stop_printed words left stop status (Whole t) is stops = record {
   where
     says : IsTold (code_of status) → (text : List ℕ) → Gives (Whole t) text → HasAnswer (IsAnswer words) left (code_of status) text
     says told text e = same_text (IsAnswer words) left (code_of status) _ text (stop_told (IsAnswer words) left stop status _ is stops told) e
+stop_printed words left stop status _ is stops = absurd is
 
 pub stop_nothing : (stop : Stop) (status : Status) (p : Printed) → IsStopPrinted stop status p → IsUntold (code_of status) → IsNothing p
-stop_nothing stop status (Tree request) is untold = absurd is
-stop_nothing stop status (Bodies script scrapers page) is untold = absurd is
-stop_nothing stop status (Report script) is untold = absurd is
 stop_nothing stop status (Whole t) is untold = stop_untold stop status _ is untold
+stop_nothing stop status _ is untold = absurd is
 
 -- ---- how printing ended
 
 -- nothing is left of nothing
 nothing_part : (p : Printed) (text : List ℕ) → IsNothing p → GivesPart p text → text ≡ []
 nothing_part (Whole t) text none e = e ∙ none
-nothing_part (Tree request) text none e = absurd none
-nothing_part (Bodies script scrapers page) text none e = absurd none
-nothing_part (Report script) text none e = absurd none
+nothing_part _ text none e = absurd none
 
 nothing_text : (p : Printed) (text : List ℕ) → IsNothing p → Gives p text → text ≡ []
 nothing_text (Whole t) text none e = e ∙ none
-nothing_text (Tree request) text none e = absurd none
-nothing_text (Bodies script scrapers page) text none e = absurd none
-nothing_text (Report script) text none e = absurd none
+nothing_text _ text none e = absurd none
 
 -- of nothing no front is written that leaves something
 no_front_of : (p : Printed) (text : List ℕ) (before after : Option (List ℕ)) → IsNothing p → GivesPart p text → WroteFront before after text → ⊥
@@ -236,6 +213,20 @@ not_told : (code : ℕ) → IsTold code → IsUntold code → ⊥
 not_told code told (inl read) = told.0 read
 not_told code told (inr memory) = told.2 memory
 
+-- the status with this code
+abbrev status_with : ℕ → Status
+status_with code =
+    cond (nat_eq code 0) statuses.Done (cond (nat_eq code 1) statuses.Refused (cond (nat_eq code 2) statuses.NoForm (cond (nat_eq code 3) statuses.ReadFailed
+    (cond (nat_eq code 4) statuses.WriteFailed (cond (nat_eq code 6) statuses.WantOfMemory (cond (nat_eq code 7) statuses.ScriptRefused statuses.TooLong))))))
+
+status_back : (s : Status) → status_with (code_of s) ≡ s
+status_back statuses.Done = refl
+status_back _ = refl
+
+-- statuses with one code are one
+same_code : (s t : Status) → code_of s ≡ code_of t → s ≡ t
+same_code s t e = sym (status_back s) ∙ ap status_with e ∙ status_back t
+
 -- a text that the answer gives
 gives_some : (words : List (List ℕ)) (left : Option (List ℕ)) (status : Status) (p : Printed) (text : List ℕ) → IsPrintedFor words left status p → IsTold (code_of status) → Gives p text
     → HasAnswer (IsAnswer words) left (code_of status) text
@@ -251,17 +242,7 @@ ended_answered words left status p before after result for (wanting text gives w
 -- a front of it was written
 pub ended_part : (words : List (List ℕ)) (left : Option (List ℕ)) (status : Status) (p : Printed) (before after : Option (List ℕ)) (result : ℕ) → IsPrintedFor words left status p
     → status ≢ statuses.WriteFailed → (IsUntold (code_of status) → IsNothing p) → Ended status p before after result → result ≡ code_of statuses.WriteFailed → AnsweredInPart words left before after
-ended_part words left status p before after result for other untold (printed text gives written) e = absurd (code_other status other e)
-  where
-    code_other : (s : Status) → s ≢ statuses.WriteFailed → code_of s ≡ code_of statuses.WriteFailed → ⊥
-    code_other statuses.Done o e = omega (arith, e)
-    code_other statuses.Refused o e = omega (arith, e)
-    code_other statuses.NoForm o e = omega (arith, e)
-    code_other statuses.ReadFailed o e = omega (arith, e)
-    code_other statuses.WriteFailed o e = o refl
-    code_other statuses.WantOfMemory o e = omega (arith, e)
-    code_other statuses.ScriptRefused o e = omega (arith, e)
-    code_other statuses.TooLong o e = omega (arith, e)
+ended_part words left status p before after result for other untold (printed text gives written) e = absurd (other (same_code status statuses.WriteFailed e))
 ended_part words left status p before after result for other untold (stopped text gives front) e =
     record { text = text; answer = for.parts (front_told status p text before after other untold gives front) text gives; written = front }
 ended_part words left status p before after result for other untold (wanting text gives written not_whole) e = absurd (omega (arith, e))
@@ -291,33 +272,13 @@ ended_pieces words left status p before after result for untold (wanting text gi
 -- words that take no memory
 pub ended_ready : (words : List (List ℕ)) (left : Option (List ℕ)) (status : Status) (p : Printed) (before after : Option (List ℕ)) (result : ℕ) → IsPrintedFor words left status p
     → AskForNo takes_memory words → status ≢ statuses.WantOfMemory → Ended status p before after result → result ≢ code_of statuses.WantOfMemory
-ended_ready words left status p before after result for none other (printed text gives written) e = code_other status other e
-  where
-    code_other : (s : Status) → s ≢ statuses.WantOfMemory → code_of s ≡ code_of statuses.WantOfMemory → ⊥
-    code_other statuses.Done o e = omega (arith, e)
-    code_other statuses.Refused o e = omega (arith, e)
-    code_other statuses.NoForm o e = omega (arith, e)
-    code_other statuses.ReadFailed o e = omega (arith, e)
-    code_other statuses.WriteFailed o e = omega (arith, e)
-    code_other statuses.WantOfMemory o e = o refl
-    code_other statuses.ScriptRefused o e = omega (arith, e)
-    code_other statuses.TooLong o e = omega (arith, e)
+ended_ready words left status p before after result for none other (printed text gives written) e = other (same_code status statuses.WantOfMemory e)
 ended_ready words left status p before after result for none other (stopped text gives front) e = omega (arith, e)
 ended_ready words left status p before after result for none other (wanting text gives written pieces) e = pieces (for.whole (λ command is. pieces_take command (none command is)))
 
 -- words that read nothing
 pub ended_unread : (status : Status) (p : Printed) (before after : Option (List ℕ)) (result : ℕ) → status ≢ statuses.ReadFailed → Ended status p before after result → result ≢ code_of statuses.ReadFailed
-ended_unread status p before after result other (printed text gives written) e = code_other status other e
-  where
-    code_other : (s : Status) → s ≢ statuses.ReadFailed → code_of s ≡ code_of statuses.ReadFailed → ⊥
-    code_other statuses.Done o e = omega (arith, e)
-    code_other statuses.Refused o e = omega (arith, e)
-    code_other statuses.NoForm o e = omega (arith, e)
-    code_other statuses.ReadFailed o e = o refl
-    code_other statuses.WriteFailed o e = omega (arith, e)
-    code_other statuses.WantOfMemory o e = omega (arith, e)
-    code_other statuses.ScriptRefused o e = omega (arith, e)
-    code_other statuses.TooLong o e = omega (arith, e)
+ended_unread status p before after result other (printed text gives written) e = other (same_code status statuses.ReadFailed e)
 ended_unread status p before after result other (stopped text gives front) e = omega (arith, e)
 ended_unread status p before after result other (wanting text gives written pieces) e = omega (arith, e)
 
@@ -364,14 +325,8 @@ ended_no_form words left status p before after result for none write read memory
     form bytes text code (answers command s t is says) = absurd (none command is)
 
     not_untold : (s : Status) → s ≢ statuses.ReadFailed → s ≢ statuses.WantOfMemory → IsUntold (code_of s) → ⊥
-    not_untold statuses.Done r m u = omega (arith, u)
-    not_untold statuses.Refused r m u = omega (arith, u)
-    not_untold statuses.NoForm r m u = omega (arith, u)
-    not_untold statuses.ReadFailed r m u = r refl
-    not_untold statuses.WriteFailed r m u = omega (arith, u)
-    not_untold statuses.WantOfMemory r m u = m refl
-    not_untold statuses.ScriptRefused r m u = omega (arith, u)
-    not_untold statuses.TooLong r m u = omega (arith, u)
+    not_untold s r m (inl e) = r (same_code s statuses.ReadFailed e)
+    not_untold s r m (inr e) = m (same_code s statuses.WantOfMemory e)
 
 -- what was printed of visits that are done: the answer was written, and the wires are on the shelf
 pub ended_shelf : (words : List (List ℕ)) (left : Option (List ℕ)) (status : Status) (p : Printed) (before after : Option (List ℕ)) (result : ℕ) (shelf shelf_now : Option (List ShelvedPair)) → IsPrintedFor words left status p
@@ -379,18 +334,8 @@ pub ended_shelf : (words : List (List ℕ)) (left : Option (List ℕ)) (status :
     → ShelvesVisits command left before after shelf shelf_now
 ended_shelf words left status p before after result shelf shelf_now for (stopped text gives front) shelved e command is visits = absurd (omega (arith, e))
 ended_shelf words left status p before after result shelf shelf_now for (wanting text gives written pieces) shelved e command is visits = absurd (omega (arith, e))
-ended_shelf words left status p before after result shelf shelf_now for (printed text gives written) shelved e command is visits = by p gives (for.visits (done_of status e) command is) (shelved e)
+ended_shelf words left status p before after result shelf shelf_now for (printed text gives written) shelved e command is visits = by p gives (for.visits (same_code status statuses.Done e) command is) (shelved e)
   where
-    done_of : (s : Status) → code_of s ≡ code_of statuses.Done → s ≡ statuses.Done
-    done_of statuses.Done f = refl
-    done_of statuses.Refused f = absurd (omega (arith, f))
-    done_of statuses.NoForm f = absurd (omega (arith, f))
-    done_of statuses.ReadFailed f = absurd (omega (arith, f))
-    done_of statuses.WriteFailed f = absurd (omega (arith, f))
-    done_of statuses.WantOfMemory f = absurd (omega (arith, f))
-    done_of statuses.ScriptRefused f = absurd (omega (arith, f))
-    done_of statuses.TooLong f = absurd (omega (arith, f))
-
     by : (q : Printed) → Gives q text → AnswersVisits command left q → IsShelved q shelf shelf_now → ShelvesVisits command left before after shelf shelf_now
     by (Whole t) given none is_shelved = absurd (true≢false (sym visits ∙ none))
     by (Tree request) given none is_shelved = absurd (true≢false (sym visits ∙ none))

@@ -5,6 +5,7 @@ use Rattle.std.specs.List.{AllByRecursion}
 use Rattle.std.proofs.lemmas.Bool.{true≢false, not-false, and_parts}
 use Rattle.std.proofs.lemmas.Option.{none-some}
 use Rattle.label_sets.specs.Lists.{◌>>=◌, some_passes}
+use Rattle.label_sets.proofs.Laws.{option_or-none, option_map-none, when_true-none}
 use Rattle.plain_words.proofs.Laws.{in_range}
 use Rattle.toml.specs.Data.{Data, Items, no_items, item, Members, get_member, as_array, as_table}
 use Rattle.bridge_config.specs.declared.key.Form.TheVariants.{Whole}
@@ -15,14 +16,14 @@ use Rattle.bridge_config.specs.Configurations.{key_number, text_at, with_table, 
 use Rattle.bridge_config.specs.KeyFaults.{is_faulty, faulty_key, top_key, is_job, key_within, target_name, target_key_in, key_among, fault_at, class_fault, key_classes, key_fault}
 use Rattle.bridge_config.specs.RightConfigs.{AreRightKeys}
 use Rattle.bridge_config.specs.Makings.{HaveJobs}
-use Rattle.bridge_config.proofs.NoneLaws.{or_none, first_none, mapped_none, when_none, all_none}
+use Rattle.bridge_config.proofs.NoneLaws.{first_none, all_none}
 
 -- ---- classes
 
 -- a class without fault has none at the top and none in targets
 class_none : (which : KeyClass) (d : Members) → class_fault which d ≡ None → (top_key which d ≡ None) × (key_among which (target_tables d) ≡ None)
 unfolding class_fault
-class_none which d e = or_none (top_key which d) (key_among which (target_tables d)) (mapped_none (fault_at which) _ e)
+class_none which d e = option_or-none (top_key which d) (key_among which (target_tables d)) (option_map-none (fault_at which) _ e)
 
 -- no key has a fault of this class
 abbrev NoKey : KeyClass → Members → Type 0
@@ -77,17 +78,17 @@ unfolding is_faulty
 keys_right d e =
     let f = faultless d e in
     let r = f.ranges in
-    let needed : is_none (get_member (codes "rounds") d) ≡ false = when_none _ _ f.missing.1.0 in
-    let interval = in_key d (codes "interval_ms") 0 86400000 (Some 15000) (when_none _ _ r.1.1.1.1.1.1.1.0) (λ _. refl) in
-    let pages = in_key d (codes "pages") 0 1000 (Some 0) (when_none _ _ r.1.1.1.1.1.1.1.1.1.0) (λ _. refl) in
+    let needed : is_none (get_member (codes "rounds") d) ≡ false = when_true-none _ _ f.missing.1.0 in
+    let interval = in_key d (codes "interval_ms") 0 86400000 (Some 15000) (when_true-none _ _ r.1.1.1.1.1.1.1.0) (λ _. refl) in
+    let pages = in_key d (codes "pages") 0 1000 (Some 0) (when_true-none _ _ r.1.1.1.1.1.1.1.1.1.0) (λ _. refl) in
     record {
-      keep = in_key d (codes "keep") 0 4 (Some 2) (when_none _ _ r.1.1.1.0) (λ _. refl);
-      tries = in_key d (codes "tries") 1 8 (Some 3) (when_none _ _ r.1.1.1.1.0) (λ _. refl);
-      limit = in_key d (codes "sample_limit") 1 200000 (Some 20000) (when_none _ _ r.1.1.1.1.1.1.0) (λ _. refl);
-      max_page = in_key d (codes "max_page") 1024 67108864 (Some 16777216) (when_none _ _ r.1.1.1.1.1.0) (λ _. refl);
+      keep = in_key d (codes "keep") 0 4 (Some 2) (when_true-none _ _ r.1.1.1.0) (λ _. refl);
+      tries = in_key d (codes "tries") 1 8 (Some 3) (when_true-none _ _ r.1.1.1.1.0) (λ _. refl);
+      limit = in_key d (codes "sample_limit") 1 200000 (Some 20000) (when_true-none _ _ r.1.1.1.1.1.1.0) (λ _. refl);
+      max_page = in_key d (codes "max_page") 1024 67108864 (Some 16777216) (when_true-none _ _ r.1.1.1.1.1.0) (λ _. refl);
       interval = (in_range 0 86400000 _ interval).1;
-      rounds = in_key d (codes "rounds") 1 1000000 None (when_none _ _ r.1.0) (λ none. absurd (needed_there _ needed none));
-      scrapers = in_key d (codes "scrapers") 1 4 (Some 4) (when_none _ _ r.1.1.0) (λ _. refl);
+      rounds = in_key d (codes "rounds") 1 1000000 None (when_true-none _ _ r.1.0) (λ none. absurd (needed_there _ needed none));
+      scrapers = in_key d (codes "scrapers") 1 4 (Some 4) (when_true-none _ _ r.1.1.0) (λ _. refl);
       pages = (in_range 0 1000 _ pages).1;
     }
 
@@ -99,7 +100,7 @@ unfolding key_within
 have_jobs [] e = tt
 have_jobs (t ∷ ts) e =
     let both = first_none (target_key_in Range) t ts e in
-    let fits : not (is_job (text_at t.1 job_word)) ≡ false = when_none _ job_word (mapped_none (target_name t.0) _ both.0) in
+    let fits : not (is_job (text_at t.1 job_word)) ≡ false = when_true-none _ job_word (option_map-none (target_name t.0) _ both.0) in
     (not-false (is_job (text_at t.1 job_word)) fits, have_jobs ts both.1)
 
 pub jobs_right : (d : Members) → key_fault d ≡ None → HaveJobs (target_tables d)
@@ -134,9 +135,9 @@ pub few_targets : {A : Type 0} (f : ℕ × Members → A) (d : Members) → key_
 unfolding is_faulty target_tables
 few_targets f d e =
     let none = faultless d e in
-    let missing : is_none (get_member (codes "target") d) ≡ false = when_none _ _ none.missing.1.1.1.1.1.1.1.1.1.1.0 in
+    let missing : is_none (get_member (codes "target") d) ≡ false = when_true-none _ _ none.missing.1.1.1.1.1.1.1.1.1.1.0 in
     let few : AreFewTables (target_items d) = few_found (get_member (codes "target") d) missing
-    (when_none _ _ none.kinds.1.1.1.1.1.1.1.1.1.1.0) (when_none _ _ none.ranges.1.1.1.1.1.1.1.1.1.1.0) in
+    (when_true-none _ _ none.kinds.1.1.1.1.1.1.1.1.1.1.0) (when_true-none _ _ none.ranges.1.1.1.1.1.1.1.1.1.1.0) in
     let count = in_range 1 256 (item_count (target_items d)) few.1 in
     let same = counted f 1 (target_items d) few.0 in
     (subst (λ n. 1 ≤ n) (sym same) count.0, subst (λ n. n ≤ 256) (sym same) count.1)

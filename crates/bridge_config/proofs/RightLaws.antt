@@ -9,6 +9,7 @@ use Rattle.std.proofs.lemmas.List.Folds.{list_any-append}
 use Rattle.std.proofs.lemmas.Option.{none-some}
 use Rattle.std.proofs.lemmas.Slice.Eq.{bytes_eq-Decides}
 use Rattle.label_sets.specs.Lists.{◌>>=◌, when_true, first_some, some_passes}
+use Rattle.label_sets.proofs.Laws.{option_or-none, option_map-none, when_true-none}
 use Rattle.plain_words.specs.Places.{place_in, is_port, is_visible_word}
 use Rattle.plain_words.proofs.Laws.{bind_some, when_some, or_parts}
 use Rattle.plain_words.proofs.Laws.{place_spelled}
@@ -27,7 +28,7 @@ use Rattle.bridge_config.specs.KeyFaults.{is_not_zero, is_faulty, is_job, key_fa
 use Rattle.bridge_config.specs.ConfigFaults.{wrong_address, wrong_target, address_fault, have_same_names, is_named_in, first_repeated, twice_fault, too_large, product_fault, limits_fault, config_fault}
 use Rattle.bridge_config.specs.RightConfigs.{IsRightAddress, IsRightConfigTarget, AreRightProducts, AreRightNumbers, IsRightConfig, NumbersAreRight, ConfigsAreRight}
 use Rattle.bridge_config.specs.Makings.{HaveJobs}
-use Rattle.bridge_config.proofs.NoneLaws.{or_none, first_none, mapped_none, when_none}
+use Rattle.bridge_config.proofs.NoneLaws.{first_none}
 use Rattle.bridge_config.proofs.KeyLaws.{faultless, keys_right, jobs_right, few_targets}
 
 -- ---- classes
@@ -43,11 +44,11 @@ record IsFaultless (d : Members) : Type 0 where
 whole_faultless : (d : Members) → config_fault d ≡ None → IsFaultless d
 unfolding config_fault address_fault limits_fault twice_fault
 whole_faultless d e =
-    let a = or_none (key_fault d) (option_or (address_fault d) (limits_fault (config_of d))) e in
-    let b = or_none (address_fault d) (limits_fault (config_of d)) a.1 in
-    let c = or_none (twice_fault (config_of d).targets) (product_fault (config_of d)) b.1 in
-    let urls = or_none (wrong_address (0, text_at d collector_key.word)) (first_some wrong_target (target_tables d)) (mapped_none Address _ b.0) in
-    record { keys = a.0; collector = urls.0; targets = urls.1; names = mapped_none Twice _ c.0; products = c.1 }
+    let a = option_or-none (key_fault d) (option_or (address_fault d) (limits_fault (config_of d))) e in
+    let b = option_or-none (address_fault d) (limits_fault (config_of d)) a.1 in
+    let c = option_or-none (twice_fault (config_of d).targets) (product_fault (config_of d)) b.1 in
+    let urls = option_or-none (wrong_address (0, text_at d collector_key.word)) (first_some wrong_target (target_tables d)) (option_map-none Address _ b.0) in
+    record { keys = a.0; collector = urls.0; targets = urls.1; names = option_map-none Twice _ c.0; products = c.1 }
 
 -- ---- numbers and products
 
@@ -57,13 +58,13 @@ products_right c e =
     let samples = length c.targets * c.settings.limit in
     let pages = c.scrapers * c.settings.max_page in
     let held = length c.targets * c.settings.max_page in
-    let some = mapped_none Product _ e in
-    let a = or_none (too_large Samples 2000000 samples) (option_or (too_large Pages (2 ^ 27) pages) (too_large Held (2 ^ 32) held)) some in
-    let b = or_none (too_large Pages (2 ^ 27) pages) (too_large Held (2 ^ 32) held) a.1 in
+    let some = option_map-none Product _ e in
+    let a = option_or-none (too_large Samples 2000000 samples) (option_or (too_large Pages (2 ^ 27) pages) (too_large Held (2 ^ 32) held)) some in
+    let b = option_or-none (too_large Pages (2 ^ 27) pages) (too_large Held (2 ^ 32) held) a.1 in
     record {
-      samples = ltb-false 2000000 samples (when_none _ Samples a.0);
-      pages = ltb-false (2 ^ 27) pages (when_none _ Pages b.0);
-      held = ltb-false (2 ^ 32) held (when_none _ Held b.1);
+      samples = ltb-false 2000000 samples (when_true-none _ Samples a.0);
+      pages = ltb-false (2 ^ 27) pages (when_true-none _ Pages b.0);
+      held = ltb-false (2 ^ 32) held (when_true-none _ Held b.1);
     }
 
 numbers_right : (d : Members) → config_fault d ≡ None → AreRightNumbers (config_of d)
@@ -131,12 +132,12 @@ collector_right u e = go (is_pathless u)
 
 found_collector : (d : Members) → wrong_address (0, text_at d collector_key.word) ≡ None → IsRightAddress (collector_in d)
 found_collector d e =
-    let found = has_url (text_at d collector_key.word) (when_none _ _ e) in
+    let found = has_url (text_at d collector_key.word) (when_true-none _ _ e) in
     subst (λ o. IsRightAddress (unwrap_or (option_map collector_of o) no_address)) (sym found.is) (collector_right found.url found.right)
 
 target_right : (found : ℕ × Members) → wrong_target found ≡ None → IsTrue (is_job (text_at found.1 job_word)) → IsRightConfigTarget (table_target found)
 target_right found e job =
-    let url = has_url (text_at found.1 url_word) (when_none _ _ e) in
+    let url = has_url (text_at found.1 url_word) (when_true-none _ _ e) in
     record {
       job = job;
       instance = refl;
@@ -205,9 +206,9 @@ some_door : (d : Members) → key_fault d ≡ None → 1 ≤ key_number d pages_
 unfolding is_faulty key_number door_in
 some_door d e pages =
     let none = faultless d e in
-    let missing = second_fails (some_passes is_not_zero (get_member pages_key.word d)) (is_none (get_member listen_key.word d)) (when_none _ _ none.missing.1.1.1.1.1.1.1.1.0)
+    let missing = second_fails (some_passes is_not_zero (get_member pages_key.word d)) (is_none (get_member listen_key.word d)) (when_true-none _ _ none.missing.1.1.1.1.1.1.1.1.0)
     (asks (get_member pages_key.word d) pages) in
-    gives_door (get_member listen_key.word d) missing (when_none _ _ none.ranges.1.1.1.1.1.1.1.1.0)
+    gives_door (get_member listen_key.word d) missing (when_true-none _ _ none.ranges.1.1.1.1.1.1.1.1.0)
 
 -- ---- names
 
@@ -230,8 +231,8 @@ names_turned a b e = go (have_same_names b a) refl
 repeated_step : (n : ℕ) (earlier : List Scraped) (t : Scraped) (ts : List Scraped) → first_repeated n earlier (t ∷ ts) ≡ None
     → (is_named_in earlier t ≡ false) × (first_repeated (n + 1) (earlier ++ t ∷ []) ts ≡ None)
 repeated_step n earlier t ts e =
-    let both = or_none (when_true (is_named_in earlier t) n) (first_repeated (n + 1) (earlier ++ t ∷ []) ts) e in
-    (when_none _ n both.0, both.1)
+    let both = option_or-none (when_true (is_named_in earlier t) n) (first_repeated (n + 1) (earlier ++ t ∷ []) ts) e in
+    (when_true-none _ n both.0, both.1)
 
 -- none has the names of one of those before
 all_new : (n : ℕ) (earlier ts : List Scraped) → first_repeated n earlier ts ≡ None → AllByRecursion (λ t. is_named_in earlier t ≡ false) ts

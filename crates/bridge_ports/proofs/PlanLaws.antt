@@ -119,11 +119,8 @@ ends_as m Left x may = tt
 
 -- a talk that may end is under way
 pub is_talking : (m : MemoryState) (end : End) → MayEnd end m → m.stage ≢ stages.Idle
-is_talking m ConnectFailed may idle = absurd (cc (may.0, idle))
-is_talking m WriteFailed may idle = absurd (cc (may.0, idle))
-is_talking m ReadFailed may idle = absurd (cc (may.0, idle))
-is_talking m Ended may idle = absurd (cc (may.0, idle))
 is_talking m Left may idle = may idle
+is_talking m _ may idle = absurd (cc (may.0, idle))
 
 -- the talks follow the plan still, once the one under way ended
 pub ended_follows : (m : MemoryState) (end : End) → IsOfPlan m → MayEnd end m → IsOfPlan (talk_ended end m)

@@ -48,9 +48,7 @@ whole_from d n true e f =
 whole_decimal : (a : Number) (n : ℕ) → whole a ≡ Some n → (d : DecimalValue) × (a ≡ Finite d) × IsWhole d n
 unfolding whole
 whole_decimal (Finite d) n e = (d, refl, whole_from d n _ refl e)
-whole_decimal Up n e = absurd cc
-whole_decimal Down n e = absurd cc
-whole_decimal NotANumber n e = absurd cc
+whole_decimal _ n e = absurd cc
 
 -- decimals that are whole are ordered as the whole numbers are
 whole_cmp : (a b : DecimalValue) (n m : ℕ) → IsWhole a n → IsWhole b m → decimal_cmp a b ≡ nat_cmp n m

@@ -14,6 +14,7 @@ use Rattle.label_sets.specs.declared.kind.Kind.TheVariants.{Counter, Gauge, Stat
 use Rattle.label_sets.specs.declared.label_set.LabelSet.{LabelSet}
 use Rattle.label_sets.specs.Labels.{label_sets_eq}
 use Rattle.label_sets.specs.Lists.{first_of_each, first_some, some_passes}
+use Rattle.label_sets.proofs.Laws.{any-map, any-reverse, filter-none}
 use Rattle.page_model.specs.declared.item.Item.{Item}
 use Rattle.page_model.specs.declared.item.Sample.{Sample}
 use Rattle.page_model.specs.declared.page.Reading.{Reading}
@@ -34,22 +35,15 @@ use Rattle.family_rules.specs.Steps.{with_left, end_stop}
 use Rattle.family_rules.specs.Made.{page_at, plain_reading, readings_at, readings_in, family_at, families_at}
 use Rattle.page_model.specs.declared.page.Value.TheVariants as values
 use Rattle.family_rules.proofs.Plain.{single_suffix, suffix_is, no_created, plain_name, ungrouped_counter}
-use Rattle.family_rules.proofs.Lists.{bytes_same, label_sets_swap, reverse-cons, first_of_each-snoc, list_any-map, list_any-reverse, pairs, lookup-map, insert_entry-last}
+use Rattle.family_rules.proofs.Lists.{bytes_same, label_sets_swap, reverse-cons, first_of_each-snoc, pairs, lookup-map, insert_entry-last}
 use Rattle.family_rules.proofs.Standing.{left_at_end}
 use Rattle.std.specs.Map.{lookup}
-use Rattle.family_rules.proofs.Faults.{fit_lines, or_parts, sound_samples, AreFit}
+use Rattle.std.proofs.lemmas.Bool.{or_parts}
+use Rattle.family_rules.proofs.Faults.{fit_lines, sound_samples, AreFit}
 use Rattle.family_rules.proofs.Once.{help_sort, kind_sort, unit_sort, said_once}
 use Rattle.family_rules.proofs.Kept.{fresh, families_of-reverse, samples_of-reverse, reversed_samples, own_samples, none_of_other, no_samples}
 
 -- ---- lists
-
-filter_none : {A : Type 0} (p : A → Bool) (xs : List A) → list_any p xs ≡ false → filter p xs ≡ []
-filter_none p [] h = refl
-filter_none {A = A} p (x ∷ xs) h = by (p x) h (filter_none p xs)
-  where
-    by : (b : Bool) → (b || list_any p xs) ≡ false → (list_any p xs ≡ false → filter p xs ≡ []) → cond b (x ∷ filter p xs) (filter p xs) ≡ []
-    by true e more = absurd (let f : true ≡ false = e in cc)
-    by false e more = more e
 
 any_filter : {A : Type 0} (p t : A → Bool) (xs : List A) → list_any p xs ≡ false → list_any p (filter t xs) ≡ false
 any_filter p t [] h = refl
@@ -231,17 +225,17 @@ module _ (st : Setting) where
         let firsts : List LabelSet = first_of_each label_sets_eq (map kept samples) in
         let labels : first_of_each label_sets_eq (map kept (samples ++ y ∷ [])) ≡ firsts ++ kept y ∷ [] =
         ap (first_of_each label_sets_eq) (map-append kept samples (y ∷ [])) ∙ first_of_each-snoc label_sets_eq (map kept samples) (kept y)
-        ∙ ap (λ b. cond b firsts (firsts ++ kept y ∷ [])) (list_any-map (λ x. label_sets_eq x (kept y)) kept samples ∙ new) in
+        ∙ ap (λ b. cond b firsts (firsts ++ kept y ∷ [])) (any-map (λ x. label_sets_eq x (kept y)) kept samples ∙ new) in
         let others : list_any (λ l. label_sets_eq (kept y) l) firsts ≡ false =
         any_first (λ l. label_sets_eq (kept y) l) label_sets_eq (map kept samples)
-        (list_any-map (λ l. label_sets_eq (kept y) l) kept samples ∙ ap (λ (p : Sample → Bool). list_any p samples) (λ i t. label_sets_swap (kept y) (kept t) i) ∙ new) in
+        (any-map (λ l. label_sets_eq (kept y) l) kept samples ∙ ap (λ (p : Sample → Bool). list_any p samples) (λ i t. label_sets_swap (kept y) (kept t) i) ∙ new) in
         let same : (l : LabelSet) → label_sets_eq (kept y) l ≡ false → f l ≡ g l = λ l e.
         ap (λ own. made k F unit own l) (filter-append (λ s. label_sets_eq (kept s) l) samples (y ∷ [])
         ∙ ap (λ b. filter (λ s. label_sets_eq (kept s) l) samples ++ cond b (y ∷ []) []) e ∙ append-nil (filter (λ s. label_sets_eq (kept s) l) samples)) in
         let last : f (kept y) ≡ Some (read y) =
         ap (λ own. made k F unit own (kept y)) (filter-append (λ s. label_sets_eq (kept s) (kept y)) samples (y ∷ [])
         ∙ ap (λ b. filter (λ s. label_sets_eq (kept s) (kept y)) samples ++ cond b (y ∷ []) []) (label_sets_same (kept y))
-        ∙ ap (λ l. l ++ y ∷ []) (filter_none (λ s. label_sets_eq (kept s) (kept y)) samples new)) ∙ one_made y name in
+        ∙ ap (λ l. l ++ y ∷ []) (filter-none (λ s. label_sets_eq (kept s) (kept y)) samples new)) ∙ one_made y name in
         ap (filter_map f) labels ∙ filter_map-append f firsts (kept y ∷ [])
         ∙ ap (λ l. l ++ filter_map f (kept y ∷ [])) (filter_map-same f g (λ l. label_sets_eq (kept y) l) firsts others same)
         ∙ ap (λ o. filter_map g firsts ++ cons_option o []) last
@@ -249,7 +243,7 @@ module _ (st : Setting) where
     all_read : (samples : List Sample) → AreFresh own_name samples → by_labels (reverse samples) ≡ map read (reverse samples)
     all_read [] h = refl
     all_read (y ∷ samples) h =
-        ap by_labels (reverse-cons y samples) ∙ snoc_read (reverse samples) y (list_any-reverse (λ t. label_sets_eq (kept t) (kept y)) samples ∙ h.0) h.1
+        ap by_labels (reverse-cons y samples) ∙ snoc_read (reverse samples) y (any-reverse (λ t. label_sets_eq (kept t) (kept y)) samples ∙ h.0) h.1
         ∙ ap (λ l. l ++ read y ∷ []) (all_read samples h.2) ∙ sym (map-append read (reverse samples) (y ∷ [])) ∙ ap (map read) (sym (reverse-cons y samples))
 
     -- the readings of a family are those of its samples

@@ -3,6 +3,7 @@ use Rattle.std.proofs.Common.{◌≡◌, ℕ, Bool, true, false, not, ◌&&◌, 
 use Rattle.std.specs.Str.{bytes_eq}
 use Rattle.std.specs.Cmp.Lexicographic.{bytes_decides}
 use Rattle.label_sets.specs.Lists.{some_passes}
+use Rattle.label_sets.proofs.Laws.{bytes_eq-swap}
 use Rattle.page_model.specs.declared.item.Item.{Item}
 use Rattle.page_model.specs.declared.item.Item.TheVariants as items
 use Rattle.page_model.specs.declared.rule.Rule.TheVariants as rules
@@ -12,7 +13,6 @@ use Rattle.page_model.specs.Rules.{is_incomplete, leaves_incomplete}
 use Rattle.page_model.specs.Faults.{owned_breaks, item_breaks, item_rules, item_fault, end_breaks, end_rules, end_fault}
 use Rattle.page_model.specs.Pages.{AreFaultless}
 use Rattle.page_model.proofs.Laws.{none_found}
-use Rattle.family_rules.proofs.Lists.{bytes_swap}
 
 not_true : (b : Bool) → (b ≡ true → ⊥) → b ≡ false
 not_true true f = absurd (f refl)
@@ -23,13 +23,10 @@ not_true false f = refl
 incomplete_by_owner : (st : Setting) (earlier : List Item) (item : Item) (family : List ℕ) → owner_of st.format (owned_lines st.format earlier) item ≡ Some family
     → item_breaks st earlier item rules.Incomplete ≡ leaves_incomplete st (owned_lines st.format earlier) (Some family)
 unfolding item_breaks owned_breaks
-incomplete_by_owner st earlier (items.Help name text) family e = ap (some_passes (λ f. leaves_incomplete st (owned_lines st.format earlier) (Some f))) e
-incomplete_by_owner st earlier (items.KindOf name kind) family e = ap (some_passes (λ f. leaves_incomplete st (owned_lines st.format earlier) (Some f))) e
-incomplete_by_owner st earlier (items.Unit name unit) family e = ap (some_passes (λ f. leaves_incomplete st (owned_lines st.format earlier) (Some f))) e
-incomplete_by_owner st earlier (items.Sample s) family e = ap (some_passes (λ f. leaves_incomplete st (owned_lines st.format earlier) (Some f))) e
 incomplete_by_owner st earlier items.Blank family e = absurd cc
 incomplete_by_owner st earlier items.Comment family e = absurd cc
 incomplete_by_owner st earlier items.Eof family e = absurd cc
+incomplete_by_owner st earlier _ family e = ap (some_passes (λ f. leaves_incomplete st (owned_lines st.format earlier) (Some f))) e
 
 leaves_none : (st : Setting) (earlier : List Item) (item : Item) (family : List ℕ) → item_fault st earlier item ≡ None → owner_of st.format (owned_lines st.format earlier) item ≡ Some family
     → leaves_incomplete st (owned_lines st.format earlier) (Some family) ≡ false
@@ -68,7 +65,7 @@ left_more st owner item (n ∷ above) leaves left family other = incomplete-othe
     by false e = left family e
     by true e =
         let same : n.family ≡ family = (bytes_decides n.family family).0 e in
-        let apart : bytes_eq n.family owner ≡ false = ap (λ f. bytes_eq f owner) same ∙ bytes_swap family owner ∙ other in
+        let apart : bytes_eq n.family owner ≡ false = ap (λ f. bytes_eq f owner) same ∙ bytes_eq-swap family owner ∙ other in
         let here : is_incomplete st (n ∷ above) n.family ≡ false = ap (λ b. not b && is_incomplete st (n ∷ above) n.family) (sym apart) ∙ leaves in
         subst (λ f. is_incomplete st (n ∷ above) f ≡ false) same here
 

@@ -6,12 +6,8 @@ use Rattle.std.specs.List.{ends_with}
 use Rattle.std.proofs.lemmas.Slice.Eq.{ends_is}
 use Rattle.std.proofs.lemmas.Bool.Decides.{Decides-eqb}
 use Rattle.std.proofs.lemmas.List.{append_cancel_right}
+use Rattle.label_sets.proofs.Laws.{same_tests}
 use Rattle.page_model.specs.Rules.{is_foreign_unit}
-
-bool_same : (a b : Bool) → (a ≡ true → b ≡ true) → (b ≡ true → a ≡ true) → a ≡ b
-bool_same true b f g = sym (f refl)
-bool_same false true f g = g refl
-bool_same false false f g = refl
 
 no_unit : (unit : List ℕ) → (length unit == 0) ≡ false → bytes_eq unit [] ≡ false
 no_unit [] h = absurd (let f : true ≡ false = h in cc)
@@ -25,7 +21,7 @@ pub foreign_front : (family unit front : List ℕ) (r : Bool) → (length unit =
 foreign_front family unit front r some split ends =
     let own = ends_is Decides-eqb front (95 ∷ []) r ends in
     let whole = ends_is Decides-eqb family (95 ∷ unit) (ends_with ◌==◌ family (95 ∷ unit)) refl in
-    let same : r ≡ ends_with ◌==◌ family (95 ∷ unit) = bool_same r (ends_with ◌==◌ family (95 ∷ unit))
+    let same : r ≡ ends_with ◌==◌ family (95 ∷ unit) = same_tests r (ends_with ◌==◌ family (95 ∷ unit))
     (λ h. whole.1 (take (length front - 1) front) (split ∙ ap (λ l. l ++ unit) (own.0 h) ∙ regrouped (take (length front - 1) front) unit))
     (λ h. own.1 (take (length family - length (95 ∷ unit)) family)
     (append_cancel_right front (take (length family - length (95 ∷ unit)) family ++ 95 ∷ []) unit (sym split ∙ whole.0 h ∙ sym (regrouped (take (length family - length (95 ∷ unit)) family) unit)))) in
@@ -34,7 +30,7 @@ foreign_front family unit front r some split ends =
 pub foreign_other : (family unit : List ℕ) → (length unit == 0) ≡ false → ((front : List ℕ) → family ≡ front ++ unit → ⊥) → true ≡ is_foreign_unit family unit
 foreign_other family unit some none =
     let whole = ends_is Decides-eqb family (95 ∷ unit) (ends_with ◌==◌ family (95 ∷ unit)) refl in
-    let false_is : ends_with ◌==◌ family (95 ∷ unit) ≡ false = bool_same (ends_with ◌==◌ family (95 ∷ unit)) false
+    let false_is : ends_with ◌==◌ family (95 ∷ unit) ≡ false = same_tests (ends_with ◌==◌ family (95 ∷ unit)) false
     (λ h. absurd (none (take (length family - length (95 ∷ unit)) family ++ 95 ∷ []) (whole.0 h ∙ sym (regrouped (take (length family - length (95 ∷ unit)) family) unit))))
     (λ h. absurd (let f : false ≡ true = h in cc)) in
     rw (no_unit unit some, false_is) refl

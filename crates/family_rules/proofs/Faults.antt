@@ -5,6 +5,7 @@ use Rattle.std.specs.List.{list_any, cons_option}
 use Rattle.std.specs.Option.{option_or}
 use Rattle.std.specs.Str.{bytes_eq}
 use Rattle.std.specs.Cmp.Lexicographic.{bytes_decides}
+use Rattle.std.proofs.lemmas.Bool.{or_parts}
 use Rattle.label_sets.specs.declared.kind.Kind.{Kind}
 use Rattle.label_sets.specs.declared.kind.Kind.TheVariants.{Unknown}
 use Rattle.label_sets.specs.Lists.{first_some, some_passes}
@@ -42,10 +43,6 @@ abbrev pub AreFit : Setting → List Owned → Type 0
 AreFit st [] = ⊤
 AreFit st (o ∷ above) = Fits st above o × AreFit st above
 
-pub or_parts : (a b : Bool) → (a || b) ≡ false → (a ≡ false) × (b ≡ false)
-or_parts true b h = absurd (let f : true ≡ false = h in cc)
-or_parts false b h = (refl, h)
-
 -- a family with a sample has no descriptor below it
 pub none_above : (above : List Owned) (F : List ℕ) (item : Item) → is_descriptor item ≡ true → is_late_descriptor above (record { family = F; item = item }) ≡ false → samples_of above F ≡ []
 unfolding is_late_descriptor samples_of
@@ -68,28 +65,36 @@ none_above above F item d h = each above (sym (ap (λ b. b && list_any (λ o. is
         let parts = or_parts (is_of F o && (are_one_sort item o.item || is_sample o.item)) (list_any (λ o. is_of F o && (are_one_sort item o.item || is_sample o.item)) above) e in
         ap (λ x. cons_option x (samples_of above F)) (no_sample (is_of F o) (are_one_sort item o.item) o.item parts.0) ∙ each above parts.1
 
+-- what holds of the sample of each fit line, by the kind that its family had then, holds of a family's samples by the
+-- kind that it has now: a family with a sample has no descriptor below it
+module _ (st : Setting) (Holds : Kind → List ℕ → List Sample → Sample → Type 0) (All : Kind → List ℕ → List Sample → Type 0) (none : (kind : Kind) (F : List ℕ) → All kind F [])
+    (more : (kind : Kind) (F : List ℕ) (above : List Sample) (s : Sample) → Holds kind F above s → All kind F above → All kind F (s ∷ above))
+    (holds : (above : List Owned) (o : Owned) → Fits st above o → IfSome (sample_of_line o.item) (Holds (kind_of above o.family) o.family (samples_of above o.family))) where
+  samples_hold : (above : List Owned) (F : List ℕ) → AreFit st above → All (kind_of above F) F (samples_of above F)
+  unfolding kind_of samples_of
+  samples_hold [] F fit = none Unknown F
+  samples_hold (o ∷ above) F fit = by (is_of F o) o.item refl refl (samples_hold above F fit.1)
+    where
+      by : (b : Bool) (item : Item) → is_of F o ≡ b → o.item ≡ item → All (kind_of above F) F (samples_of above F)
+          → All (unwrap_or (option_or (cond b (kind_of_line item) None) (first_some (declared_kind F) above)) Unknown) F (cons_option (cond b (sample_of_line item) None) (samples_of above F))
+      by false item e same ih = ih
+      by true items.Blank e same ih = ih
+      by true items.Comment e same ih = ih
+      by true items.Eof e same ih = ih
+      by true (items.Help n t) e same ih = ih
+      by true (items.Unit n u) e same ih = ih
+      by true (items.KindOf n k) e same ih =
+          let late : is_late_descriptor above (record { family = o.family; item = items.KindOf n k }) ≡ false = ap (λ i. is_late_descriptor above (record { family = o.family; item = i })) (sym same) ∙ fit.0.descriptor in
+          let no_samples : samples_of above F ≡ [] = ap (samples_of above) (sym ((bytes_decides o.family F).0 e)) ∙ none_above above o.family (items.KindOf n k) refl late in
+          subst (All k F) (sym no_samples) (none k F)
+      by true (items.Sample s) e same ih =
+          let own : IfSome (sample_of_line (items.Sample s)) (Holds (kind_of above o.family) o.family (samples_of above o.family)) =
+          subst (λ i. IfSome (sample_of_line i) (Holds (kind_of above o.family) o.family (samples_of above o.family))) same (holds above o fit.0) in
+          more (kind_of above F) F (samples_of above F) s (subst (λ G. Holds (kind_of above G) G (samples_of above G) s) ((bytes_decides o.family F).0 e) own) ih
+
 -- the samples of a family break no rule on names, values, thresholds or their order, by the kind that the family has now
 pub sound_samples : (st : Setting) (above : List Owned) (F : List ℕ) → AreFit st above → AreSound st (kind_of above F) F (samples_of above F)
-unfolding kind_of samples_of
-sound_samples st [] F fit = tt
-sound_samples st (o ∷ above) F fit = by (is_of F o) o.item refl refl (sound_samples st above F fit.1)
-  where
-    by : (b : Bool) (item : Item) → is_of F o ≡ b → o.item ≡ item → AreSound st (kind_of above F) F (samples_of above F)
-        → AreSound st (unwrap_or (option_or (cond b (kind_of_line item) None) (first_some (declared_kind F) above)) Unknown) F (cons_option (cond b (sample_of_line item) None) (samples_of above F))
-    by false item e same ih = ih
-    by true items.Blank e same ih = ih
-    by true items.Comment e same ih = ih
-    by true items.Eof e same ih = ih
-    by true (items.Help n t) e same ih = ih
-    by true (items.Unit n u) e same ih = ih
-    by true (items.KindOf n k) e same ih =
-        let late : is_late_descriptor above (record { family = o.family; item = items.KindOf n k }) ≡ false = ap (λ i. is_late_descriptor above (record { family = o.family; item = i })) (sym same) ∙ fit.0.descriptor in
-        let none : samples_of above F ≡ [] = ap (samples_of above) (sym ((bytes_decides o.family F).0 e)) ∙ none_above above o.family (items.KindOf n k) refl late in
-        subst (AreSound st k F) (sym none) tt
-    by true (items.Sample s) e same ih =
-        let own : IfSome (sample_of_line (items.Sample s)) (IsSoundSample st (kind_of above o.family) o.family (samples_of above o.family)) =
-        subst (λ i. IfSome (sample_of_line i) (IsSoundSample st (kind_of above o.family) o.family (samples_of above o.family))) same fit.0.sound in
-        (subst (λ G. IsSoundSample st (kind_of above G) G (samples_of above G) s) ((bytes_decides o.family F).0 e) own, ih)
+sound_samples st = samples_hold st (IsSoundSample st) (AreSound st) (λ kind F. tt) (λ kind F above s h all. (h, all)) (λ above o fits. fits.sound)
 
 -- no sample of these goes back to its group, under those above it
 abbrev pub AreTogether : Setting → Kind → List ℕ → List Sample → Type 0
@@ -98,26 +103,8 @@ AreTogether st kind family (s ∷ above) = (is_interleaved st kind family above 
 
 -- nor does one of a family, by the kind that the family has now
 pub together_samples : (st : Setting) (above : List Owned) (F : List ℕ) → AreFit st above → AreTogether st (kind_of above F) F (samples_of above F)
-unfolding kind_of samples_of
-together_samples st [] F fit = tt
-together_samples st (o ∷ above) F fit = by (is_of F o) o.item refl refl (together_samples st above F fit.1)
-  where
-    by : (b : Bool) (item : Item) → is_of F o ≡ b → o.item ≡ item → AreTogether st (kind_of above F) F (samples_of above F)
-        → AreTogether st (unwrap_or (option_or (cond b (kind_of_line item) None) (first_some (declared_kind F) above)) Unknown) F (cons_option (cond b (sample_of_line item) None) (samples_of above F))
-    by false item e same ih = ih
-    by true items.Blank e same ih = ih
-    by true items.Comment e same ih = ih
-    by true items.Eof e same ih = ih
-    by true (items.Help n t) e same ih = ih
-    by true (items.Unit n u) e same ih = ih
-    by true (items.KindOf n k) e same ih =
-        let late : is_late_descriptor above (record { family = o.family; item = items.KindOf n k }) ≡ false = ap (λ i. is_late_descriptor above (record { family = o.family; item = i })) (sym same) ∙ fit.0.descriptor in
-        let none : samples_of above F ≡ [] = ap (samples_of above) (sym ((bytes_decides o.family F).0 e)) ∙ none_above above o.family (items.KindOf n k) refl late in
-        subst (AreTogether st k F) (sym none) tt
-    by true (items.Sample s) e same ih =
-        let own : IfSome (sample_of_line (items.Sample s)) (λ s. is_interleaved st (kind_of above o.family) o.family (samples_of above o.family) s ≡ false) =
-        subst (λ i. IfSome (sample_of_line i) (λ s. is_interleaved st (kind_of above o.family) o.family (samples_of above o.family) s ≡ false)) same fit.0.grouped in
-        (subst (λ G. is_interleaved st (kind_of above G) G (samples_of above G) s ≡ false) ((bytes_decides o.family F).0 e) own, ih)
+together_samples st =
+    samples_hold st (λ kind F above s. is_interleaved st kind F above s ≡ false) (AreTogether st) (λ kind F. tt) (λ kind F above s h all. (h, all)) (λ above o fits. fits.grouped)
 
 -- ---- units
 
@@ -234,12 +221,7 @@ module _ (st : Setting) (earlier : List Item) (before : is_after_eof st earlier 
 after_eof : (st : Setting) (earlier : List Item) (item : Item) → item_breaks st earlier item rules.AfterEof ≡ is_after_eof st earlier
 unfolding item_breaks
 after_eof st earlier items.Blank = refl
-after_eof st earlier items.Comment = refl
-after_eof st earlier items.Eof = refl
-after_eof st earlier (items.Help n t) = refl
-after_eof st earlier (items.KindOf n k) = refl
-after_eof st earlier (items.Unit n u) = refl
-after_eof st earlier (items.Sample s) = refl
+after_eof st earlier _ = refl
 
 -- the rules behind that one
 abbrev behind_end : List Rule
@@ -315,13 +297,11 @@ module _ (st : Setting) (earlier : List Item) (before : is_after_eof st earlier 
       }
 
   fit_item : (item : Item) → item_fault st earlier item ≡ None → AreFit st (with_owner (owner_of st.format (owned_lines st.format earlier) item) item (owned_lines st.format earlier))
-  fit_item items.Blank none = fit
-  fit_item items.Comment none = fit
-  fit_item items.Eof none = fit
   fit_item (items.Help F t) none = (fit_described F (sorts.Help t) none, fit)
   fit_item (items.KindOf F k) none = (fit_described F (sorts.Type k) none, fit)
   fit_item (items.Unit F u) none = (fit_described F (sorts.Unit u) none, fit)
   fit_item (items.Sample s) none = (fit_sample s (sample_owner st.format (owned_lines st.format earlier) s.name) refl none, fit)
+  fit_item _ none = fit
 
 pub fit_lines : (st : Setting) (earlier : List Item) → AreFaultless st earlier → AreFit st (owned_lines st.format earlier)
 unfolding owned_lines

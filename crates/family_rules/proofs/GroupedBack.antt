@@ -5,10 +5,11 @@ use Rattle.std.specs.List.{list_any}
 use Rattle.std.proofs.lemmas.List.{map-append}
 use Rattle.std.proofs.lemmas.Bool.Decides.{nat_tests}
 use Rattle.label_sets.specs.declared.kind.Kind.{Kind}
-use Rattle.label_sets.specs.declared.kind.Kind.TheVariants.{Counter, Gauge, Histogram, GaugeHistogram, StateSet, Info, Summary, Unknown}
+use Rattle.label_sets.specs.declared.kind.Kind.TheVariants.{Counter, StateSet}
 use Rattle.label_sets.specs.declared.label_set.LabelSet.{LabelSet}
 use Rattle.label_sets.specs.Labels.{label_sets_eq}
 use Rattle.label_sets.specs.Lists.{first_of_each}
+use Rattle.label_sets.proofs.Laws.{any-map, any-reverse}
 use Rattle.page_model.specs.declared.format.Format.{Format}
 use Rattle.page_model.specs.declared.item.Sample.{Sample}
 use Rattle.page_model.specs.Written.{Setting}
@@ -18,7 +19,7 @@ use Rattle.sample_groups.specs.declared.part.Part.{Part}
 use Rattle.sample_groups.specs.Groups.{Gathered, groups_from, group_from, parts_in, is_overtaken}
 use Rattle.sample_groups.specs.Parts.{is_grouped, entry_of}
 use Rattle.family_rules.specs.GroupRuns.{is_alone, has_own_runs}
-use Rattle.family_rules.proofs.Lists.{or_false, label_sets_swap, any_firsts, reverse-cons, first_of_each-snoc, list_any-map, list_any-reverse}
+use Rattle.family_rules.proofs.Lists.{or_false, label_sets_swap, any_firsts, reverse-cons, first_of_each-snoc}
 use Rattle.family_rules.proofs.Faults.{AreTogether}
 
 -- ---- label sets with others behind them
@@ -82,12 +83,12 @@ module _ (st : Setting) (K : Kind) (F : List ℕ) where
       ∙ ap (first_of_each label_sets_eq) (map-append group (reverse rest) (n ∷ []))
       ∙ first_of_each-snoc label_sets_eq (map group (reverse rest)) (group n)
       ∙ ap (λ b. cond b (firsts rest) (firsts rest ++ group n ∷ []))
-      (list_any-map (λ x. label_sets_eq x (group n)) group (reverse rest) ∙ list_any-reverse (λ t. label_sets_eq (group t) (group n)) rest)
+      (any-map (λ x. label_sets_eq x (group n)) group (reverse rest) ∙ any-reverse (λ t. label_sets_eq (group t) (group n)) rest)
 
   any_first : (x : LabelSet) (rest : List Sample) → list_any (label_sets_eq x) (firsts rest) ≡ list_any (λ t. label_sets_eq (group t) x) rest
   any_first x rest =
       any_firsts label_sets_eq (label_sets_eq x) (λ a b h. ap (label_sets_eq x) ((label_sets_decide a b).0 h)) (map group (reverse rest))
-      ∙ list_any-map (label_sets_eq x) group (reverse rest) ∙ list_any-reverse (λ t. label_sets_eq x (group t)) rest
+      ∙ any-map (label_sets_eq x) group (reverse rest) ∙ any-reverse (λ t. label_sets_eq x (group t)) rest
       ∙ (λ i. list_any (λ t. label_sets_swap x (group t) i) rest)
 
   module _ (open_format : is_open_metrics st.format ≡ true) where
@@ -150,15 +151,10 @@ never_back st K F (n ∷ samples) s e = ap (λ b. b && not (in_one_group st K F 
 
 -- the groups that are kept, or those of the readings, tell of each kind but of those whose samples are alone
 pub back_by_kind : (f : Format) (K : Kind) (back : Bool) → (is_open_metrics f ≡ false → back ≡ false) → ((has_own_runs K && back) || (is_grouped f K && back)) ≡ (not (is_alone K) && back)
-back_by_kind f Gauge back h = refl
-back_by_kind f Unknown back h = refl
-back_by_kind f Info back h = refl
 back_by_kind f StateSet back h = or_false back
-back_by_kind f Histogram back h = refl
-back_by_kind f GaugeHistogram back h = refl
-back_by_kind f Summary back h = refl
 back_by_kind f Counter back h = by (is_open_metrics f) h
   where
     by : (o : Bool) → (o ≡ false → back ≡ false) → (o && back) ≡ back
     by true e = refl
     by false e = sym (e refl)
+back_by_kind f _ back h = refl

@@ -11,6 +11,7 @@ use Rattle.std.proofs.lemmas.List.Folds.{list_any-append}
 use Rattle.label_sets.specs.declared.kind.Kind.{Kind}
 use Rattle.label_sets.specs.declared.label_set.LabelSet.{LabelSet}
 use Rattle.label_sets.specs.Lists.{first_of_each}
+use Rattle.label_sets.proofs.Laws.{bytes_eq-swap, any-map, any-reverse}
 use Rattle.page_model.specs.declared.item.Item.{Item}
 use Rattle.page_model.specs.declared.item.Item.TheVariants as items
 use Rattle.page_model.specs.declared.item.Sample.{Sample}
@@ -27,7 +28,7 @@ use Rattle.family_rules.specs.declared.family.Descriptor.{Descriptor}
 use Rattle.family_rules.specs.declared.family.Descriptor.TheVariants as sorts
 use Rattle.family_rules.specs.Checking.{groups_so_far, so_far, no_lines, left_before, has_samples}
 use Rattle.family_rules.specs.Steps.{has, line_of, family_with}
-use Rattle.family_rules.proofs.Lists.{or_false, or_comm, bytes_same, bytes_swap, reverse-cons, first_of_each-snoc, list_any-map, list_any-reverse}
+use Rattle.family_rules.proofs.Lists.{or_false, or_comm, bytes_same, reverse-cons, first_of_each-snoc}
 use Rattle.family_rules.proofs.Faults.{AreFit}
 
 -- ---- which families were left
@@ -62,7 +63,7 @@ known_lines q F (n ∷ above) = by (bytes_eq n.family F) refl
         ap (λ x. list_any (bytes_eq q) (left_before n.family above) || x) (sym test) ∙ ih ∙ idempotent (bytes_eq n.family q) (bytes_eq F q) (list_any (is_of q) above) test
     by false e ih =
         ap (λ x. x || bytes_eq F q) (list_any-append (bytes_eq q) (left_before n.family above) (n.family ∷ [])
-        ∙ ap (λ x. list_any (bytes_eq q) (left_before n.family above) || (x || false)) (bytes_swap q n.family))
+        ∙ ap (λ x. list_any (bytes_eq q) (left_before n.family above) || (x || false)) (bytes_eq-swap q n.family))
         ∙ commuted (list_any (bytes_eq q) (left_before n.family above)) (bytes_eq n.family q) (list_any (is_of q) above) (bytes_eq F q) ih
 
 -- a family that isn't split off was not left
@@ -77,7 +78,7 @@ fresh st F item (n ∷ above) fit h = by (bytes_eq n.family F) refl h (fresh st 
     by false e none ih =
         let known : (list_any (bytes_eq F) (left_before n.family above) || false) ≡ list_any (is_of F) above = rw e at (known_lines F n.family above) in
         list_any-append (bytes_eq F) (left_before n.family above) (n.family ∷ [])
-        ∙ ap (λ x. list_any (bytes_eq F) (left_before n.family above) || (x || false)) (bytes_swap F n.family ∙ e) ∙ known ∙ none
+        ∙ ap (λ x. list_any (bytes_eq F) (left_before n.family above) || (x || false)) (bytes_eq-swap F n.family ∙ e) ∙ known ∙ none
 
 -- the families in the order of their first lines are those that were left and the nearest one
 pub families_of-reverse : (st : Setting) (o : Owned) (above : List Owned) → AreFit st (o ∷ above) → families_of (reverse (o ∷ above)) ≡ left_before o.family above ++ o.family ∷ []
@@ -88,7 +89,7 @@ families_of-reverse st o (n ∷ above) fit =
     ∙ ap (first_of_each bytes_eq) (map-append (λ (x : Owned). x.family) (reverse (n ∷ above)) (o ∷ []))
     ∙ first_of_each-snoc bytes_eq (map (λ (x : Owned). x.family) (reverse (n ∷ above))) o.family
     ∙ ap (λ b. cond b (families_of (reverse (n ∷ above))) (families_of (reverse (n ∷ above)) ++ o.family ∷ []))
-    (list_any-map (λ x. bytes_eq x o.family) (λ (x : Owned). x.family) (reverse (n ∷ above)) ∙ list_any-reverse (is_of o.family) (n ∷ above))
+    (any-map (λ x. bytes_eq x o.family) (λ (x : Owned). x.family) (reverse (n ∷ above)) ∙ any-reverse (is_of o.family) (n ∷ above))
     ∙ by (bytes_eq n.family o.family) refl fit.0.together (families_of-reverse st n above fit.1)
   where
     by : (b : Bool) → bytes_eq n.family o.family ≡ b → (not b && list_any (is_of o.family) above) ≡ false

@@ -2,16 +2,16 @@
 use Rattle.std.proofs.Common.{◌≡◌, ℕ, Bool, true, false, cond, not, ◌&&◌, ◌||◌, List, [], ◌∷◌, ◌++◌, map, filter, Option, Some, None, refl, sym, ap, ◌∙◌, reverse}
 use Rattle.std.proofs.lemmas.List.{append-nil, reverse-append}
 use Rattle.std.proofs.lemmas.List.Elements.{filter-append}
-use Rattle.std.proofs.lemmas.List.Sorted.{IsPermutation-reverse, list_any-IsPermutation}
 use Rattle.std.specs.List.{list_any}
 use Rattle.std.specs.Option.{option_or}
 use Rattle.std.specs.Str.{bytes_eq}
 use Rattle.std.specs.Map.{lookup}
-use Rattle.std.specs.Cmp.Lexicographic.{bytes_decides, nat_list_eq_equiv}
+use Rattle.std.specs.Cmp.Lexicographic.{bytes_decides}
 use Rattle.indexmap.specs.IndexMap.{insert_entry}
 use Rattle.label_sets.specs.declared.label_set.LabelSet.{LabelSet}
 use Rattle.label_sets.specs.Labels.{label_sets_eq}
 use Rattle.label_sets.specs.Lists.{first_of_each, first_some}
+use Rattle.label_sets.proofs.Laws.{bytes_eq-swap}
 
 -- ---- tests
 
@@ -33,15 +33,12 @@ cond_none false x r e = (refl, e)
 pub bytes_same : (a : List ℕ) → bytes_eq a a ≡ true
 bytes_same a = (bytes_decides a a).1 refl
 
-pub bytes_swap : (a b : List ℕ) → bytes_eq a b ≡ bytes_eq b a
-bytes_swap a b = nat_list_eq_equiv.symm a b
-
 pub label_sets_swap : (a b : LabelSet) → label_sets_eq a b ≡ label_sets_eq b a
 label_sets_swap [] [] = refl
 label_sets_swap [] (y ∷ ys) = refl
 label_sets_swap (x ∷ xs) [] = refl
-label_sets_swap (x ∷ xs) (y ∷ ys) = ap (λ b. (b && bytes_eq x.value y.value) && label_sets_eq xs ys) (bytes_swap x.name y.name)
-    ∙ ap (λ b. (bytes_eq y.name x.name && b) && label_sets_eq xs ys) (bytes_swap x.value y.value)
+label_sets_swap (x ∷ xs) (y ∷ ys) = ap (λ b. (b && bytes_eq x.value y.value) && label_sets_eq xs ys) (bytes_eq-swap x.name y.name)
+    ∙ ap (λ b. (bytes_eq y.name x.name && b) && label_sets_eq xs ys) (bytes_eq-swap x.value y.value)
     ∙ ap (λ b. (bytes_eq y.name x.name && bytes_eq y.value x.value) && b) (label_sets_swap xs ys)
 
 -- ---- one element more at the end
@@ -81,13 +78,6 @@ any_firsts {A = A} eq p alike (x ∷ xs) = by (p x) refl (any_firsts eq p alike 
     by : (b : Bool) → p x ≡ b → list_any p (first_of_each eq xs) ≡ list_any p xs → (p x || list_any p (filter (λ y. not (eq x y)) (first_of_each eq xs))) ≡ (p x || list_any p xs)
     by true e ih = rw e refl
     by false e ih = ap (λ b. p x || b) (others_any eq p alike x (first_of_each eq xs) e ∙ ih)
-
-pub list_any-map : {A B : Type 0} (p : B → Bool) (f : A → B) (xs : List A) → list_any p (map f xs) ≡ list_any (λ x. p (f x)) xs
-list_any-map p f [] = refl
-list_any-map p f (x ∷ xs) = ap (λ b. p (f x) || b) (list_any-map p f xs)
-
-pub list_any-reverse : {A : Type 0} (p : A → Bool) (xs : List A) → list_any p (reverse xs) ≡ list_any p xs
-list_any-reverse p xs = sym (list_any-IsPermutation p xs (reverse xs) (IsPermutation-reverse xs))
 
 pub first_some-append : {A B : Type 0} (f : A → Option B) (xs ys : List A) → first_some f (xs ++ ys) ≡ option_or (first_some f xs) (first_some f ys)
 first_some-append f [] ys = refl

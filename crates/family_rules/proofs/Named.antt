@@ -9,8 +9,9 @@ use Rattle.std.proofs.lemmas.List.{length-append}
 use Rattle.std.proofs.lemmas.Option.{slice_get_within}
 use Rattle.std.proofs.lemmas.List.Folds.{list_any-append}
 use Rattle.indexmap.specs.IndexMap.{insert_entry}
+use Rattle.label_sets.proofs.Laws.{bytes_eq-swap}
 use Rattle.family_rules.specs.LeftFamilies.{named, AreDistinct, AreNamed}
-use Rattle.family_rules.proofs.Lists.{bytes_same, bytes_swap}
+use Rattle.family_rules.proofs.Lists.{bytes_same}
 
 -- a name that is not there has no value
 pub named_none : {V : Type 0} (q : List ℕ) (names : List (List ℕ)) (values : List V) → list_any (bytes_eq q) names ≡ false → lookup (bytes_eq q) (named names values) ≡ None
@@ -90,7 +91,7 @@ still_distinct q (n ∷ ns) d none = by (bytes_eq q n) refl none (still_distinct
     by : (b : Bool) → bytes_eq q n ≡ b → (b || list_any (bytes_eq q) ns) ≡ false → (list_any (bytes_eq q) ns ≡ false → AreDistinct (ns ++ q ∷ []))
         → (list_any (bytes_eq n) (ns ++ q ∷ []) ≡ false) × AreDistinct (ns ++ q ∷ [])
     by true e h more = absurd (let f : true ≡ false = h in cc)
-    by false e h more = (list_any-append (bytes_eq n) ns (q ∷ []) ∙ (λ i. d.0 i || ((bytes_swap n q ∙ e) i || false)), more h)
+    by false e h more = (list_any-append (bytes_eq n) ns (q ∷ []) ∙ (λ i. d.0 i || ((bytes_eq-swap n q ∙ e) i || false)), more h)
 
 -- how many there are
 pub named_length : {V : Type 0} (names : List (List ℕ)) (values : List V) → length values ≡ length names → length (named names values) ≡ length values

@@ -3,6 +3,7 @@ use Rattle.std.proofs.Common.{◌≡◌, ℕ, Bool, true, false, cond, ◌&&◌,
 use Rattle.std.specs.List.{list_any}
 use Rattle.std.specs.Option.{option_or}
 use Rattle.std.specs.Cmp.Lexicographic.{bytes_decides}
+use Rattle.std.proofs.lemmas.Bool.{or_parts}
 use Rattle.label_sets.specs.Lists.{first_some}
 use Rattle.page_model.specs.declared.item.Item.{Item}
 use Rattle.page_model.specs.declared.item.Item.TheVariants as items
@@ -11,7 +12,7 @@ use Rattle.page_model.specs.Items.{is_sample, kind_of_line, help_of_line, unit_o
 use Rattle.page_model.specs.Owners.{Owned, is_of}
 use Rattle.page_model.specs.Rules.{is_late_descriptor}
 use Rattle.family_rules.proofs.Lists.{reverse-cons, first_some-append}
-use Rattle.family_rules.proofs.Faults.{or_parts, AreFit}
+use Rattle.family_rules.proofs.Faults.{AreFit}
 
 -- lines that say something are descriptors of one sort
 abbrev pub IsOfOneSort : {A : Type 0} → (Item → Option A) → Type 0

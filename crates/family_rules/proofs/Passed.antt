@@ -2,11 +2,13 @@
 use Rattle.std.proofs.Common.{◌≡◌, ◌+◌, ◌-◌, arith, ℕ, Bool, true, false, cond, not, ◌&&◌, ◌||◌, List, [], ◌∷◌, ◌++◌, map, reverse, length, length-append, refl, sym, ap, ◌∙◌}
 use Rattle.std.specs.List.{list_any, flat_map}
 use Rattle.std.proofs.lemmas.List.{map-append, drop_all, drop_at, length-map}
+use Rattle.std.proofs.lemmas.Bool.{or_parts}
 use Rattle.exact_decimal.specs.declared.number.Number.{Number}
 use Rattle.label_sets.specs.declared.kind.Kind.{Kind}
 use Rattle.label_sets.specs.declared.kind.Kind.TheVariants.{Gauge, Unknown, Info}
 use Rattle.label_sets.specs.declared.label_set.LabelSet.{LabelSet}
 use Rattle.label_sets.specs.Labels.{label_sets_eq}
+use Rattle.label_sets.proofs.Laws.{any-map, any-reverse}
 use Rattle.packed_keys.specs.declared.sample_key.SampleKey.{SampleKey}
 use Rattle.page_model.specs.declared.format.Format.{Format}
 use Rattle.page_model.specs.declared.item.Item.TheVariants as items
@@ -18,8 +20,8 @@ use Rattle.sample_groups.specs.Parts.{is_grouped}
 use Rattle.family_rules.specs.GroupRuns.{is_alone}
 use Rattle.family_rules.specs.KeyedValues.{samples_at_end, passed_from, is_passed}
 use Rattle.family_rules.specs.Checking.{keyed, seen_above, left_before}
-use Rattle.family_rules.proofs.Lists.{reverse-cons, list_any-map, list_any-reverse}
-use Rattle.family_rules.proofs.Faults.{AreFit, or_parts, sound_samples}
+use Rattle.family_rules.proofs.Lists.{reverse-cons}
+use Rattle.family_rules.proofs.Faults.{AreFit, sound_samples}
 use Rattle.family_rules.proofs.Kept.{reversed_samples}
 use Rattle.family_rules.proofs.Plain.{single_suffix, plain_name}
 use Rattle.family_rules.proofs.Built.{kept, AreNamed, plain_names, no_same, seen_in, seen_before, together}
@@ -90,7 +92,7 @@ module _ (st : Setting) where
       ∙ ap (is_passed labels) (map-append (keyed st) (reverse samples) (n ∷ []))
       ∙ passed_more labels false false (map (keyed st) (reverse samples)) (keyed st n)
       ∙ ap (λ l. (l || label_sets_eq (kept st n) labels) && not (label_sets_eq (kept st n) labels))
-      (list_any-map (λ (t : SampleKey × Number). label_sets_eq t.0.labels labels) (keyed st) (reverse samples) ∙ list_any-reverse (λ t. label_sets_eq (kept st t) labels) samples)
+      (any-map (λ (t : SampleKey × Number). label_sets_eq t.0.labels labels) (keyed st) (reverse samples) ∙ any-reverse (λ t. label_sets_eq (kept st t) labels) samples)
       ∙ turned (list_any (λ t. label_sets_eq (kept st t) labels) samples) (label_sets_eq (kept st n) labels)
 
   module _ (k : Kind) (F : List ℕ) (s : Sample) (alone : is_alone k ≡ true) where

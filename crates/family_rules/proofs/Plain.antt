@@ -2,6 +2,7 @@
 use Rattle.std.proofs.Common.{◌≡◌, ℕ, Bool, true, false, cond, not, ◌&&◌, ◌||◌, List, [], ◌∷◌, ◌++◌, drop, length, codes, Option, Some, None, Result, Ok, Err, refl, sym, ap, ◌∙◌}
 use Rattle.std.specs.Str.{bytes_eq}
 use Rattle.std.specs.Cmp.Lexicographic.{bytes_decides}
+use Rattle.std.proofs.lemmas.Bool.{not-false}
 use Rattle.exact_decimal.specs.Numbers.{number_of}
 use Rattle.exact_decimal.specs.Order.{less, is_finite, is_not_a_number}
 use Rattle.label_sets.specs.declared.kind.Kind.{Kind}
@@ -37,10 +38,6 @@ behind_front (x ∷ xs) rest = behind_front xs rest
 pub suffix_is : (F rest suffix : List ℕ) (s : Sample) → s.name ≡ F ++ rest → has_suffix F suffix s ≡ bytes_eq rest suffix
 suffix_is F rest suffix s name = ap (λ n. bytes_eq (drop (length F) n) suffix) name ∙ ap (λ l. bytes_eq l suffix) (behind_front F rest)
 
-not_false : (b : Bool) → not b ≡ false → b ≡ true
-not_false true h = refl
-not_false false h = absurd (let e : true ≡ false = h in cc)
-
 plain_suffix : (f : Format) (k : Kind) (F name : List ℕ) → is_grouped f k ≡ false → is_sample_name f k F name ≡ (bytes_eq name (F ++ single_suffix k) || false)
 plain_suffix Text Counter F name h = refl
 plain_suffix OpenMetrics Counter F name h = absurd (let e : true ≡ false = h in cc)
@@ -54,7 +51,7 @@ plain_suffix f _ F name h = absurd (let e : true ≡ false = h in cc)
 pub plain_name : (st : Setting) (k : Kind) (F : List ℕ) (s : Sample) → is_grouped st.format k ≡ false → has_wrong_suffix st k F s ≡ false → s.name ≡ F ++ single_suffix k
 unfolding has_wrong_suffix
 plain_name st k F s plain h =
-    let same : bytes_eq s.name (F ++ single_suffix k) ≡ true = sym (or_false (bytes_eq s.name (F ++ single_suffix k))) ∙ sym (plain_suffix st.format k F s.name plain) ∙ not_false (is_sample_name st.format k F s.name) h in
+    let same : bytes_eq s.name (F ++ single_suffix k) ≡ true = sym (or_false (bytes_eq s.name (F ++ single_suffix k))) ∙ sym (plain_suffix st.format k F s.name plain) ∙ not-false (is_sample_name st.format k F s.name) h in
     (bytes_decides s.name (F ++ single_suffix k)).0 same
 
 -- a format in which a counter has no groups

@@ -1,8 +1,9 @@
 -- The readings of a right page have values of their families' kinds.
-use Rattle.std.proofs.Common.{◌≡◌, ℕ, ◌+◌, Bool, List, [], ◌∷◌, map, reverse, Option, Some, None, option_map, option_and_then, refl, sym, subst, inl, inr}
+use Rattle.std.proofs.Common.{◌≡◌, ℕ, ◌+◌, Bool, List, [], ◌∷◌, map, reverse, Option, Some, None, option_map, option_and_then, sym, subst, inl, inr}
 use Rattle.std.specs.List.{fold, AllByRecursion}
-use Rattle.std.specs.Option.{option_or, option_map_or}
+use Rattle.std.specs.Option.{option_map_or}
 use Rattle.label_sets.specs.declared.kind.Kind.{Kind}
+use Rattle.label_sets.proofs.Laws.{option_or-none, option_map-none}
 use Rattle.page_model.specs.declared.item.Item.{Item}
 use Rattle.page_model.specs.declared.page.Reading.{Reading}
 use Rattle.page_model.specs.declared.page.Family.{Family}
@@ -17,31 +18,23 @@ use Rattle.family_rules.proofs.Values.{IsValueOf, HaveValuesOf, page_values}
 
 -- ---- lines without a fault
 
-option_none : {A : Type 0} (a b : Option A) → option_or a b ≡ None → (a ≡ None) × (b ≡ None)
-option_none None b h = (refl, h)
-option_none (Some x) b h = absurd cc
-
-map_none : {A B : Type 0} (f : A → B) (o : Option A) → option_map f o ≡ None → o ≡ None
-map_none f None h = refl
-map_none f (Some x) h = absurd cc
-
 -- a line without a fault has an item without one, where it has an item
 free_line : (st : Setting) (l : Line) (earlier : List Item) → line_fault st earlier l ≡ None → AreFaultless st earlier → AreFaultless st (with_line st.format l earlier)
 unfolding line_fault
-free_line st l earlier none free = by l.says (option_none (own_fault st l) (option_and_then (λ w. item_fault st earlier (item_of st.format w)) l.says) none).1
+free_line st l earlier none free = by l.says (option_or-none (own_fault st l) (option_and_then (λ w. item_fault st earlier (item_of st.format w)) l.says) none).1
   where
     by : (says : Option Written) → option_and_then (λ w. item_fault st earlier (item_of st.format w)) says ≡ None → AreFaultless st (option_map_or (λ w. item_of st.format w ∷ earlier) says earlier)
     by None h = free
     by (Some w) h = (h, free)
 
 -- the items of lines without a fault break no rule, and neither does the end behind them
-free_lines : (ls : List Line) (st : Setting) (earlier : List Item) (n : ℕ) (clean : Bool) → fault_from st earlier n ls clean ≡ None → AreFaultless st earlier
+pub free_lines : (ls : List Line) (st : Setting) (earlier : List Item) (n : ℕ) (clean : Bool) → fault_from st earlier n ls clean ≡ None → AreFaultless st earlier
     → AreFaultless st (fold (λ above l. with_line st.format l above) earlier ls) × (end_fault st (fold (λ above l. with_line st.format l above) earlier ls) clean ≡ None)
 unfolding fault_from
-free_lines [] st earlier n clean none free = (free, map_none (λ (rule : Rule). (n, rule)) (end_fault st earlier clean) none)
+free_lines [] st earlier n clean none free = (free, option_map-none (λ (rule : Rule). (n, rule)) (end_fault st earlier clean) none)
 free_lines (l ∷ ls) st earlier n clean none free =
-    let both = option_none (option_map (λ (rule : Rule). (n, rule)) (line_fault st earlier l)) (fault_from st (with_line st.format l earlier) (n + 1) ls clean) none in
-    free_lines ls st (with_line st.format l earlier) (n + 1) clean both.1 (free_line st l earlier (map_none (λ (rule : Rule). (n, rule)) (line_fault st earlier l) both.0) free)
+    let both = option_or-none (option_map (λ (rule : Rule). (n, rule)) (line_fault st earlier l)) (fault_from st (with_line st.format l earlier) (n + 1) ls clean) none in
+    free_lines ls st (with_line st.format l earlier) (n + 1) clean both.1 (free_line st l earlier (option_map-none (λ (rule : Rule). (n, rule)) (line_fault st earlier l) both.0) free)
 
 -- ---- what is left of readings and families
 

@@ -4,10 +4,12 @@ use Rattle.std.specs.List.{list_any}
 use Rattle.std.specs.Str.{bytes_eq}
 use Rattle.std.specs.Cmp.Lexicographic.{bytes_decides}
 use Rattle.std.proofs.lemmas.List.{map-append}
+use Rattle.std.proofs.lemmas.Bool.{and_parts}
 use Rattle.label_sets.specs.declared.kind.Kind.{Kind}
 use Rattle.label_sets.specs.declared.label_set.LabelSet.{LabelSet}
 use Rattle.label_sets.specs.Labels.{label_sets_eq}
 use Rattle.label_sets.specs.Lists.{first_of_each}
+use Rattle.label_sets.proofs.Laws.{bytes_eq-swap, any-map, any-reverse}
 use Rattle.packed_keys.specs.declared.sample_key.SampleKey.{SampleKey}
 use Rattle.packed_keys.specs.Packing.{sample_key_eq}
 use Rattle.page_model.specs.declared.item.Item.TheVariants as items
@@ -17,23 +19,19 @@ use Rattle.page_model.specs.Owners.{Owned, kind_of, samples_of}
 use Rattle.page_model.specs.Rules.{is_open_metrics, sample_group, in_one_group, is_interleaved}
 use Rattle.page_model.proofs.Laws.{label_sets_decide}
 use Rattle.family_rules.specs.GroupRuns.{Runs, no_runs, has_own_runs, has_runs, group_key, runs_from, runs_of, goes_back, with_group}
-use Rattle.family_rules.proofs.Lists.{bytes_same, bytes_swap, label_sets_swap, any_firsts, reverse-cons, first_of_each-snoc, list_any-map, list_any-reverse}
+use Rattle.family_rules.proofs.Lists.{bytes_same, label_sets_swap, any_firsts, reverse-cons, first_of_each-snoc}
 
 -- ---- keys
 
-both : (a b : Bool) → (a && b) ≡ true → (a ≡ true) × (b ≡ true)
-both true b h = (refl, h)
-both false b h = absurd (let f : false ≡ true = h in cc)
-
 key_is : (x y : SampleKey) → sample_key_eq x y ≡ true → x ≡ y
 key_is x y h =
-    let parts = both (bytes_eq x.name y.name) (label_sets_eq x.labels y.labels) h in
+    let parts = and_parts (bytes_eq x.name y.name) (label_sets_eq x.labels y.labels) h in
     let name : x.name ≡ y.name = (bytes_decides x.name y.name).0 parts.0 in
     let labels : x.labels ≡ y.labels = (label_sets_decide x.labels y.labels).0 parts.1 in
     λ i. record { name = name i; labels = labels i }
 
 key_swap : (x y : SampleKey) → sample_key_eq x y ≡ sample_key_eq y x
-key_swap x y = ap (λ b. b && label_sets_eq x.labels y.labels) (bytes_swap x.name y.name) ∙ ap (λ b. bytes_eq y.name x.name && b) (label_sets_swap x.labels y.labels)
+key_swap x y = ap (λ b. b && label_sets_eq x.labels y.labels) (bytes_eq-swap x.name y.name) ∙ ap (λ b. bytes_eq y.name x.name && b) (label_sets_swap x.labels y.labels)
 
 -- ---- the groups of samples
 
@@ -45,7 +43,7 @@ module _ (st : Setting) (k : Kind) (F : List ℕ) where
   key s = group_key F (group s)
 
   begun_any : (p : SampleKey → Bool) (samples : List Sample) → list_any p (first_of_each sample_key_eq (map key (reverse samples))) ≡ list_any (λ t. p (key t)) samples
-  begun_any p samples = any_firsts sample_key_eq p (λ x y h. ap p (key_is x y h)) (map key (reverse samples)) ∙ list_any-map p key (reverse samples) ∙ list_any-reverse (λ t. p (key t)) samples
+  begun_any p samples = any_firsts sample_key_eq p (λ x y h. ap p (key_is x y h)) (map key (reverse samples)) ∙ any-map p key (reverse samples) ∙ any-reverse (λ t. p (key t)) samples
 
   one_key : (s t : Sample) → sample_key_eq (key s) (key t) ≡ label_sets_eq (group t) (group s)
   one_key s t = ap (λ b. b && label_sets_eq (group s) (group t)) (bytes_same F) ∙ label_sets_swap (group s) (group t)

@@ -9,6 +9,7 @@ use Rattle.label_sets.specs.declared.label.Label.{Label}
 use Rattle.label_sets.specs.declared.label_set.LabelSet.{LabelSet}
 use Rattle.label_sets.specs.Labels.{label_inserted, name_before}
 use Rattle.label_sets.specs.Sets.{IsLabelSet}
+use Rattle.label_sets.proofs.Laws.{all-filter}
 use Rattle.page_model.specs.declared.format.Format.{Format}
 use Rattle.page_model.specs.declared.format.Format.TheVariants.{OpenMetrics}
 use Rattle.page_model.specs.declared.format.Treatment.TheVariants.{Scraped}
@@ -62,14 +63,6 @@ pub none_stays : (s : Shown) (f : Family) → is_left_out f.kind f.name ≡ fals
 unfolding candidate_of
 none_stays s f h e = sym (ap (λ (b : Bool). if b then None else renamed_family s f (filter (stays f.kind) f.readings)) h ∙ ap (renamed_family s f) e)
 
-all_kept : (P : Reading → Type 0) (p : Reading → Bool) (rs : List Reading) → AllByRecursion P rs → AllByRecursion P (filter p rs)
-all_kept P p [] h = tt
-all_kept P p (r ∷ rs) h = go (p r) (all_kept P p rs h.1)
-  where
-    go : (b : Bool) → AllByRecursion P (filter p rs) → AllByRecursion P (cond b (r ∷ filter p rs) (filter p rs))
-    go true ih = (h.0, ih)
-    go false ih = ih
-
 pub candidate_made : (s : Shown) (form : Format) (f : Family) (first : Reading) (rest : List Reading) → IsFormedFamily form Scraped f → is_left_out f.kind f.name ≡ false → filter (stays f.kind) f.readings ≡ first ∷ rest
     → ◌≡◌ {A = Option Family} (Some (named_candidate s first.key.name f)) (candidate_of s f)
 unfolding candidate_of federated_reading
@@ -78,7 +71,7 @@ candidate_made s form f first rest formed out e =
     let name = federated_name f.kind first.key.name in
     let own : first.key.name ≡ key_name form f.kind f.name =
     ap (λ k. k.name) (subst (AllByRecursion (IsFormedReading form Scraped f.kind f.name f.unit)) e
-    (all_kept (IsFormedReading form Scraped f.kind f.name f.unit) (stays f.kind) f.readings (recursion_from_All (IsFormedReading form Scraped f.kind f.name f.unit) f.readings formed.readings))).0.key in
+    (all-filter (IsFormedReading form Scraped f.kind f.name f.unit) (stays f.kind) f.readings (recursion_from_All (IsFormedReading form Scraped f.kind f.name f.unit) f.readings formed.readings))).0.key in
     let keeps : key_name OpenMetrics kind name ≡ first.key.name =
     subst (λ key. key_name OpenMetrics (federated_kind f.kind key) (federated_name f.kind key) ≡ key) (sym own) (keeps_name form f.kind f.name formed.name formed.kind) in
     ap (λ rs. Some (record { name = name; kind = kind; help = f.help; unit = f.unit; readings = map (reading_under s first.key.name kind) rs })) e

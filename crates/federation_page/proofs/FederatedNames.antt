@@ -88,35 +88,19 @@ keeps_name f kinds.Unknown name m k = refl
 pub open_kind : (kind : Kind) (name : List ℕ) → is_metric_name name ≡ true → federated_kind kind (key_name OpenMetrics kind name) ≡ kind
 unfolding federated_kind
 open_kind kinds.Counter name m = counter_kind name m
-open_kind kinds.Info name m = refl
-open_kind kinds.Gauge name m = refl
-open_kind kinds.Histogram name m = refl
-open_kind kinds.GaugeHistogram name m = refl
-open_kind kinds.StateSet name m = refl
-open_kind kinds.Summary name m = refl
-open_kind kinds.Unknown name m = refl
+open_kind _ name m = refl
 
 pub open_name : (kind : Kind) (name : List ℕ) → is_metric_name name ≡ true → federated_name kind (key_name OpenMetrics kind name) ≡ name
 unfolding federated_name
 open_name kinds.Counter name m = counter_name name m
 open_name kinds.Info name m = info_keeps name m
-open_name kinds.Gauge name m = refl
-open_name kinds.Histogram name m = refl
-open_name kinds.GaugeHistogram name m = refl
-open_name kinds.StateSet name m = refl
-open_name kinds.Summary name m = refl
-open_name kinds.Unknown name m = refl
+open_name _ name m = refl
 
 -- the key names of a text page are its families'
 pub text_key : (kind : Kind) (name : List ℕ) → is_kind_in Text kind ≡ true → key_name Text kind name ≡ name
 text_key kinds.Counter name k = append-nil name
 text_key kinds.Info name k = absurd (let bad : false ≡ true = k in cc)
-text_key kinds.Gauge name k = refl
-text_key kinds.Histogram name k = refl
-text_key kinds.GaugeHistogram name k = refl
-text_key kinds.StateSet name k = refl
-text_key kinds.Summary name k = refl
-text_key kinds.Unknown name k = refl
+text_key _ name k = refl
 
 -- of families of one page, those with one federated kind and name have one name
 pub one_source : (f : Format) (j k : Kind) (m n : List ℕ) → is_metric_name m ≡ true → is_metric_name n ≡ true → is_kind_in f j ≡ true → is_kind_in f k ≡ true

@@ -1,12 +1,13 @@
 -- The readings of a target as they stand on the page: their form, and the size of their lines.
-use Rattle.std.proofs.Common.{◌≡◌, ℕ, suc, ◌+◌, ◌*◌, ◌≤◌, Bool, true, false, ◌||◌, cond, List, [], ◌∷◌, ◌++◌, map, length, codes, Option, Some, None, refl, sym, ap, subst, ◌∙◌, arith}
-use Rattle.std.specs.Prelude.{◌==◌, option_map}
+use Rattle.std.proofs.Common.{◌≡◌, ℕ, suc, ◌+◌, ◌*◌, ◌≤◌, List, [], ◌∷◌, ◌++◌, map, length, codes, Option, Some, None, refl, sym, ap, subst, ◌∙◌, arith}
+use Rattle.std.specs.Prelude.{option_map}
 use Rattle.std.specs.List.{flat_map, AllByRecursion}
 use Rattle.std.proofs.lemmas.List.{length-append}
 use Rattle.label_sets.specs.declared.kind.Kind.{Kind}
 use Rattle.label_sets.specs.declared.label.Label.{Label}
 use Rattle.label_sets.specs.declared.label_set.LabelSet.{LabelSet}
-use Rattle.label_sets.specs.Labels.{name_before, label_inserted}
+use Rattle.label_sets.specs.Labels.{label_inserted}
+use Rattle.label_sets.proofs.Laws.{all-append, all-front, all-behind, length-inserted}
 use Rattle.exact_decimal.specs.declared.number.Number.{Number}
 use Rattle.exact_decimal.specs.declared.number.Number.TheVariants.{Finite}
 use Rattle.exact_decimal.specs.Numbers.{number_of}
@@ -19,24 +20,10 @@ use Rattle.page_model.specs.declared.page.Value.{Value}
 use Rattle.page_model.specs.declared.page.Value.TheVariants as values
 use Rattle.page_model.specs.declared.page.Reading.{Reading}
 use Rattle.page_model.specs.Readings.{key_name}
-use Rattle.open_writing.specs.Writing.{bare_sample, number_sample, bucket_sample, quantile_sample, count_suffix, sum_suffix, observations, total_samples, value_samples, reading_samples, escaped_char, escaped, open_label_text, more_labels_text, labels_text, sample_text}
-use Rattle.writing_laws.proofs.Laws.{total}
+use Rattle.open_writing.specs.Writing.{bare_sample, number_sample, bucket_sample, quantile_sample, count_suffix, sum_suffix, observations, total_samples, value_samples, reading_samples, escaped, open_label_text, more_labels_text, labels_text, sample_text}
+use Rattle.writing_laws.proofs.Laws.{total, escaped_length, total_inserted}
 use Rattle.federation_page.specs.Candidates.{with_target}
-use Rattle.federation_page.proofs.TargetLabels.{job_label, instance_label, target_length, length_inserted}
-
--- ---- all of lists that are put together
-
-pub all_joined : {A : Type 0} (P : A → Type 0) (xs ys : List A) → AllByRecursion P xs → AllByRecursion P ys → AllByRecursion P (xs ++ ys)
-all_joined P [] ys h k = k
-all_joined P (x ∷ xs) ys h k = (h.0, all_joined P xs ys h.1 k)
-
-pub all_first : {A : Type 0} (P : A → Type 0) (xs ys : List A) → AllByRecursion P (xs ++ ys) → AllByRecursion P xs
-all_first P [] ys h = tt
-all_first P (x ∷ xs) ys h = (h.0, all_first P xs ys h.1)
-
-pub all_second : {A : Type 0} (P : A → Type 0) (xs ys : List A) → AllByRecursion P (xs ++ ys) → AllByRecursion P ys
-all_second P [] ys h = h
-all_second P (x ∷ xs) ys h = all_second P xs ys h.1
+use Rattle.federation_page.proofs.TargetLabels.{job_label, instance_label, target_length}
 
 -- ---- sizes of labels as they are written
 
@@ -49,47 +36,25 @@ unfolding more_labels_text
 more_bytes [] = refl
 more_bytes (l ∷ ls) = let whole = length-append (44 ∷ open_label_text l) (flat_map (λ m. 44 ∷ open_label_text m) ls) in let rest = more_bytes ls in omega (arith, whole, rest)
 
-pub labels_most : (ls : List Label) → length (labels_text ls) ≤ total label_bytes ls + 1
+-- some labels take their bytes and one more
+labels_size : (l : Label) (ls : List Label) → length (labels_text (l ∷ ls)) ≡ total label_bytes (l ∷ ls) + 1
 unfolding labels_text
-labels_most [] = omega arith
-labels_most (l ∷ ls) =
+labels_size l ls =
     let whole = length-append (codes "{" ++ (open_label_text l ++ more_labels_text ls)) (codes "}") in
     let inner = length-append (codes "{") (open_label_text l ++ more_labels_text ls) in
     let both = length-append (open_label_text l) (more_labels_text ls) in
     let rest = more_bytes ls in
     omega (arith, whole, inner, both, rest)
+
+pub labels_most : (ls : List Label) → length (labels_text ls) ≤ total label_bytes ls + 1
+unfolding labels_text
+labels_most [] = omega arith
+labels_most (l ∷ ls) = let size = labels_size l ls in omega (arith, size)
 
 pub labels_least : (ls : List Label) → total label_bytes ls ≤ length (labels_text ls)
 unfolding labels_text
 labels_least [] = omega arith
-labels_least (l ∷ ls) =
-    let whole = length-append (codes "{" ++ (open_label_text l ++ more_labels_text ls)) (codes "}") in
-    let inner = length-append (codes "{") (open_label_text l ++ more_labels_text ls) in
-    let both = length-append (open_label_text l) (more_labels_text ls) in
-    let rest = more_bytes ls in
-    omega (arith, whole, inner, both, rest)
-
-inserted_bytes : (l : Label) (ls : List Label) → total label_bytes (label_inserted l ls) ≡ label_bytes l + total label_bytes ls
-inserted_bytes l [] = refl
-inserted_bytes l (m ∷ ms) = go (name_before l.name m.name) (inserted_bytes l ms)
-  where
-    go : (b : Bool) → total label_bytes (label_inserted l ms) ≡ label_bytes l + total label_bytes ms → total label_bytes (cond b (l ∷ m ∷ ms) (m ∷ label_inserted l ms)) ≡ label_bytes l + total label_bytes (m ∷ ms)
-    go true ih = refl
-    go false ih = omega (arith, ih)
-
-escaped_most : (text : List ℕ) → length (escaped text) ≤ 2 * length text
-unfolding escaped
-escaped_most [] = omega arith
-escaped_most (c ∷ cs) =
-    let whole = length-append (escaped_char c) (flat_map escaped_char cs) in
-    let here = one (c == 92 || c == 34) (c == 10) in
-    let rest = escaped_most cs in
-    omega (arith, whole, here, rest)
-  where
-    one : (a b : Bool) → length (cond a (92 ∷ c ∷ []) (cond b (codes "\\n") (c ∷ []))) ≤ 2
-    one true b = omega arith
-    one false true = omega arith
-    one false false = omega arith
+labels_least (l ∷ ls) = let size = labels_size l ls in omega (arith, size)
 
 value_bytes : (l : Label) (n : ℕ) → length l.value ≤ n → label_bytes l ≤ length l.name + 2 * n + 4
 unfolding open_label_text
@@ -97,7 +62,7 @@ value_bytes l n h =
     let whole = length-append (l.name ++ codes "=\"" ++ escaped l.value) (codes "\"") in
     let front = length-append (l.name ++ codes "=\"") (escaped l.value) in
     let name = length-append l.name (codes "=\"") in
-    let value = escaped_most l.value in
+    let value = escaped_length l.value in
     omega (arith, whole, front, name, value, h)
 
 -- the most bytes that a target's labels take in a line
@@ -123,8 +88,8 @@ unfolding with_target
 target_more job instance ls j i = record {
   count = target_length job instance ls;
   bytes =
-      let first = inserted_bytes (instance_label instance) (label_inserted (job_label job) ls) in
-      let second = inserted_bytes (job_label job) ls in
+      let first = total_inserted label_bytes (instance_label instance) (label_inserted (job_label job) ls) in
+      let second = total_inserted label_bytes (job_label job) ls in
       let jobs = value_bytes (job_label job) 256 j in
       let instances = value_bytes (instance_label instance) 262 i in
       omega (arith, first, second, jobs, instances);
@@ -132,8 +97,8 @@ target_more job instance ls j i = record {
 
 more_inserted : (l : Label) (ls ms : LabelSet) → HaveTarget ls ms → HaveTarget (label_inserted l ls) (label_inserted l ms)
 more_inserted l ls ms h = record {
-  count = length_inserted l ms ∙ ap suc (h.count ∙ sym (ap suc (length_inserted l ls)));
-  bytes = let a = inserted_bytes l ms in let b = inserted_bytes l ls in let c = h.bytes in omega (arith, a, b, c);
+  count = length-inserted l ms ∙ ap suc (h.count ∙ sym (ap suc (length-inserted l ls)));
+  bytes = let a = total_inserted label_bytes l ms in let b = total_inserted label_bytes l ls in let c = h.bytes in omega (arith, a, b, c);
 }
 
 module _ (P Q : Sample → Type 0) (carry : (s t : Sample) → HasTarget s t → P s → Q t) (kind new : Kind) (family name : List ℕ) (ls ms : LabelSet) (more : HaveTarget ls ms)
@@ -171,14 +136,14 @@ module _ (P Q : Sample → Type 0) (carry : (s t : Sample) → HasTarget s t →
   unfolding value_samples
   value_carried count_le sum_le (values.Plain n) h = (carried (key_name OpenMetrics kind family) (key_name OpenMetrics new name) n key h.0, tt)
   value_carried count_le sum_le (values.Buckets bs sum) h =
-      all_joined Q (map (bucket_sample name ms) bs) (total_samples new name ms bs sum) (buckets_carried bs (all_first P (map (bucket_sample family ls) bs) (total_samples kind family ls bs sum) h))
-      (totals_carried count_le sum_le bs sum (all_second P (map (bucket_sample family ls) bs) (total_samples kind family ls bs sum) h))
+      all-append Q (map (bucket_sample name ms) bs) (total_samples new name ms bs sum) (buckets_carried bs (all-front P (map (bucket_sample family ls) bs) (total_samples kind family ls bs sum) h))
+      (totals_carried count_le sum_le bs sum (all-behind P (map (bucket_sample family ls) bs) (total_samples kind family ls bs sum) h))
   value_carried count_le sum_le (values.Quantiles qs count sum) h =
       let counts = number_sample (family ++ codes "_count") ls (option_map number_of count) in
       let sums = number_sample (family ++ codes "_sum") ls sum in
-      let rest = all_second P (map (quantile_sample family ls) qs) (counts ++ sums) h in
-      all_joined Q (map (quantile_sample name ms) qs) (number_sample (name ++ codes "_count") ms (option_map number_of count) ++ number_sample (name ++ codes "_sum") ms sum) (quantiles_carried qs (all_first P (map (quantile_sample family ls) qs) (counts ++ sums) h))
-      (all_joined Q (number_sample (name ++ codes "_count") ms (option_map number_of count)) (number_sample (name ++ codes "_sum") ms sum) (number_carried (codes "_count") (option_map number_of count) (all_first P counts sums rest)) (number_carried (codes "_sum") sum (all_second P counts sums rest)))
+      let rest = all-behind P (map (quantile_sample family ls) qs) (counts ++ sums) h in
+      all-append Q (map (quantile_sample name ms) qs) (number_sample (name ++ codes "_count") ms (option_map number_of count) ++ number_sample (name ++ codes "_sum") ms sum) (quantiles_carried qs (all-front P (map (quantile_sample family ls) qs) (counts ++ sums) h))
+      (all-append Q (number_sample (name ++ codes "_count") ms (option_map number_of count)) (number_sample (name ++ codes "_sum") ms sum) (number_carried (codes "_count") (option_map number_of count) (all-front P counts sums rest)) (number_carried (codes "_sum") sum (all-behind P counts sums rest)))
 
 -- what holds of each sample of a reading holds of those of the reading with the target's labels, as far as it is carried
 pub reading_carried : (P Q : Sample → Type 0) (carry : (s t : Sample) → HasTarget s t → P s → Q t) (kind new : Kind) (family name : List ℕ) (r q : Reading) → HaveTarget r.key.labels q.key.labels → q.value ≡ r.value → q.created ≡ r.created
@@ -186,9 +151,9 @@ pub reading_carried : (P Q : Sample → Type 0) (carry : (s t : Sample) → HasT
     → AllByRecursion P (reading_samples kind family r) → AllByRecursion Q (reading_samples new name q)
 unfolding reading_samples
 reading_carried P Q carry kind new family name r q more value created shorter key count_le sum_le h =
-    let all = all_joined Q (value_samples new name q.key.labels r.value) (number_sample (name ++ codes "_created") q.key.labels r.created)
-    (value_carried P Q carry kind new family name r.key.labels q.key.labels more shorter key count_le sum_le r.value (all_first P (value_samples kind family r.key.labels r.value) (number_sample (family ++ codes "_created") r.key.labels r.created) h))
-    (number_carried P Q carry kind new family name r.key.labels q.key.labels more shorter key (codes "_created") r.created (all_second P (value_samples kind family r.key.labels r.value) (number_sample (family ++ codes "_created") r.key.labels r.created) h)) in
+    let all = all-append Q (value_samples new name q.key.labels r.value) (number_sample (name ++ codes "_created") q.key.labels r.created)
+    (value_carried P Q carry kind new family name r.key.labels q.key.labels more shorter key count_le sum_le r.value (all-front P (value_samples kind family r.key.labels r.value) (number_sample (family ++ codes "_created") r.key.labels r.created) h))
+    (number_carried P Q carry kind new family name r.key.labels q.key.labels more shorter key (codes "_created") r.created (all-behind P (value_samples kind family r.key.labels r.value) (number_sample (family ++ codes "_created") r.key.labels r.created) h)) in
     subst (λ v. AllByRecursion Q (value_samples new name q.key.labels v ++ number_sample (name ++ codes "_created") q.key.labels q.created)) (sym value) (subst (λ c. AllByRecursion Q (value_samples new name q.key.labels r.value ++ number_sample (name ++ codes "_created") q.key.labels c)) (sym created) all)
 
 -- the text of such a sample

@@ -1,9 +1,11 @@
 -- The readings of a target have the form of those that can be written.
-use Rattle.std.proofs.Common.{◌≡◌, ◌≢◌, ℕ, ◌+◌, ◌≤◌, Bool, true, false, not, ◌&&◌, ◌||◌, List, [], ◌∷◌, length, codes, Option, Some, None, refl, sym, ap, subst, ◌∙◌, arith}
-use Rattle.std.specs.List.{list_all, AllByRecursion}
+use Rattle.std.proofs.Common.{◌≡◌, ◌≢◌, ℕ, ◌+◌, ◌≤◌, Bool, true, false, not, ◌&&◌, ◌||◌, List, [], length, codes, Option, Some, None, refl, sym, ap, subst, ◌∙◌, arith}
+use Rattle.std.specs.Prelude.{unwrap_or, option_map}
+use Rattle.std.specs.List.{AllByRecursion}
 use Rattle.std.specs.Str.{bytes_eq}
 use Rattle.std.proofs.lemmas.Bool.{and_parts, and_from}
 use Rattle.std.proofs.lemmas.List.Elements.{All-from_recursion, recursion_from_All}
+use Rattle.writing_laws.proofs.Laws.{written_own}
 use Rattle.label_sets.specs.declared.kind.Kind.{Kind}
 use Rattle.label_sets.specs.declared.kind.Kind.TheVariants as kinds
 use Rattle.label_sets.specs.declared.label.Label.{Label}
@@ -22,7 +24,7 @@ use Rattle.page_model.specs.declared.event.Shown.{Shown}
 use Rattle.page_model.specs.Written.{label_limit}
 use Rattle.page_model.specs.Readings.{key_name}
 use Rattle.open_writing.specs.Writing.{count_suffix, sum_suffix, reading_samples, sample_text}
-use Rattle.open_writing.specs.Forms.{is_plain_value, is_taken_name, is_state, is_count_of_events, IsFormedValue, IsFormedTime, IsFormedReading, has_created_time, is_kind_in, is_text_label, is_own_label}
+use Rattle.open_writing.specs.Forms.{is_plain_value, is_taken_name, is_state, is_count_of_events, IsFormedValue, IsFormedTime, IsFormedReading, has_created_time, is_kind_in, is_text_label}
 use Rattle.open_writing.specs.OpenForms.{IsBareReading}
 use Rattle.federation_page.specs.Candidates.{with_target, federated_kind, federated_name, federated_reading, in_front_of, is_counter_value, stays, is_left_out}
 use Rattle.federation_page.specs.Gathering.{IsTargetName}
@@ -58,9 +60,7 @@ module _ (f : Format) (name : List ℕ) (ls ms : LabelSet) (le : has_name ms (co
   plain_value kinds.Unknown n out counter h = refl
   plain_value kinds.Info n out counter h = h
   plain_value kinds.StateSet n out counter h = state_value name ls ms n out state h
-  plain_value kinds.Histogram n out counter h = absurd (let bad : false ≡ true = h in cc)
-  plain_value kinds.GaugeHistogram n out counter h = absurd (let bad : false ≡ true = h in cc)
-  plain_value kinds.Summary n out counter h = absurd (let bad : false ≡ true = h in cc)
+  plain_value _ n out counter h = absurd (let bad : false ≡ true = h in cc)
 
   pub formed_value : (kind : Kind) (v : Value) → is_left_out kind name ≡ false → (kind ≡ kinds.Counter → is_counter_value v ≡ true) → IsFormedValue f Scraped kind name ls v
       → IsFormedValue OpenMetrics Written (federated_kind kind (key_name f kind name)) (federated_name kind (key_name f kind name)) ms v
@@ -85,13 +85,7 @@ module _ (f : Format) (name : List ℕ) (ls ms : LabelSet) (le : has_name ms (co
 
 text_untimed : (kind : Kind) → has_created_time Text kind ≡ false
 text_untimed kinds.Counter = refl
-text_untimed kinds.Gauge = refl
-text_untimed kinds.Histogram = refl
-text_untimed kinds.GaugeHistogram = refl
-text_untimed kinds.StateSet = refl
-text_untimed kinds.Info = refl
-text_untimed kinds.Summary = refl
-text_untimed kinds.Unknown = refl
+text_untimed _ = refl
 
 pub formed_time : (f : Format) (kind : Kind) (name : List ℕ) (o : Option Number) → is_metric_name name ≡ true → IsFormedTime f kind o → IsFormedTime OpenMetrics (federated_kind kind (key_name f kind name)) o
 formed_time f kind name None m h = tt
@@ -100,42 +94,23 @@ formed_time OpenMetrics kind name (Some n) m h = subst (λ k. IsFormedTime OpenM
 
 -- ---- suffixes
 
-count_kept : (kind : Kind) (key : List ℕ) → count_suffix (federated_kind kind key) ≡ count_suffix kind
+-- what is alike for a counter and an unknown kind is kept by each kind
+kept_by : {X : Type 0} (of : Kind → X) → of kinds.Unknown ≡ of kinds.Counter → (kind : Kind) (key : List ℕ) → of (federated_kind kind key) ≡ of kind
 unfolding federated_kind
-count_kept kinds.Counter key = go (in_front_of (codes "_total") key) refl
+kept_by of same kinds.Counter key = go (in_front_of (codes "_total") key)
   where
-    go : (o : Option (List ℕ)) → in_front_of (codes "_total") key ≡ o → count_suffix (federated_kind kinds.Counter key) ≡ codes "_count"
-    go (Some front) e = rw e refl
-    go None e = rw e refl
-count_kept kinds.Gauge key = refl
-count_kept kinds.Histogram key = refl
-count_kept kinds.GaugeHistogram key = refl
-count_kept kinds.StateSet key = refl
-count_kept kinds.Info key = refl
-count_kept kinds.Summary key = refl
-count_kept kinds.Unknown key = refl
+    go : (o : Option (List ℕ)) → of (unwrap_or (option_map (λ front. kinds.Counter) o) kinds.Unknown) ≡ of kinds.Counter
+    go (Some front) = refl
+    go None = same
+kept_by of same _ key = refl
+
+count_kept : (kind : Kind) (key : List ℕ) → count_suffix (federated_kind kind key) ≡ count_suffix kind
+count_kept = kept_by count_suffix refl
 
 sum_kept : (kind : Kind) (key : List ℕ) → sum_suffix (federated_kind kind key) ≡ sum_suffix kind
-unfolding federated_kind
-sum_kept kinds.Counter key = go (in_front_of (codes "_total") key) refl
-  where
-    go : (o : Option (List ℕ)) → in_front_of (codes "_total") key ≡ o → sum_suffix (federated_kind kinds.Counter key) ≡ codes "_sum"
-    go (Some front) e = rw e refl
-    go None e = rw e refl
-sum_kept kinds.Gauge key = refl
-sum_kept kinds.Histogram key = refl
-sum_kept kinds.GaugeHistogram key = refl
-sum_kept kinds.StateSet key = refl
-sum_kept kinds.Info key = refl
-sum_kept kinds.Summary key = refl
-sum_kept kinds.Unknown key = refl
+sum_kept = kept_by sum_suffix refl
 
 -- ---- readings
-
-all_written : (ls : List Label) → list_all (is_own_label Written) ls ≡ true
-unfolding is_taken_name
-all_written [] = refl
-all_written (l ∷ ls) = all_written ls
 
 stays_counter : (kind : Kind) (r : Reading) → stays kind r ≡ true → kind ≡ kinds.Counter → is_counter_value r.value ≡ true
 unfolding stays
@@ -167,7 +142,7 @@ module _ (s : Shown) (job : IsTargetName 256 s.job) (instance : IsTargetName 262
     key = λ i. record { name = key_name OpenMetrics new_kind new_name; kind = new_kind; unit = (ap (λ k. k.unit) formed.key) i; labels = with_target s.job s.instance r.key.labels };
     label_set = target_set s.job s.instance r.key.labels (not_empty 256 s.job job) (not_empty 262 s.instance instance) formed.label_set formed.own_labels;
     labels = target_all is_text_label s.job s.instance r.key.labels job.text instance.text formed.labels;
-    own_labels = all_written (with_target s.job s.instance r.key.labels);
+    own_labels = written_own (with_target s.job s.instance r.key.labels);
     few_labels = All-from_recursion (λ (t : Sample). length t.labels ≤ label_limit Written) (reading_samples new_kind new_name (federated_reading s new_kind new_name r))
         (carried_samples (λ t. length t.labels ≤ label_limit Scraped) (λ t. length t.labels ≤ label_limit Written) few_carried r (recursion_from_All (λ (t : Sample). length t.labels ≤ label_limit Scraped) (reading_samples kind name r) formed.few_labels));
     value = formed_value f name r.key.labels (with_target s.job s.instance r.key.labels) (target_any (λ (l : Label). bytes_eq l.name (codes "le")) s.job s.instance r.key.labels)

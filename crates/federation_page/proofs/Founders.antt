@@ -2,9 +2,9 @@
 use Rattle.std.proofs.Common.{◌≡◌, ℕ, Bool, true, false, ◌||◌, cond, List, [], ◌∷◌, map, filter, reverse, refl, sym, ap, subst, ◌∙◌}
 use Rattle.std.specs.List.{flat_map, list_any, AllByRecursion, IsDistinct}
 use Rattle.std.specs.Str.{bytes_eq}
-use Rattle.std.specs.Cmp.Lexicographic.{bytes_decides}
 use Rattle.std.proofs.lemmas.Bool.{or_parts}
 use Rattle.label_sets.specs.Labels.{name_before}
+use Rattle.label_sets.proofs.Laws.{bytes_eq-swap}
 use Rattle.page_model.specs.declared.page.Family.{Family}
 use Rattle.open_writing.specs.FamilyKeys.{FamilyKey, family_key, sample_names, share_sample_name, clash, is_one_family, AreApart}
 use Rattle.federation_page.specs.Conflicts.{founders, placed_by_name, sorted_by_name, gathered_by}
@@ -13,17 +13,6 @@ use Rattle.federation_page.specs.Candidates.{candidates_of}
 use Rattle.federation_page.specs.Gathering.{with_readings_of, gathered_families, federated_page}
 
 -- ---- clashing goes both ways
-
-pub same_turned : (a b : List ℕ) → bytes_eq a b ≡ bytes_eq b a
-same_turned a b = go (bytes_eq a b) refl
-  where
-    back : bytes_eq a b ≡ false → (c : Bool) → bytes_eq b a ≡ c → bytes_eq a b ≡ bytes_eq b a
-    back e false f = e ∙ sym f
-    back e true f = absurd (let h : bytes_eq a b ≡ true = (bytes_decides a b).1 (sym ((bytes_decides b a).0 f)) in let g : false ≡ true = sym e ∙ h in cc)
-
-    go : (c : Bool) → bytes_eq a b ≡ c → bytes_eq a b ≡ bytes_eq b a
-    go true e = e ∙ sym ((bytes_decides b a).1 (sym ((bytes_decides a b).0 e)))
-    go false e = back e (bytes_eq b a) refl
 
 none : {A : Type 0} (ys : List A) → list_any (λ (y : A). false) ys ≡ false
 none [] = refl
@@ -41,7 +30,7 @@ any_or p q (y ∷ ys) = ap (λ b. (p y || q y) || b) (any_or p q ys) ∙ by (p y
 
 any_turned : (x : List ℕ) (ys : List (List ℕ)) → list_any (bytes_eq x) ys ≡ list_any (λ y. bytes_eq y x) ys
 any_turned x [] = refl
-any_turned x (y ∷ ys) = ap (λ b. b || list_any (bytes_eq x) ys) (same_turned x y) ∙ ap (λ b. bytes_eq y x || b) (any_turned x ys)
+any_turned x (y ∷ ys) = ap (λ b. b || list_any (bytes_eq x) ys) (bytes_eq-swap x y) ∙ ap (λ b. bytes_eq y x || b) (any_turned x ys)
 
 pub shared_turned : (xs ys : List (List ℕ)) → list_any (λ x. list_any (bytes_eq x) ys) xs ≡ list_any (λ y. list_any (bytes_eq y) xs) ys
 shared_turned [] ys = sym (none ys)
@@ -51,7 +40,7 @@ shared_turned (x ∷ xs) ys =
 
 pub clash_turned : (j k : FamilyKey) → clash j k ≡ clash k j
 unfolding clash share_sample_name
-clash_turned j k = ap (λ b. b || list_any (λ x. list_any (bytes_eq x) (sample_names k)) (sample_names j)) (same_turned j.name k.name)
+clash_turned j k = ap (λ b. b || list_any (λ x. list_any (bytes_eq x) (sample_names k)) (sample_names j)) (bytes_eq-swap j.name k.name)
     ∙ ap (λ b. bytes_eq k.name j.name || b) (shared_turned (sample_names j) (sample_names k))
 
 -- ---- founders are apart

@@ -3,7 +3,6 @@ use Rattle.std.proofs.Common.{◌≡◌, ◌≢◌, ℕ, Bool, true, false, not,
 use Rattle.std.specs.List.{list_any, list_all, AllByRecursion, IsDistinct}
 use Rattle.std.specs.Str.{bytes_eq}
 use Rattle.std.specs.Cmp.Lexicographic.{bytes_decides}
-use Rattle.std.proofs.Math.Numerals.{one-add}
 use Rattle.std.proofs.lemmas.Bool.{and_parts, and_from, not-true, or_parts, or_from}
 use Rattle.std.proofs.lemmas.List.Folds.{list_any-append}
 use Rattle.label_sets.specs.declared.kind.Kind.{Kind}
@@ -13,7 +12,7 @@ use Rattle.label_sets.specs.declared.label_set.LabelSet.{LabelSet}
 use Rattle.label_sets.specs.Labels.{label_sets_eq}
 use Rattle.label_sets.specs.Lists.{rest_while}
 use Rattle.label_sets.specs.Sets.{IsLabelSet}
-use Rattle.label_sets.proofs.Laws.{sets_decide, same_tests}
+use Rattle.label_sets.proofs.Laws.{sets_decide, same_tests, rest-passed, rest-stopped, rest-none, all-append}
 use Rattle.page_model.specs.declared.format.Format.{Format}
 use Rattle.page_model.specs.declared.format.Treatment.TheVariants.{Scraped}
 use Rattle.page_model.specs.Owners.{group_of}
@@ -24,25 +23,15 @@ use Rattle.federation_page.proofs.TargetLabels.{AreOwn, own_back, job_back, inst
 
 -- ---- neighbours
 
-rest_passed : {A : Type 0} (p : A → Bool) (x : A) (xs : List A) → p x ≡ true → rest_while p (x ∷ xs) ≡ rest_while p xs
-rest_passed p x xs e = rw (e, one-add) refl
-
-rest_stopped : {A : Type 0} (p : A → Bool) (x : A) (xs : List A) → p x ≡ false → rest_while p (x ∷ xs) ≡ x ∷ xs
-rest_stopped p x xs e = rw e refl
-
-none_in_rest : {A : Type 0} (p : A → Bool) (xs : List A) → list_any p xs ≡ false → list_any p (rest_while p xs) ≡ false
-none_in_rest p [] e = refl
-none_in_rest p (x ∷ xs) e = let both = or_parts (p x) (list_any p xs) e in ap (list_any p) (rest_stopped p x xs both.0) ∙ e
-
 -- behind a front none passes where none does in either part
 rest_joined : {A : Type 0} (p : A → Bool) (xs ys : List A) → list_any p (rest_while p xs) ≡ false → list_any p ys ≡ false → list_any p (rest_while p (xs ++ ys)) ≡ false
-rest_joined p [] ys h k = none_in_rest p ys k
+rest_joined p [] ys h k = rest-none p ys k
 rest_joined p (x ∷ xs) ys h k = go (p x) refl (rest_joined p xs ys)
   where
     go : (b : Bool) → p x ≡ b → (list_any p (rest_while p xs) ≡ false → list_any p ys ≡ false → list_any p (rest_while p (xs ++ ys)) ≡ false) → list_any p (rest_while p (x ∷ (xs ++ ys))) ≡ false
-    go true e ih = ap (list_any p) (rest_passed p x (xs ++ ys) e) ∙ ih (ap (list_any p) (sym (rest_passed p x xs e)) ∙ h) k
+    go true e ih = ap (list_any p) (rest-passed p x (xs ++ ys) e) ∙ ih (ap (list_any p) (sym (rest-passed p x xs e)) ∙ h) k
     go false e ih =
-        ap (list_any p) (rest_stopped p x (xs ++ ys) e) ∙ list_any-append p (x ∷ xs) ys ∙ or_from (list_any p (x ∷ xs)) (list_any p ys) (ap (list_any p) (sym (rest_stopped p x xs e)) ∙ h) k
+        ap (list_any p) (rest-stopped p x (xs ++ ys) e) ∙ list_any-append p (x ∷ xs) ys ∙ or_from (list_any p (x ∷ xs)) (list_any p ys) (ap (list_any p) (sym (rest-stopped p x xs e)) ∙ h) k
 
 pub together_joined : (xs ys : List LabelSet) → stand_together xs ≡ true → stand_together ys ≡ true → AllByRecursion (λ x. list_any (label_sets_eq x) ys ≡ false) xs → stand_together (xs ++ ys) ≡ true
 unfolding stand_together
@@ -55,14 +44,10 @@ all_of_any : {A : Type 0} (p : A → Bool) (ys : List A) → list_any p ys ≡ f
 all_of_any p [] h = tt
 all_of_any p (y ∷ ys) h = let both = or_parts (p y) (list_any p ys) h in (both.0, all_of_any p ys both.1)
 
-all_both : {A : Type 0} (P : A → Type 0) (xs ys : List A) → AllByRecursion P xs → AllByRecursion P ys → AllByRecursion P (xs ++ ys)
-all_both P [] ys h k = k
-all_both P (x ∷ xs) ys h k = (h.0, all_both P xs ys h.1 k)
-
 pub distinct_joined : {A : Type 0} (eq : A → A → Bool) (xs ys : List A) → IsDistinct eq xs → IsDistinct eq ys → AllByRecursion (λ x. list_any (eq x) ys ≡ false) xs → IsDistinct eq (xs ++ ys)
 unfolding IsDistinct
 distinct_joined eq [] ys h k none = k
-distinct_joined eq (x ∷ xs) ys h k none = (all_both (λ y. eq x y ≡ false) xs ys h.0 (all_of_any (eq x) ys none.0), distinct_joined eq xs ys h.1 k none.1)
+distinct_joined eq (x ∷ xs) ys h k none = (all-append (λ y. eq x y ≡ false) xs ys h.0 (all_of_any (eq x) ys none.0), distinct_joined eq xs ys h.1 k none.1)
 
 -- ---- what tells label sets apart also tells apart what is made of them
 
@@ -82,8 +67,8 @@ module _ (g : LabelSet → LabelSet) (P : LabelSet → Type 0) (back : (x y : La
     where
       go : (b : Bool) → label_sets_eq x y ≡ b → list_any (label_sets_eq (g x)) (rest_while (label_sets_eq (g x)) (map g ys)) ≡ list_any (label_sets_eq x) (rest_while (label_sets_eq x) ys)
           → list_any (label_sets_eq (g x)) (rest_while (label_sets_eq (g x)) (map g (y ∷ ys))) ≡ list_any (label_sets_eq x) (rest_while (label_sets_eq x) (y ∷ ys))
-      go true e ih = ap (list_any (label_sets_eq (g x))) (rest_passed (label_sets_eq (g x)) (g y) (map g ys) (same_made x y p h.0 ∙ e)) ∙ ih ∙ sym (ap (list_any (label_sets_eq x)) (rest_passed (label_sets_eq x) y ys e))
-      go false e ih = ap (list_any (label_sets_eq (g x))) (rest_stopped (label_sets_eq (g x)) (g y) (map g ys) (same_made x y p h.0 ∙ e)) ∙ any_made x (y ∷ ys) p h ∙ sym (ap (list_any (label_sets_eq x)) (rest_stopped (label_sets_eq x) y ys e))
+      go true e ih = ap (list_any (label_sets_eq (g x))) (rest-passed (label_sets_eq (g x)) (g y) (map g ys) (same_made x y p h.0 ∙ e)) ∙ ih ∙ sym (ap (list_any (label_sets_eq x)) (rest-passed (label_sets_eq x) y ys e))
+      go false e ih = ap (list_any (label_sets_eq (g x))) (rest-stopped (label_sets_eq (g x)) (g y) (map g ys) (same_made x y p h.0 ∙ e)) ∙ any_made x (y ∷ ys) p h ∙ sym (ap (list_any (label_sets_eq x)) (rest-stopped (label_sets_eq x) y ys e))
 
   pub together_made : (xs : List LabelSet) → AllByRecursion P xs → stand_together (map g xs) ≡ stand_together xs
   unfolding stand_together
@@ -114,10 +99,7 @@ own_group kinds.Histogram name ls h = own_filtered (λ (l : Label). not (bytes_e
 own_group kinds.GaugeHistogram name ls h = own_filtered (λ (l : Label). not (bytes_eq l.name (codes "le"))) ls h
 own_group kinds.Summary name ls h = own_filtered (λ (l : Label). not (bytes_eq l.name (codes "quantile"))) ls h
 own_group kinds.StateSet name ls h = own_filtered (λ (l : Label). not (bytes_eq l.name name)) ls h
-own_group kinds.Counter name ls h = h
-own_group kinds.Gauge name ls h = h
-own_group kinds.Info name ls h = h
-own_group kinds.Unknown name ls h = h
+own_group _ name ls h = h
 
 not_taken : (name : List ℕ) → is_left_out kinds.StateSet name ≡ false → is_taken_name Scraped name ≡ false
 unfolding is_left_out is_taken_name
@@ -138,10 +120,7 @@ target_group job instance kinds.Histogram name ls out j set own = target_without
 target_group job instance kinds.GaugeHistogram name ls out j set own = target_without job instance ls (codes "le") le_free j set own
 target_group job instance kinds.Summary name ls out j set own = target_without job instance ls (codes "quantile") quantile_free j set own
 target_group job instance kinds.StateSet name ls out j set own = target_without job instance ls name (not_taken name out) j set own
-target_group job instance kinds.Counter name ls out j set own = refl
-target_group job instance kinds.Gauge name ls out j set own = refl
-target_group job instance kinds.Info name ls out j set own = refl
-target_group job instance kinds.Unknown name ls out j set own = refl
+target_group job instance _ name ls out j set own = refl
 
 -- a federated family has the groups of its source
 pub federated_group : (f : Format) (kind : Kind) (name : List ℕ) (ls : LabelSet) → group_of (federated_kind kind (key_name f kind name)) (federated_name kind (key_name f kind name)) ls ≡ group_of kind name ls
@@ -151,13 +130,7 @@ federated_group f kinds.Counter name ls = go (in_front_of (codes "_total") (key_
     go : (o : Option (List ℕ)) → in_front_of (codes "_total") (key_name f kinds.Counter name) ≡ o → group_of (federated_kind kinds.Counter (key_name f kinds.Counter name)) (federated_name kinds.Counter (key_name f kinds.Counter name)) ls ≡ ls
     go (Some front) e = rw e refl
     go None e = rw e refl
-federated_group f kinds.Gauge name ls = refl
-federated_group f kinds.Histogram name ls = refl
-federated_group f kinds.GaugeHistogram name ls = refl
-federated_group f kinds.StateSet name ls = refl
-federated_group f kinds.Info name ls = refl
-federated_group f kinds.Summary name ls = refl
-federated_group f kinds.Unknown name ls = refl
+federated_group f _ name ls = refl
 
 -- ---- targets
 

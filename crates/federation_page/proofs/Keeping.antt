@@ -9,6 +9,7 @@ use Rattle.std.proofs.lemmas.List.{map-append}
 use Rattle.std.proofs.lemmas.List.Folds.{list_any-append}
 use Rattle.byte_table.proofs.Laws.{among}
 use Rattle.label_sets.specs.Keys.{kind_eq}
+use Rattle.label_sets.proofs.Laws.{any-map, bytes_eq-swap}
 use Rattle.page_model.specs.declared.format.Format.TheVariants.{OpenMetrics}
 use Rattle.page_model.specs.declared.page.Family.{Family}
 use Rattle.page_model.specs.declared.suffix.Suffix.{Suffix}
@@ -18,8 +19,8 @@ use Rattle.open_writing.specs.FamilyKeys.{FamilyKey, family_key, sample_names, s
 use Rattle.federation_page.specs.Conflicts.{joined_by, meets, with_candidate}
 use Rattle.federation_page.specs.Founding.{is_name_among, all_sample_names, AreFounders}
 use Rattle.federation_page.specs.declared.conflicts.Founders.{Founders}
-use Rattle.federation_page.proofs.Founders.{same_turned, any_or, shared_turned}
-use Rattle.federation_page.proofs.Steps.{any_of_map, map_twice}
+use Rattle.federation_page.proofs.Founders.{any_or, shared_turned}
+use Rattle.federation_page.proofs.Steps.{map_twice}
 use Rattle.federation_page.proofs.Groups.{distinct_joined}
 
 -- ---- lists
@@ -104,7 +105,7 @@ sample_names_are ss k e = sym (map_twice (λ suffix. k.name ++ suffix) suffix_by
 pub shares_here : (table : List (List ℕ)) (ss : List Suffix) (k : FamilyKey) (i : ℕ) (s : Suffix) (name : List ℕ) (found : Option ℕ) → map suffix_bytes ss ≡ suffixes OpenMetrics k.kind → i < length ss → s ≡ get_or ss i s
     → name ≡ k.name ++ suffix_bytes s → MatchOption found (list_any (bytes_eq name) table ≡ false) (λ at. slice_get table at ≡ Some name) → is_some found ≡ true → true ≡ list_any (is_name_among table) (sample_names k)
 shares_here table ss k i s name found are h e is m some =
-    sym (ap (list_any (is_name_among table)) (sym (sample_names_are ss k are)) ∙ any_of_map (is_name_among table) (λ s. k.name ++ suffix_bytes s) ss
+    sym (ap (list_any (is_name_among table)) (sym (sample_names_are ss k are)) ∙ any-map (is_name_among table) (λ s. k.name ++ suffix_bytes s) ss
     ∙ any_here (λ s. is_name_among table (k.name ++ suffix_bytes s)) ss i s h e (ap (is_name_among table) (sym is) ∙ sym (looked_up table name found m) ∙ some))
 
 -- one sample name more
@@ -142,7 +143,7 @@ unfolding clash share_sample_name
 meets_by fs k =
     any_or (λ f. bytes_eq f.name k.name) (λ f. list_any (λ n. list_any (bytes_eq n) (sample_names k)) (sample_names (family_key f))) fs
     ∙ ap (λ b. b || list_any (λ f. list_any (λ n. list_any (bytes_eq n) (sample_names k)) (sample_names (family_key f))) fs)
-    (any_same (λ (f : Family). bytes_eq f.name k.name) (λ (f : Family). bytes_eq k.name f.name) (λ f. same_turned f.name k.name) fs ∙ sym (any_of_map (bytes_eq k.name) (λ (g : Family). g.name) fs))
+    (any_same (λ (f : Family). bytes_eq f.name k.name) (λ (f : Family). bytes_eq k.name f.name) (λ f. bytes_eq-swap f.name k.name) fs ∙ sym (any-map (bytes_eq k.name) (λ (g : Family). g.name) fs))
     ∙ ap (λ b. is_name_among (names_of fs) k.name || b)
     (sym (any_flat (λ n. list_any (bytes_eq n) (sample_names k)) (λ f. sample_names (family_key f)) fs) ∙ shared_turned (all_sample_names fs) (sample_names k))
 
@@ -155,7 +156,7 @@ meets_is f c kept new =
 -- of another name, a family stays as it is
 other_name : (c f : Family) → bytes_eq c.name f.name ≡ false → joined_by c f ≡ f
 unfolding is_one_family
-other_name c f h = ap (λ b. cond (b && kind_eq f.kind c.kind && bytes_eq f.unit c.unit) (record f { readings = f.readings ++ c.readings }) f) (same_turned f.name c.name ∙ h)
+other_name c f h = ap (λ b. cond (b && kind_eq f.kind c.kind && bytes_eq f.unit c.unit) (record f { readings = f.readings ++ c.readings }) f) (bytes_eq-swap f.name c.name ∙ h)
 
 others_stay : (c : Family) (fs : List Family) → is_name_among (names_of fs) c.name ≡ false → map (joined_by c) fs ≡ fs
 others_stay c [] h = refl
@@ -243,7 +244,7 @@ set_joined c (f ∷ fs) (suc place) old new apart there is e =
     first [] at h t = absurd cc
     first (g ∷ gs) zero h t =
         let name : g.name ≡ c.name = cc in
-        ap (λ m. bytes_eq m f.name) (sym name) ∙ same_turned g.name f.name ∙ (or_parts (bytes_eq f.name g.name) (share_sample_name (family_key f) (family_key g)) h.0).0
+        ap (λ m. bytes_eq m f.name) (sym name) ∙ bytes_eq-swap g.name f.name ∙ (or_parts (bytes_eq f.name g.name) (share_sample_name (family_key f) (family_key g)) h.0).0
     first (g ∷ gs) (suc at) h t = first gs at h.1 t
 
 met : (fs : List Family) (c : Family) (place : ℕ) → slice_get (names_of fs) place ≡ Some c.name → meets fs (family_key c) ≡ true

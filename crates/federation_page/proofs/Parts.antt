@@ -11,6 +11,7 @@ use Rattle.label_sets.specs.declared.kind.Kind.TheVariants as kinds
 use Rattle.label_sets.specs.declared.label_set.LabelSet.{LabelSet}
 use Rattle.label_sets.specs.Names.{is_metric_name}
 use Rattle.label_sets.specs.Labels.{label_sets_eq}
+use Rattle.label_sets.proofs.Laws.{all-front, all-behind, filter-passes}
 use Rattle.page_model.specs.declared.format.Format.{Format}
 use Rattle.page_model.specs.declared.format.Format.TheVariants.{OpenMetrics}
 use Rattle.page_model.specs.declared.format.Treatment.TheVariants.{Scraped, Written}
@@ -30,12 +31,13 @@ use Rattle.open_writing.specs.FamilyKeys.{FamilyKey, family_key, is_one_family}
 use Rattle.open_writing.specs.Forms.{IsFormedReading, IsFormedFamily, is_unit_of, label_sets_of, stand_together}
 use Rattle.open_writing.specs.OpenForms.{IsBareReading}
 use Rattle.writing_laws.specs.WritingLaws.{most_scraped_line}
+use Rattle.writing_laws.proofs.Laws.{kind_length}
 use Rattle.federation_page.specs.Candidates.{with_target, federated_kind, federated_name, federated_reading, renamed_family, candidate_of, stays, is_left_out}
 use Rattle.federation_page.specs.Gathering.{IsTargetName}
 use Rattle.federation_page.proofs.Steps.{one_key}
 use Rattle.federation_page.proofs.TargetLabels.{AreOwn}
 use Rattle.federation_page.proofs.FederatedNames.{federated_metric, federated_unit, name_shorter, one_source}
-use Rattle.federation_page.proofs.FederatedReadings.{all_first, all_second, most_target_bytes}
+use Rattle.federation_page.proofs.FederatedReadings.{most_target_bytes}
 use Rattle.federation_page.proofs.FormedReadings.{formed_reading, bare_reading, short_reading, not_empty}
 use Rattle.federation_page.proofs.Groups.{together_made, distinct_made, own_group, target_group, federated_group, target_once}
 
@@ -81,25 +83,7 @@ pub record IsSource (form : Format) (f : Family) : Type 0 where
 abbrev named : Shown → Family → List ℕ → List Reading → Family
 named s f key rs = record { name = federated_name f.kind key; kind = federated_kind f.kind key; help = f.help; unit = f.unit; readings = map (federated_reading s (federated_kind f.kind key) (federated_name f.kind key)) rs }
 
-all_pass : {A : Type 0} (p : A → Bool) (xs : List A) → AllByRecursion (λ x. p x ≡ true) (filter p xs)
-all_pass p [] = tt
-all_pass p (x ∷ xs) = go (p x) refl (all_pass p xs)
-  where
-    go : (b : Bool) → p x ≡ b → AllByRecursion (λ y. p y ≡ true) (filter p xs) → AllByRecursion (λ y. p y ≡ true) (cond b (x ∷ filter p xs) (filter p xs))
-    go true e ih = (e, ih)
-    go false e ih = ih
-
 -- ---- heads
-
-word_most : (kind : Kind) → length (kind_word kind) ≤ 14
-word_most kinds.Counter = omega arith
-word_most kinds.Gauge = omega arith
-word_most kinds.Histogram = omega arith
-word_most kinds.GaugeHistogram = omega arith
-word_most kinds.StateSet = omega arith
-word_most kinds.Info = omega arith
-word_most kinds.Summary = omega arith
-word_most kinds.Unknown = omega arith
 
 kind_bytes : (name : List ℕ) (kind : Kind) → length (item_text (items.KindOf name kind)) ≡ length name + length (kind_word kind) + 8
 unfolding item_text
@@ -147,7 +131,7 @@ module _ (s : Shown) (job : IsTargetName 256 s.job) (instance : IsTargetName 262
   type_line = source.lines.0
 
   behind_unit : AllByRecursion (IsShort most_scraped_line) (item_unless_empty (items.Help f.name) f.help ++ samples_of_kept)
-  behind_unit = all_second (IsShort most_scraped_line) (item_unless_empty (items.Unit f.name) f.unit) (item_unless_empty (items.Help f.name) f.help ++ samples_of_kept) behind_type
+  behind_unit = all-behind (IsShort most_scraped_line) (item_unless_empty (items.Unit f.name) f.unit) (item_unless_empty (items.Help f.name) f.help ++ samples_of_kept) behind_type
 
   shorter : length new_name ≤ length f.name
   shorter = name_shorter form f.kind f.name source.formed.name source.formed.kind
@@ -158,14 +142,14 @@ module _ (s : Shown) (job : IsTargetName 256 s.job) (instance : IsTargetName 262
     help = source.formed.help;
     unit = federated_unit form f.kind f.name f.unit source.formed.name source.formed.unit_in_format source.formed.unit;
     kind_line =
-        let now = kind_bytes new_name new_kind in let before = kind_bytes f.name f.kind in let word = word_most new_kind in let le = shorter in let short = type_line in
+        let now = kind_bytes new_name new_kind in let before = kind_bytes f.name f.kind in let word = kind_length new_kind in let le = shorter in let short = type_line in
         let most : length (item_text (items.KindOf new_name new_kind)) ≤ 262144 = omega (arith, now, before, word, le, short) in most;
     unit_line = unless_empty (items.Unit f.name) (items.Unit new_name) f.unit
         (λ h. let now = unit_bytes new_name f.unit in let before = unit_bytes f.name f.unit in let le = shorter in let most : length (item_text (items.Unit new_name f.unit)) ≤ 262144 = omega (arith, now, before, le, h) in most)
-        (all_first (IsShort most_scraped_line) (item_unless_empty (items.Unit f.name) f.unit) (item_unless_empty (items.Help f.name) f.help ++ samples_of_kept) behind_type);
+        (all-front (IsShort most_scraped_line) (item_unless_empty (items.Unit f.name) f.unit) (item_unless_empty (items.Help f.name) f.help ++ samples_of_kept) behind_type);
     help_line = unless_empty (items.Help f.name) (items.Help new_name) f.help
         (λ h. let now = help_bytes new_name f.help in let before = help_bytes f.name f.help in let le = shorter in let most : length (item_text (items.Help new_name f.help)) ≤ 262144 = omega (arith, now, before, le, h) in most)
-        (all_first (IsShort most_scraped_line) (item_unless_empty (items.Help f.name) f.help) samples_of_kept behind_unit);
+        (all-front (IsShort most_scraped_line) (item_unless_empty (items.Help f.name) f.help) samples_of_kept behind_unit);
   }
 
   -- ---- readings
@@ -188,9 +172,9 @@ module _ (s : Shown) (job : IsTargetName 256 s.job) (instance : IsTargetName 262
       are_own = own_group f.kind f.name r.key.labels formed.0.own_labels;
       group = federated_group form f.kind f.name (with_target s.job s.instance r.key.labels)
           ∙ target_group s.job s.instance f.kind f.name r.key.labels out (not_empty 256 s.job job) formed.0.label_set formed.0.own_labels;
-      short = short_reading s job instance form f.kind f.name f.unit source.formed.name source.formed.kind out most_scraped_line r (all_first (λ (t : Sample). length (sample_text t) ≤ most_scraped_line) (reading_samples f.kind f.name r) (flat_map (reading_samples f.kind f.name) rs) short);
+      short = short_reading s job instance form f.kind f.name f.unit source.formed.name source.formed.kind out most_scraped_line r (all-front (λ (t : Sample). length (sample_text t) ≤ most_scraped_line) (reading_samples f.kind f.name r) (flat_map (reading_samples f.kind f.name) rs) short);
     },
-    each_of rs formed.1 stay.1 (all_second (λ (t : Sample). length (sample_text t) ≤ most_scraped_line) (reading_samples f.kind f.name r) (flat_map (reading_samples f.kind f.name) rs) short),
+    each_of rs formed.1 stay.1 (all-behind (λ (t : Sample). length (sample_text t) ≤ most_scraped_line) (reading_samples f.kind f.name r) (flat_map (reading_samples f.kind f.name) rs) short),
   )
 
   own_sets : (rs : List Reading) → AllByRecursion (IsFormedReading form Scraped f.kind f.name f.unit) rs → AllByRecursion AreOwn (label_sets_of rs)
@@ -223,11 +207,11 @@ module _ (s : Shown) (job : IsTargetName 256 s.job) (instance : IsTargetName 262
 
   short_kept : AllByRecursion (λ (t : Sample). length (sample_text t) ≤ most_scraped_line) (flat_map (reading_samples f.kind f.name) kept)
   unfolding family_samples
-  short_kept = sample_lines_short (flat_map (reading_samples f.kind f.name) kept) (all_second (IsShort most_scraped_line) (item_unless_empty (items.Help f.name) f.help) samples_of_kept behind_unit)
+  short_kept = sample_lines_short (flat_map (reading_samples f.kind f.name) kept) (all-behind (IsShort most_scraped_line) (item_unless_empty (items.Help f.name) f.help) samples_of_kept behind_unit)
 
   readings_of_target : AreOfTarget new_kind new_name f.unit s (map (federated_reading s new_kind new_name) kept)
   readings_of_target = record {
-    each = each_of kept formed_kept (all_pass (stays f.kind) f.readings) short_kept;
+    each = each_of kept formed_kept (filter-passes (stays f.kind) f.readings) short_kept;
     distinct = subst (IsDistinct label_sets_eq) (sym (sets_made kept)) (distinct_made (with_target s.job s.instance) AreOwn (λ x y p q. target_once s.job s.instance x y p q) (label_sets_of kept) (own_sets kept formed_kept) source.formed.distinct);
     together = ap stand_together (groups_made kept formed_kept) ∙ together_made (with_target s.job s.instance) AreOwn (λ x y p q. target_once s.job s.instance x y p q) (map (group_of f.kind f.name) (label_sets_of kept)) (own_groups kept formed_kept) ∙ source.formed.together;
   }

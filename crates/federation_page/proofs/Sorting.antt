@@ -1,6 +1,6 @@
 -- Families in byte order of their names: how the definition's insertion meets a sort, and an order in which they were founded.
-use Rattle.std.proofs.Common.{◌≡◌, ℕ, zero, suc, ◌+◌, ◌<◌, Bool, true, false, cond, List, [], ◌∷◌, ◌++◌, map, reverse, length, get_or, refl, sym, ap, subst, ◌∙◌, ◌⊎◌, inl, inr, arith}
-use Rattle.std.specs.List.{Contains, AllByRecursion, IsDistinct}
+use Rattle.std.proofs.Common.{◌≡◌, ℕ, ◌+◌, ◌<◌, Bool, true, false, cond, List, [], ◌∷◌, ◌++◌, map, reverse, length, get_or, refl, sym, ap, ◌∙◌, arith}
+use Rattle.std.specs.List.{AllByRecursion, IsDistinct}
 use Rattle.std.specs.List.Sorted.{IsStrictlySortedBy, IsPermutation, IsSortedBy}
 use Rattle.std.specs.Str.{bytes_eq}
 use Rattle.std.specs.Cmp.{IsTotalOrder}
@@ -8,74 +8,19 @@ use Rattle.std.specs.Cmp.Lexicographic.{slice_cmp}
 use Rattle.std.specs.Ordering.{is_lt, is_eq, nat_cmp}
 use Rattle.std.specs.declared.cmp.Ordering.{Ordering}
 use Rattle.std.specs.declared.cmp.Ordering.TheVariants.{Less, Equal, Greater}
-use Rattle.std.proofs.lemmas.Cmp.{on_total, nat_list_cmp_total, tied_itself}
-use Rattle.std.proofs.lemmas.List.Elements.{All-contains, All-from_recursion}
-use Rattle.std.proofs.lemmas.List.Sorted.{IsPermutation-refl, IsPermutation-sym, IsPermutation-trans, IsPermutation-cons, IsPermutation-middle, IsPermutation-map, IsPermutation-reverse, Contains-permutation}
+use Rattle.std.proofs.lemmas.Cmp.{on_total, nat_list_cmp_total}
+use Rattle.std.proofs.lemmas.List.Sorted.{IsPermutation-refl, IsPermutation-sym, IsPermutation-trans, IsPermutation-cons, IsPermutation-middle, IsPermutation-map, IsPermutation-reverse}
 use Rattle.std.proofs.lemmas.Map.Keys.{IsDistinct-IsPermutation, apart_from_distinct, sorted_from_all_adjacent}
 use Rattle.std.proofs.lemmas.Map.Text.{is_eq-slice_cmp}
 use Rattle.label_sets.specs.Labels.{name_before}
+use Rattle.label_sets.proofs.Laws.{sorted_permutation, bytes_eq-swap}
 use Rattle.page_model.specs.declared.page.Family.{Family}
 use Rattle.open_writing.specs.FamilyKeys.{family_key, AreApart}
 use Rattle.federation_page.specs.Conflicts.{founders, placed_by_name, sorted_by_name, gathered_by, with_candidates}
 use Rattle.federation_page.specs.Gathering.{gathered_families}
-use Rattle.federation_page.proofs.Founders.{founders_apart, names_apart, same_turned}
+use Rattle.federation_page.proofs.Founders.{founders_apart, names_apart}
 use Rattle.federation_page.proofs.Steps.{so_far, founded_of, step}
 use Rattle.federation_page.proofs.Writable.{all_placed}
-
--- ---- strictly sorted lists with the same elements are the same
-
-every : {X : Type 0} (P : X → Type 0) (xs : List X) (z : X) → AllByRecursion P xs → Contains xs z → P z
-every P xs z h c = All-contains P xs z (All-from_recursion P xs h) c
-
-here : {X : Type 0} (x : X) (xs : List X) → Contains (x ∷ xs) x
-here x xs = (0, (omega arith), refl)
-
-there : {X : Type 0} (x : X) (xs : List X) (z : X) → Contains xs z → Contains (x ∷ xs) z
-there x xs z c = (suc c.0, (let h : c.0 < length xs = c.1 in omega arith), c.2)
-
-contains_cases : {X : Type 0} (x : X) (xs : List X) (z : X) → Contains (x ∷ xs) z → (x ≡ z) ⊎ Contains xs z
-contains_cases x xs z c = go c.0 c.1 c.2
-  where
-    go : (k : ℕ) → k < length (x ∷ xs) → get_or (x ∷ xs) k z ≡ z → (x ≡ z) ⊎ Contains xs z
-    go zero h e = inl e
-    go (suc k) h e = inr (k, omega arith, e)
-
-module _ {X : Type 0} (R : X → X → Ordering) (o : IsTotalOrder R) where
-  not_both : (x y : X) → R x y ≡ Less → R y x ≡ Less → x ≡ y
-  not_both x y h k = absurd (let e : R x y ≡ _ = o.antisymm x y in let f : Less ≡ Greater = sym h ∙ e ∙ rw k refl in cc)
-
-  first_same : (x y : X) (xs ys : List X) → AllByRecursion (λ z. R x z ≡ Less) xs → AllByRecursion (λ z. R y z ≡ Less) ys → Contains (y ∷ ys) x → Contains (x ∷ xs) y → x ≡ y
-  first_same x y xs ys below_x below_y c d = go (contains_cases y ys x c) (contains_cases x xs y d)
-    where
-      go : ((y ≡ x) ⊎ Contains ys x) → ((x ≡ y) ⊎ Contains xs y) → x ≡ y
-      go (inl e) q = sym e
-      go (inr a) (inl e) = e
-      go (inr a) (inr b) = not_both x y (every (λ z. R x z ≡ Less) xs y below_x b) (every (λ z. R y z ≡ Less) ys x below_y a)
-
-  in_rest : (x : X) (xs ys : List X) → AllByRecursion (λ z. R x z ≡ Less) xs → ((z : X) → Contains (x ∷ xs) z → Contains (x ∷ ys) z) → (z : X) → Contains xs z → Contains ys z
-  in_rest x xs ys below f z c = go (contains_cases x ys z (f z (there x xs z c)))
-    where
-      go : ((x ≡ z) ⊎ Contains ys z) → Contains ys z
-      go (inr d) = d
-      go (inl e) = absurd (let less : R x z ≡ Less = every (λ z. R x z ≡ Less) xs z below c in let tied : R x x ≡ Equal = tied_itself o x in let f : R x z ≡ Equal = subst (λ (w : X). R x w ≡ Equal) e tied in let g : Less ≡ Equal = sym less ∙ f in cc)
-
-  same_sorted : (xs ys : List X) → IsStrictlySortedBy R xs → IsStrictlySortedBy R ys → ((z : X) → Contains xs z → Contains ys z) → ((z : X) → Contains ys z → Contains xs z) → xs ≡ ys
-  unfolding IsStrictlySortedBy
-  same_sorted [] [] a b f g = refl
-  same_sorted [] (y ∷ ys) a b f g = absurd (let c = g y (here y ys) in let h : c.0 < 0 = c.1 in omega arith)
-  same_sorted (x ∷ xs) [] a b f g = absurd (let c = f x (here x xs) in let h : c.0 < 0 = c.1 in omega arith)
-  same_sorted (x ∷ xs) (y ∷ ys) a b f g = with_first (first_same x y xs ys a.0 b.0 (f x (here x xs)) (g y (here y ys))) (λ k m. same_sorted xs ys a.1 b.1 k m)
-    where
-      with_first : x ≡ y → (((z : X) → Contains xs z → Contains ys z) → ((z : X) → Contains ys z → Contains xs z) → xs ≡ ys) → x ∷ xs ≡ y ∷ ys
-      with_first e rest_same =
-          let f' : (z : X) → Contains (x ∷ xs) z → Contains (x ∷ ys) z = subst (λ (w : X). (z : X) → Contains (x ∷ xs) z → Contains (w ∷ ys) z) (sym e) f in
-          let g' : (z : X) → Contains (x ∷ ys) z → Contains (x ∷ xs) z = subst (λ (w : X). (z : X) → Contains (w ∷ ys) z → Contains (x ∷ xs) z) (sym e) g in
-          let below : AllByRecursion (λ z. R x z ≡ Less) ys = subst (λ (w : X). AllByRecursion (λ z. R w z ≡ Less) ys) (sym e) b.0 in
-          let rest : xs ≡ ys = rest_same (in_rest x xs ys a.0 f') (in_rest x ys xs below g') in
-          ap (λ (w : X). w ∷ xs) e ∙ ap (λ (ws : List X). y ∷ ws) rest
-
-  sorted_permutation : (xs ys : List X) → IsStrictlySortedBy R xs → IsStrictlySortedBy R ys → IsPermutation xs ys → xs ≡ ys
-  sorted_permutation xs ys a b p = same_sorted xs ys a b (λ z c. Contains-permutation xs ys z p c) (λ z c. Contains-permutation ys xs z (IsPermutation-sym xs ys p) c)
 
 -- ---- the definition's insertion
 
@@ -152,7 +97,7 @@ sorted_strict [] d = tt
 sorted_strict (x ∷ xs) d = placed_strict x (sorted xs) (names_sorted (λ n. bytes_eq x.name n ≡ false) xs d.0) (sorted_strict xs d.1)
 
 named_permuted : (xs ys : List Family) → IsPermutation xs ys → AreNamed xs → AreNamed ys
-named_permuted xs ys p d = IsDistinct-IsPermutation bytes_eq same_turned (map (λ (x : Family). x.name) xs) (map (λ (x : Family). x.name) ys) (IsPermutation-map (λ (x : Family). x.name) xs ys p) d
+named_permuted xs ys p d = IsDistinct-IsPermutation bytes_eq bytes_eq-swap (map (λ (x : Family). x.name) xs) (map (λ (x : Family). x.name) ys) (IsPermutation-map (λ (x : Family). x.name) xs ys p) d
 
 by_names : (xs : List Family) → AreNamed xs → IsDistinct (λ (x y : Family). bytes_eq x.name y.name) xs
 unfolding IsDistinct
@@ -172,7 +117,7 @@ strict_from_sort (y ∷ ys) d s = sorted_from_all_adjacent by_name_total (y ∷ 
     next : (k : ℕ) → k + 1 < length (y ∷ ys) → by_name (get_or (y ∷ ys) k y) (get_or (y ∷ ys) (k + 1) y) ≡ Less
     next k h =
         let a : Family = get_or (y ∷ ys) k y in let b : Family = get_or (y ∷ ys) (k + 1) y in
-        other_way b a (same_turned b.name a.name ∙ apart_from_distinct (λ (x z : Family). bytes_eq x.name z.name) (y ∷ ys) k (k + 1) y (by_names (y ∷ ys) d) (omega arith) h) (s k y (omega arith) h)
+        other_way b a (bytes_eq-swap b.name a.name ∙ apart_from_distinct (λ (x z : Family). bytes_eq x.name z.name) (y ∷ ys) k (k + 1) y (by_names (y ∷ ys) d) (omega arith) h) (s k y (omega arith) h)
 
 -- what a sort leaves is what the definition says
 pub sort_is : (xs ys : List Family) → AreApart xs → IsPermutation xs ys → IsSortedBy (λ x y. is_lt (by_name x y)) ys → ys ≡ sorted_by_name family_key xs

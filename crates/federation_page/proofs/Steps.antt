@@ -3,13 +3,12 @@ use Rattle.std.proofs.Common.{◌≡◌, ℕ, Bool, true, false, ◌||◌, ◌&&
 use Rattle.std.specs.List.{flat_map, list_any}
 use Rattle.std.specs.Str.{bytes_eq}
 use Rattle.std.specs.Cmp.Lexicographic.{bytes_decides}
-use Rattle.std.proofs.lemmas.Bool.{and_parts}
+use Rattle.std.proofs.lemmas.Bool.{and_parts, or_parts}
 use Rattle.std.proofs.lemmas.List.{map-append, reverse-append}
 use Rattle.std.proofs.lemmas.List.Elements.{filter-append}
-use Rattle.std.proofs.lemmas.List.Folds.{list_any-append}
 use Rattle.std.proofs.lemmas.Grind.{flat_map-append}
 use Rattle.label_sets.specs.Keys.{kind_eq}
-use Rattle.label_sets.proofs.Laws.{kind_decides}
+use Rattle.label_sets.proofs.Laws.{kind_decides, any-reverse, any-map, filter-none}
 use Rattle.page_model.specs.declared.page.Family.{Family}
 use Rattle.open_writing.specs.FamilyKeys.{FamilyKey, family_key, share_sample_name, clash, is_one_family}
 use Rattle.federation_page.specs.Conflicts.{founders, joined_by, meets, with_candidate}
@@ -20,28 +19,6 @@ use Rattle.federation_page.specs.Gathering.{with_readings_of}
 turned_more : {A : Type 0} (x : A) (xs : List A) → reverse (x ∷ xs) ≡ reverse xs ++ x ∷ []
 turned_more x xs = reverse-append (x ∷ []) xs
 
-any_reversed : {A : Type 0} (p : A → Bool) (xs : List A) → list_any p (reverse xs) ≡ list_any p xs
-any_reversed p [] = refl
-any_reversed p (x ∷ xs) = ap (λ ys. list_any p ys) (turned_more x xs) ∙ list_any-append p (reverse xs) (x ∷ []) ∙ by (p x) (list_any p (reverse xs)) (list_any p xs) (any_reversed p xs)
-  where
-    by : (a b c : Bool) → b ≡ c → (b || (a || false)) ≡ (a || c)
-    by true true c e = refl
-    by true false c e = refl
-    by false true c e = e
-    by false false c e = e
-
-pub any_of_map : {A B : Type 0} (p : B → Bool) (f : A → B) (xs : List A) → list_any p (map f xs) ≡ list_any (λ x. p (f x)) xs
-any_of_map p f [] = refl
-any_of_map p f (x ∷ xs) = ap (λ b. p (f x) || b) (any_of_map p f xs)
-
-filter_none : {A : Type 0} (p : A → Bool) (xs : List A) → list_any p xs ≡ false → filter p xs ≡ []
-filter_none p [] h = refl
-filter_none p (x ∷ xs) h = go (p x) refl h (filter_none p xs)
-  where
-    go : (b : Bool) → p x ≡ b → (b || list_any p xs) ≡ false → (list_any p xs ≡ false → filter p xs ≡ []) → cond b (x ∷ filter p xs) (filter p xs) ≡ []
-    go true e h ih = absurd (let bad : true ≡ false = h in cc)
-    go false e h ih = ih h
-
 map_same : {A B : Type 0} (f g : A → B) → ((x : A) → f x ≡ g x) → (xs : List A) → map f xs ≡ map g xs
 map_same f g same [] = refl
 map_same f g same (x ∷ xs) = ap (λ y. y ∷ map f xs) (same x) ∙ ap (λ ys. g x ∷ ys) (map_same f g same xs)
@@ -49,10 +26,6 @@ map_same f g same (x ∷ xs) = ap (λ y. y ∷ map f xs) (same x) ∙ ap (λ ys.
 pub map_twice : {A B C : Type 0} (g : B → C) (f : A → B) (xs : List A) → map g (map f xs) ≡ map (λ x. g (f x)) xs
 map_twice g f [] = refl
 map_twice g f (x ∷ xs) = ap (λ ys. g (f x) ∷ ys) (map_twice g f xs)
-
-pub neither : (a b : Bool) → (a || b) ≡ false → (a ≡ false) × (b ≡ false)
-neither true b h = absurd (let bad : true ≡ false = h in cc)
-neither false b h = (refl, h)
 
 -- ---- keys
 
@@ -108,7 +81,7 @@ none_is_one (y ∷ above) k h = go (meets (founders family_key above) (family_ke
     go false e h true one ih =
         absurd (let same : k ≡ family_key y = one_key k (family_key y) one in let self : clash (family_key y) k ≡ true = ap (clash (family_key y)) same ∙ clash_itself (family_key y) in
         let bad : true ≡ false = sym (ap (λ b. b || meets (founders family_key above) k) self) ∙ h in cc)
-    go false e h false one ih = ih (neither (clash (family_key y) k) (meets (founders family_key above) k) h).1
+    go false e h false one ih = ih (or_parts (clash (family_key y) k) (meets (founders family_key above) k) h).1
 
 -- ---- one candidate more
 
@@ -123,14 +96,14 @@ module _ (cs : List Family) (c : Family) where
 
   -- it meets the families so far where it meets a founder
   meets_same : meets (so_far cs) (family_key c) ≡ meets (founders family_key (reverse cs)) (family_key c)
-  meets_same = any_of_map (λ f. clash (family_key f) (family_key c)) (founded_of cs) (reverse (founders family_key (reverse cs)))
-      ∙ any_reversed (λ f. clash (family_key f) (family_key c)) (founders family_key (reverse cs))
+  meets_same = any-map (λ f. clash (family_key f) (family_key c)) (founded_of cs) (reverse (founders family_key (reverse cs)))
+      ∙ any-reverse (λ f. clash (family_key f) (family_key c)) (founders family_key (reverse cs))
 
   -- what meets none of these founders is one with none
   stay : (xs : List Family) → meets xs (family_key c) ≡ false → map (founded_of (cs ++ c ∷ [])) xs ≡ map (founded_of cs) xs
   stay [] h = refl
   stay (x ∷ xs) h =
-      let both = neither (clash (family_key x) (family_key c)) (meets xs (family_key c)) h in
+      let both = or_parts (clash (family_key x) (family_key c)) (meets xs (family_key c)) h in
       ap (λ y. y ∷ map (founded_of (cs ++ c ∷ [])) xs) (more_readings x ∙ go (is_one_family (family_key x) (family_key c)) refl both.0)
       ∙ ap (λ ys. founded_of cs x ∷ ys) (stay xs both.1)
     where
@@ -143,9 +116,9 @@ module _ (cs : List Family) (c : Family) where
   own : meets (founders family_key (reverse cs)) (family_key c) ≡ false → founded_of (cs ++ c ∷ []) c ≡ c
   own h =
       let above = none_is_one (reverse cs) (family_key c) h in
-      let none = sym (any_reversed (λ y. is_one_family (family_key c) (family_key y)) cs) ∙ above in
+      let none = sym (any-reverse (λ y. is_one_family (family_key c) (family_key y)) cs) ∙ above in
       ap (with_readings_of c) (filter-append (λ y. is_one_family (family_key c) (family_key y)) cs (c ∷ [])
-      ∙ ap (λ ys. ys ++ filter (λ y. is_one_family (family_key c) (family_key y)) (c ∷ [])) (filter_none (λ y. is_one_family (family_key c) (family_key y)) cs none)
+      ∙ ap (λ ys. ys ++ filter (λ y. is_one_family (family_key c) (family_key y)) (c ∷ [])) (filter-none (λ y. is_one_family (family_key c) (family_key y)) cs none)
       ∙ ap (λ b. cond b (c ∷ []) []) (one_itself (family_key c)))
       ∙ ap (λ rs. record c { readings = rs }) (append-nil c.readings)
 
@@ -163,6 +136,6 @@ module _ (cs : List Family) (c : Family) where
       go false e =
           ap (λ (xs : List Family). map (founded_of (cs ++ c ∷ [])) xs) (turned_more c (founders family_key (reverse cs)))
           ∙ map-append (founded_of (cs ++ c ∷ [])) (reverse (founders family_key (reverse cs))) (c ∷ [])
-          ∙ ap (λ ys. ys ++ founded_of (cs ++ c ∷ []) c ∷ []) (stay (reverse (founders family_key (reverse cs))) (any_reversed (λ f. clash (family_key f) (family_key c)) (founders family_key (reverse cs)) ∙ e))
+          ∙ ap (λ ys. ys ++ founded_of (cs ++ c ∷ []) c ∷ []) (stay (reverse (founders family_key (reverse cs))) (any-reverse (λ f. clash (family_key f) (family_key c)) (founders family_key (reverse cs)) ∙ e))
           ∙ ap (λ y. so_far cs ++ y ∷ []) (own e)
           ∙ sym (ap (λ t. cond t (map (joined_by c) (so_far cs)) (so_far cs ++ c ∷ [])) (meets_same ∙ e))

@@ -18,7 +18,7 @@ use Rattle.label_sets.specs.declared.label_set.LabelSet.{LabelSet}
 use Rattle.label_sets.specs.Labels.{name_before, label_inserted, has_name, without_label}
 use Rattle.label_sets.specs.Sets.{by_name, IsLabelSet}
 use Rattle.label_sets.specs.Building.{same_name}
-use Rattle.label_sets.proofs.Laws.{sorted_itself, sorted_ascending, distinct_before}
+use Rattle.label_sets.proofs.Laws.{sorted_itself, sorted_ascending, distinct_before, length-inserted}
 use Rattle.page_model.specs.declared.format.Treatment.TheVariants.{Scraped}
 use Rattle.open_writing.specs.Forms.{is_own_label, is_taken_name}
 use Rattle.federation_page.specs.Candidates.{with_target}
@@ -80,14 +80,6 @@ module _ (p : Label → Bool) where
   pub filter_all : (ls : List Label) → list_all p ls ≡ true → filter p ls ≡ ls
   filter_all [] h = refl
   filter_all (l ∷ ls) h = let both = and_parts (p l) (list_all p ls) h in ap (λ b. cond b (l ∷ filter p ls) (filter p ls)) both.0 ∙ ap (λ xs. l ∷ xs) (filter_all ls both.1)
-
-pub length_inserted : (l : Label) (ls : List Label) → length (label_inserted l ls) ≡ suc (length ls)
-length_inserted l [] = refl
-length_inserted l (m ∷ ms) = go (name_before l.name m.name) (length_inserted l ms)
-  where
-    go : (b : Bool) → length (label_inserted l ms) ≡ suc (length ms) → length (cond b (l ∷ m ∷ ms) (m ∷ label_inserted l ms)) ≡ suc (suc (length ms))
-    go true ih = refl
-    go false ih = ap suc ih
 
 recursion_inserted : (P : Label → Type 0) (l : Label) (ls : List Label) → P l → AllByRecursion P ls → AllByRecursion P (label_inserted l ls)
 recursion_inserted P l [] h k = (h, tt)
@@ -193,7 +185,7 @@ target_set job instance ls j i set own =
 
 pub target_length : (job instance : List ℕ) (ls : LabelSet) → length (with_target job instance ls) ≡ suc (suc (length ls))
 unfolding with_target
-target_length job instance ls = length_inserted (instance_label instance) (label_inserted (job_label job) ls) ∙ ap suc (length_inserted (job_label job) ls)
+target_length job instance ls = length-inserted (instance_label instance) (label_inserted (job_label job) ls) ∙ ap suc (length-inserted (job_label job) ls)
 
 pub target_any : (p : Label → Bool) (job instance : List ℕ) (ls : LabelSet) → list_any p (with_target job instance ls) ≡ (p (instance_label instance) || (p (job_label job) || list_any p ls))
 unfolding with_target

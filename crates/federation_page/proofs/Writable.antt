@@ -3,14 +3,13 @@ use Rattle.std.proofs.Common.{◌≡◌, ◌+◌, ◌≤◌, Bool, true, false, 
 use Rattle.std.specs.List.{list_any, flat_map, AllByRecursion, IsDistinct}
 use Rattle.std.specs.Str.{bytes_eq}
 use Rattle.std.proofs.lemmas.Bool.{or_from}
-use Rattle.std.proofs.lemmas.List.{map-append, reverse-append}
+use Rattle.std.proofs.lemmas.List.{map-append}
 use Rattle.std.proofs.lemmas.List.Elements.{All-from_recursion, recursion_from_All, filter-append}
 use Rattle.std.proofs.lemmas.Grind.{flat_map-append}
-use Rattle.label_sets.specs.declared.kind.Kind.{Kind}
 use Rattle.label_sets.specs.declared.kind.Kind.TheVariants as kinds
 use Rattle.label_sets.specs.declared.label_set.LabelSet.{LabelSet}
 use Rattle.label_sets.specs.Labels.{label_sets_eq, name_before}
-use Rattle.label_sets.proofs.Laws.{sets_decide}
+use Rattle.label_sets.proofs.Laws.{sets_decide, all-append, all-front, all-behind, all-reverse}
 use Rattle.page_model.specs.declared.format.Format.{Format}
 use Rattle.page_model.specs.declared.format.Format.TheVariants.{OpenMetrics}
 use Rattle.page_model.specs.declared.format.Treatment.TheVariants.{Scraped, Written}
@@ -26,15 +25,16 @@ use Rattle.page_model.specs.Owners.{group_of}
 use Rattle.page_model.specs.Pages.{AreSomeOf, IsThinnerReading, AreThinnerFamilies, IsPageRead}
 use Rattle.open_writing.specs.Writing.{reading_samples, family_samples, item_unless_empty, family_items, page_items, item_text, sample_text}
 use Rattle.open_writing.specs.FamilyKeys.{family_key, clash, is_one_family}
-use Rattle.open_writing.specs.Forms.{IsFormedReading, IsFormedFamily, AreFormed, is_kind_in, label_sets_of, stand_together}
+use Rattle.open_writing.specs.Forms.{IsFormedReading, IsFormedFamily, AreFormed, label_sets_of, stand_together}
 use Rattle.open_writing.specs.OpenForms.{IsBareReading, AreWritable}
 use Rattle.writing_laws.specs.WritingLaws.{ReadPagesAreFormed, WritesShortLines, most_scraped_line}
+use Rattle.writing_laws.proofs.Laws.{kind_in_open}
 use Rattle.federation_page.specs.Candidates.{with_target, candidates_of, stays}
 use Rattle.federation_page.specs.Conflicts.{founders, placed_by_name, sorted_by_name, gathered_by}
 use Rattle.federation_page.specs.Gathering.{with_readings_of, gathered_families, federated_page, is_one_target, IsTargetName, IsShowable}
 use Rattle.federation_page.specs.Laws.{GatheredAreWritable}
 use Rattle.federation_page.proofs.Founders.{gathered_apart, names_apart}
-use Rattle.federation_page.proofs.FederatedReadings.{all_joined, all_first, all_second, most_target_bytes}
+use Rattle.federation_page.proofs.FederatedReadings.{most_target_bytes}
 use Rattle.federation_page.proofs.Groups.{together_joined, distinct_joined, targets_differ}
 use Rattle.federation_page.proofs.Parts.{IsShort, IsOfTarget, AreOfTarget, IsHead, IsSource, kept_family, all_heads, given}
 
@@ -77,7 +77,7 @@ module _ (x : Family) where
   given_elsewhere : (s : Shown) (ts : List Shown) → AllByRecursion (λ t. is_one_target s t ≡ false) ts → AllByRecursion IsGoodTarget ts → AllByRecursion (OfAnother s) (flat_map from_target ts)
   given_elsewhere s [] others good = tt
   given_elsewhere s (t ∷ ts) others good =
-      all_joined (OfAnother s) (from_target t) (flat_map from_target ts) (weaker (Of t) (OfAnother s) (λ r h. (t, others.0, h)) (from_target t) (given_here t good.0).each) (given_elsewhere s ts others.1 good.1)
+      all-append (OfAnother s) (from_target t) (flat_map from_target ts) (weaker (Of t) (OfAnother s) (λ r h. (t, others.0, h)) (from_target t) (given_here t good.0).each) (given_elsewhere s ts others.1 good.1)
 
   groups_differ : (s : Shown) (r q : Reading) → Of s r → OfAnother s q → label_sets_eq (group r.key.labels) (group q.key.labels) ≡ false
   groups_differ s r q h k =
@@ -127,9 +127,9 @@ module _ (x : Family) where
       let mine : List Reading = from_target s in
       let theirs : List Reading = flat_map from_target ts in
       record {
-        formed = all_joined (IsFormedReading OpenMetrics Written x.kind x.name x.unit) mine theirs (weaker (Of s) (IsFormedReading OpenMetrics Written x.kind x.name x.unit) (λ r h. h.formed) mine here.each) rest.formed;
-        bare = all_joined IsBareReading mine theirs (weaker (Of s) IsBareReading (λ r h. h.bare) mine here.each) rest.bare;
-        short = all_joined (λ r. AllByRecursion (λ (t : Sample). length (sample_text t) ≤ most_scraped_line + most_target_bytes) (reading_samples x.kind x.name r)) mine theirs
+        formed = all-append (IsFormedReading OpenMetrics Written x.kind x.name x.unit) mine theirs (weaker (Of s) (IsFormedReading OpenMetrics Written x.kind x.name x.unit) (λ r h. h.formed) mine here.each) rest.formed;
+        bare = all-append IsBareReading mine theirs (weaker (Of s) IsBareReading (λ r h. h.bare) mine here.each) rest.bare;
+        short = all-append (λ r. AllByRecursion (λ (t : Sample). length (sample_text t) ≤ most_scraped_line + most_target_bytes) (reading_samples x.kind x.name r)) mine theirs
             (weaker (Of s) (λ r. AllByRecursion (λ (t : Sample). length (sample_text t) ≤ most_scraped_line + most_target_bytes) (reading_samples x.kind x.name r)) (λ r h. h.short) mine here.each) rest.short;
         distinct = subst (IsDistinct label_sets_eq) (sym (map-append (λ (r : Reading). r.key.labels) mine theirs)) (distinct_joined label_sets_eq (label_sets_of mine) (label_sets_of theirs) here.distinct rest.distinct (no_sets s mine theirs here.each there));
         together = ap (λ ls. stand_together (map group ls)) (map-append (λ (r : Reading). r.key.labels) mine theirs) ∙ ap stand_together (map-append group (label_sets_of mine) (label_sets_of theirs))
@@ -146,20 +146,10 @@ module _ (x : Family) where
 
   -- ---- the family
 
-  open_kinds : (kind : Kind) → is_kind_in OpenMetrics kind ≡ true
-  open_kinds kinds.Counter = refl
-  open_kinds kinds.Gauge = refl
-  open_kinds kinds.Histogram = refl
-  open_kinds kinds.GaugeHistogram = refl
-  open_kinds kinds.StateSet = refl
-  open_kinds kinds.Info = refl
-  open_kinds kinds.Summary = refl
-  open_kinds kinds.Unknown = refl
-
   formed_family : (rs : List Reading) → IsHead x → AreGathered rs → IsFormedFamily OpenMetrics Written (record x { readings = rs })
   formed_family rs head are = record {
     name = head.name;
-    kind = open_kinds x.kind;
+    kind = kind_in_open x.kind;
     help = head.help;
     unit = head.unit;
     unit_in_format = refl;
@@ -176,22 +166,18 @@ module _ (x : Family) where
   all_samples : (rs : List Reading) → AllByRecursion (λ r. AllByRecursion (λ (t : Sample). length (sample_text t) ≤ most_scraped_line + most_target_bytes) (reading_samples x.kind x.name r)) rs
       → AllByRecursion (λ (t : Sample). length (sample_text t) ≤ most_scraped_line + most_target_bytes) (flat_map (reading_samples x.kind x.name) rs)
   all_samples [] h = tt
-  all_samples (r ∷ rs) h = all_joined (λ (t : Sample). length (sample_text t) ≤ most_scraped_line + most_target_bytes) (reading_samples x.kind x.name r) (flat_map (reading_samples x.kind x.name) rs) h.0 (all_samples rs h.1)
+  all_samples (r ∷ rs) h = all-append (λ (t : Sample). length (sample_text t) ≤ most_scraped_line + most_target_bytes) (reading_samples x.kind x.name r) (flat_map (reading_samples x.kind x.name) rs) h.0 (all_samples rs h.1)
 
   short_family : (rs : List Reading) → IsHead x → AreGathered rs → AllByRecursion (IsShort (line_limit Written)) (family_items (record x { readings = rs }))
   unfolding family_items family_samples
   short_family rs head are =
       let samples : List Item = map items.Sample (flat_map (reading_samples x.kind x.name) rs) in (
         head.kind_line,
-        all_joined (IsShort (line_limit Written)) (item_unless_empty (items.Unit x.name) x.unit) (item_unless_empty (items.Help x.name) x.help ++ samples) head.unit_line
-            (all_joined (IsShort (line_limit Written)) (item_unless_empty (items.Help x.name) x.help) samples head.help_line (short_samples (flat_map (reading_samples x.kind x.name) rs) (all_samples rs are.short))),
+        all-append (IsShort (line_limit Written)) (item_unless_empty (items.Unit x.name) x.unit) (item_unless_empty (items.Help x.name) x.help ++ samples) head.unit_line
+            (all-append (IsShort (line_limit Written)) (item_unless_empty (items.Help x.name) x.help) samples head.help_line (short_samples (flat_map (reading_samples x.kind x.name) rs) (all_samples rs are.short))),
       )
 
 -- ---- all families
-
-all_reversed : {A : Type 0} (P : A → Type 0) (xs : List A) → AllByRecursion P xs → AllByRecursion P (reverse xs)
-all_reversed P [] h = tt
-all_reversed P (x ∷ xs) h = subst (AllByRecursion P) (sym (reverse-append (x ∷ []) xs)) (all_joined P (reverse xs) (x ∷ []) (all_reversed P xs h.1) (h.0, tt))
 
 all_founders : (P : Family → Type 0) (xs : List Family) → AllByRecursion P xs → AllByRecursion P (founders family_key xs)
 unfolding founders
@@ -218,7 +204,7 @@ module _ (shown : List Shown) (distinct : IsDistinct is_one_target shown) (good 
   candidate_heads : (ts : List Shown) → AllByRecursion IsGoodTarget ts → AllByRecursion IsHead (flat_map candidates_of ts)
   unfolding candidates_of
   candidate_heads [] h = tt
-  candidate_heads (s ∷ ts) h = all_joined IsHead (candidates_of s) (flat_map candidates_of ts) (all_heads s h.0.job h.0.instance h.0.form s.page.families h.0.sources) (candidate_heads ts h.1)
+  candidate_heads (s ∷ ts) h = all-append IsHead (candidates_of s) (flat_map candidates_of ts) (all_heads s h.0.job h.0.instance h.0.form s.page.families h.0.sources) (candidate_heads ts h.1)
 
   abbrev candidates : List Family
   candidates = flat_map candidates_of shown
@@ -230,7 +216,7 @@ module _ (shown : List Shown) (distinct : IsDistinct is_one_target shown) (good 
   whole x = with_readings_of x (filter (λ y. is_one_family (family_key x) (family_key y)) candidates)
 
   are_heads : AllByRecursion IsHead heads
-  are_heads = all_sorted IsHead (founders family_key (reverse candidates)) (all_founders IsHead (reverse candidates) (all_reversed IsHead candidates (candidate_heads shown good)))
+  are_heads = all_sorted IsHead (founders family_key (reverse candidates)) (all_founders IsHead (reverse candidates) (all-reverse IsHead candidates (candidate_heads shown good)))
 
   readings_gathered : (x : Family) → AreGathered x (whole x).readings
   readings_gathered x = subst (AreGathered x) (sym (by_targets x shown)) (gathered x shown distinct good)
@@ -245,7 +231,7 @@ module _ (shown : List Shown) (distinct : IsDistinct is_one_target shown) (good 
 
   each_short : (xs : List Family) → AllByRecursion IsHead xs → AllByRecursion (IsShort (line_limit Written)) (flat_map family_items (map whole xs))
   each_short [] h = tt
-  each_short (x ∷ xs) h = all_joined (IsShort (line_limit Written)) (family_items (whole x)) (flat_map family_items (map whole xs)) (short_family x (whole x).readings h.0 (readings_gathered x)) (each_short xs h.1)
+  each_short (x ∷ xs) h = all-append (IsShort (line_limit Written)) (family_items (whole x)) (flat_map family_items (map whole xs)) (short_family x (whole x).readings h.0 (readings_gathered x)) (each_short xs h.1)
 
   end_short : AllByRecursion (IsShort (line_limit Written)) (items.Eof ∷ [])
   unfolding item_text
@@ -261,7 +247,7 @@ module _ (shown : List Shown) (distinct : IsDistinct is_one_target shown) (good 
     bare = All-from_recursion (λ (f : Family). All IsBareReading f.readings) (map whole heads) (each_bare heads);
     apart = gathered_apart candidates;
     short_lines = All-from_recursion (IsShort (line_limit Written)) (flat_map family_items (map whole heads) ++ items.Eof ∷ [])
-        (all_joined (IsShort (line_limit Written)) (flat_map family_items (map whole heads)) (items.Eof ∷ []) (each_short heads are_heads) end_short);
+        (all-append (IsShort (line_limit Written)) (flat_map family_items (map whole heads)) (items.Eof ∷ []) (each_short heads are_heads) end_short);
   }
 
 -- ---- showable targets
@@ -295,13 +281,13 @@ module _ (formed : ReadPagesAreFormed) (short : WritesShortLines) where
   sources_of : (form : Format) (fs : List Family) → AllByRecursion (IsFormedFamily form Scraped) (map kept_family fs) → AllByRecursion (IsShort most_scraped_line) (flat_map family_items (map kept_family fs)) → AllByRecursion (IsSource form) fs
   sources_of form [] h k = tt
   sources_of form (f ∷ fs) h k = (
-    record { formed = h.0; lines = all_first (IsShort most_scraped_line) (family_items (kept_family f)) (flat_map family_items (map kept_family fs)) k },
-    sources_of form fs h.1 (all_second (IsShort most_scraped_line) (family_items (kept_family f)) (flat_map family_items (map kept_family fs)) k),
+    record { formed = h.0; lines = all-front (IsShort most_scraped_line) (family_items (kept_family f)) (flat_map family_items (map kept_family fs)) k },
+    sources_of form fs h.1 (all-behind (IsShort most_scraped_line) (family_items (kept_family f)) (flat_map family_items (map kept_family fs)) k),
   )
 
   lines_of : (fs : List Family) → All (IsShort most_scraped_line) (page_items fs) → AllByRecursion (IsShort most_scraped_line) (flat_map family_items fs)
   unfolding page_items
-  lines_of fs h = all_first (IsShort most_scraped_line) (flat_map family_items fs) (items.Eof ∷ []) (recursion_from_All (IsShort most_scraped_line) (flat_map family_items fs ++ items.Eof ∷ []) h)
+  lines_of fs h = all-front (IsShort most_scraped_line) (flat_map family_items fs) (items.Eof ∷ []) (recursion_from_All (IsShort most_scraped_line) (flat_map family_items fs ++ items.Eof ∷ []) h)
 
   good_target : (s : Shown) → IsShowable s → IsGoodTarget s
   good_target s able =

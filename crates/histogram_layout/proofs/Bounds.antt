@@ -24,17 +24,13 @@ length-differences before (b ∷ bs) = ap (λ n. suc n) (length-differences b.co
 part_of : (n : Number) → is_finite n ≡ true → (d : DecimalValue) × (n ≡ Finite d) × (finite_part n ≡ Some d)
 unfolding finite_part
 part_of (Finite d) h = (d, refl, refl)
-part_of Up h = absurd cc
-part_of Down h = absurd cc
-part_of NotANumber h = absurd cc
+part_of _ h = absurd cc
 
 -- plus infinity has none
 no_part : (n : Number) → is_up n ≡ true → finite_part n ≡ None
 unfolding finite_part
-no_part (Finite d) h = absurd cc
 no_part Up h = refl
-no_part Down h = absurd cc
-no_part NotANumber h = absurd cc
+no_part _ h = absurd cc
 
 -- a bucket with another behind it has a finite bound, which is less than the other's
 record HasNext (b c : Bucket) : Type 0 where

@@ -1,6 +1,6 @@
 -- Each body in chunks is read to its end.
-use Rattle.std.proofs.Common.{◌≡◌, ℕ, ◌+◌, ◌-◌, ◌*◌, ◌≤◌, ◌<◌, Bool, true, false, List, [], ◌∷◌, ◌++◌, length, Option, Some, None, refl, sym, ap, ◌∙◌, subst, arith, inl, inr, append_assoc, append-nil}
-use Rattle.std.specs.Prelude.{◌⊎◌, ◌&&◌, ◌==◌, if◌then◌else◌, fold, flat_map, All}
+use Rattle.std.proofs.Common.{◌≡◌, ℕ, ◌+◌, ◌-◌, ◌*◌, ◌≤◌, ◌<◌, true, false, List, [], ◌∷◌, ◌++◌, length, Option, Some, None, refl, sym, ap, ◌∙◌, subst, arith, inl, inr, append_assoc, append-nil}
+use Rattle.std.specs.Prelude.{◌⊎◌, ◌==◌, if◌then◌else◌, fold, flat_map, All}
 use Rattle.std.specs.List.{list_all}
 use Rattle.std.specs.Char.{is_ascii_hexdigit, digit_value}
 use Rattle.std.specs.Str.Parse.{digits_value_after}
@@ -8,7 +8,7 @@ use Rattle.std.proofs.lemmas.List.{length-append}
 use Rattle.std.proofs.lemmas.List.Concat.{flat_map-cons}
 use Rattle.std.proofs.lemmas.List.Sums.{list_all-from_AllPass}
 use Rattle.std.proofs.lemmas.List.Elements.{All-head, All-tail}
-use Rattle.std.proofs.lemmas.Bool.{le-leb, lt-ltb}
+use Rattle.std.proofs.lemmas.Bool.{le-leb, lt-ltb, and_parts}
 use Rattle.std.proofs.lemmas.Bool.Decides.{nat_tests}
 use Rattle.httparse.specs.Grammar.{ChunkLine, print_chunk_line, print_extension, IsExtension, chunk_size, is_extension_byte, is_ows, print_end, crlf}
 use Rattle.http_talk.specs.declared.chunk_place.ChunkPlace.{ChunkPlace}
@@ -26,10 +26,6 @@ run-append : (c : Chunks) (bytes more : List ℕ) → run c (bytes ++ more) ≡ 
 run-append c [] more = refl
 run-append c (b ∷ bytes) more = run-append (with_byte c b) bytes more
 
-and_both : (a b : Bool) → (a && b) ≡ true → (a ≡ true) × (b ≡ true)
-and_both true b e = (refl, e)
-and_both false b e = absurd (cc e)
-
 -- ---- the line of a chunk
 
 digit_step : (count size d : ℕ) (held : List ℕ) (got : ℕ) → is_ascii_hexdigit d ≡ true → count < 8
@@ -44,7 +40,7 @@ digits_run [] count size held got all few =
     let b : got ≡ got + 0 = omega arith in
     λ i. at (Digits (a i) size) held (b i)
 digits_run (d ∷ ds) count size held got all few =
-    let tests = and_both (is_ascii_hexdigit d) (list_all is_ascii_hexdigit ds) all in
+    let tests = and_parts (is_ascii_hexdigit d) (list_all is_ascii_hexdigit ds) all in
     let a : count + 1 + length ds ≡ count + length (d ∷ ds) = omega arith in
     let b : got + 1 + length ds ≡ got + length (d ∷ ds) = omega arith in
     ap (λ c. run c ds) (digit_step count size d held got tests.0 (omega (arith, few)))
@@ -121,7 +117,7 @@ ext_run : (text : List ℕ) (line size : ℕ) (held : List ℕ) (got : ℕ) → 
     → LineRead size (at (Extension line size) held got) text held got
 ext_run [] line size held got all few = line_none size (Extension line size) held got (ext_due line size) (λ held b. refl)
 ext_run (b ∷ text) line size held got all few =
-    let tests = and_both (is_extension_byte b) (list_all is_extension_byte text) all in
+    let tests = and_parts (is_extension_byte b) (list_all is_extension_byte text) all in
     line_more size _ b text held got (Extension (line + 1) size)
     (plain_step (Extension line size) (Extension (line + 1) size) b held got (λ held b. refl) (ext_step line size b tests.0 (omega (arith, few))))
     (ext_run text (line + 1) size held (got + 1) tests.1 (omega (arith, few)))
@@ -142,7 +138,7 @@ tail_run : (ps : List ℕ) (ext : Option (List ℕ)) (place : ChunkPlace) (line 
     → LineRead size (at place held got) (ps ++ print_extension ext) held got
 tail_run [] ext place line size held got behind keeps all plain few = opt_run ext place line size held got behind keeps plain few
 tail_run (p ∷ ps) ext place line size held got behind keeps all plain few =
-    let tests = and_both (is_ows p) (list_all is_ows ps) all in
+    let tests = and_parts (is_ows p) (list_all is_ows ps) all in
     line_more size _ p (ps ++ print_extension ext) held got (Blanks (line + 1) size)
     (plain_step place (Blanks (line + 1) size) p held got keeps (blank_step place line size p behind tests.0 (omega (arith, few))))
     (tail_run ps ext (Blanks (line + 1) size) (line + 1) size held (got + 1) (behind_blanks (line + 1) size) (keeps_blanks (line + 1) size) tests.1 plain (omega (arith, few)))
@@ -267,7 +263,7 @@ trailer_bytes [] before line held got all few =
     let a : line ≡ line + 0 = omega arith in
     let b : got ≡ got + 0 = omega arith in λ i. at (Trailer before (a i)) held (b i)
 trailer_bytes (t ∷ text) before line held got all few =
-    let tests = and_both (is_extension_byte t) (list_all is_extension_byte text) all in
+    let tests = and_parts (is_extension_byte t) (list_all is_extension_byte text) all in
     let a : line + 1 + length text ≡ line + length (t ∷ text) = omega arith in
     let b : got + 1 + length text ≡ got + length (t ∷ text) = omega arith in
     ap (λ c. run c text) (plain_step (Trailer before line) (Trailer before (line + 1)) t held got (λ held b. refl) (trailer_step before line t tests.0 (omega (arith, few))))

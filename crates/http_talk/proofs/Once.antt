@@ -88,11 +88,9 @@ end_outcome_once limit (goes_on format body) a b x y = page_outcome_once limit f
 end_outcome_once limit (decided v) a b x y = verdict_outcome_once limit v a b x y
 
 outcome_by_once : (end : End) (limit : ℕ) (known : Judged) (a b : Outcome) → IsOutcomeBy end limit known a → IsOutcomeBy end limit known b → a ≡ b
-outcome_by_once ends.ConnectFailed limit known a b x y = x ∙ sym y
-outcome_by_once ends.WriteFailed limit known a b x y = x ∙ sym y
-outcome_by_once ends.ReadFailed limit known a b x y = x ∙ sym y
 outcome_by_once ends.Ended limit known a b x y = end_outcome_once limit known a b x y
 outcome_by_once ends.Left limit known a b x y = absurd x
+outcome_by_once _ limit known a b x y = x ∙ sym y
 
 outcome_of_once : (end : End) (limit : ℕ) (known : Judged) (a b : Outcome) → IsOutcomeOf end limit known a → IsOutcomeOf end limit known b → a ≡ b
 outcome_of_once end limit (decided v) a b x y = verdict_outcome_once limit v a b x y

@@ -296,10 +296,7 @@ first_sound parts.Whole most is = tt
 
 pub first_body : (part : Part) → IsFirstPart part → part ≢ parts.Head
 first_body parts.Head is = absurd is
-first_body (parts.Sized n) is = λ same. cc same
-first_body parts.Open is = λ same. cc same
-first_body (parts.Chunked place) is = λ same. cc same
-first_body parts.Whole is = λ same. cc same
+first_body _ is = λ same. cc same
 
 pub only_whole : (part : Part) → part ≢ parts.Head → ((n : ℕ) → part ≢ parts.Sized n) → part ≢ parts.Open → ((place : ChunkPlace) → part ≢ parts.Chunked place) → part ≡ parts.Whole
 only_whole parts.Head a b c d = absurd (a refl)
@@ -379,14 +376,9 @@ began fed1 rest kept piece r1 r2 r3 p result s first second all =
     subst (λ bs. FeedAnswer (bs ++ piece) r3 result) all (second.answer (fed1 ++ rest) (first.answer fed1 s).stands)
 
 pub began_badly : (fault : ReplyFault) (most : ℕ) (fed piece : List ℕ) → IsRefusal most fed fault → IsRefusal most (fed ++ piece) fault
-began_badly faults.Head most fed piece x = (x.0, x.1, verdict_stays most fed piece (refused x.0) x.2)
-began_badly (faults.Status code) most fed piece x = (x.0, x.1, verdict_stays most fed piece (refused x.0) x.2)
-began_badly faults.Encoding most fed piece x = (x.0, x.1, verdict_stays most fed piece (refused x.0) x.2)
-began_badly faults.MediaType most fed piece x = (x.0, x.1, verdict_stays most fed piece (refused x.0) x.2)
-began_badly faults.TooLong most fed piece x = (x.0, x.1, verdict_stays most fed piece (refused x.0) x.2)
-began_badly faults.Chunk most fed piece x = (x.0, x.1, verdict_stays most fed piece (refused x.0) x.2)
 began_badly faults.Truncated most fed piece x = absurd x
 began_badly faults.Memory most fed piece x = tt
+began_badly _ most fed piece x = (x.0, x.1, verdict_stays most fed piece (refused x.0) x.2)
 
 module _ (most : ℕ) (kept rest first : List ℕ) (spans : List HeaderSpan) (parsed : ResponseSpans) (h : ResponseHead) (at : IsHeadAt kept spans parsed h) (short : length kept ≤ 16384)
     (start : Start) (starts : IsStart most h (Ok start)) (stopped : Option ReplyFault) (working : stopped ≡ None) (none : first ≡ []) (bytes : rest ≡ take (length kept - parsed.len) (drop parsed.len kept)) where

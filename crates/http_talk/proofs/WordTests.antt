@@ -1,5 +1,5 @@
 -- Words and numbers in values of fields.
-use Rattle.std.proofs.Common.{◌≡◌, ℕ, ◌+◌, ◌*◌, ◌^◌, ◌≤◌, ◌<◌, Bool, true, false, List, length, take, get_or, refl, sym, ◌∙◌, arith}
+use Rattle.std.proofs.Common.{◌≡◌, ℕ, ◌+◌, ◌*◌, ◌^◌, ◌≤◌, ◌<◌, Bool, true, List, length, take, get_or, sym, ◌∙◌, arith}
 use Rattle.std.specs.Prelude.{◌↔◌, IsTrue, map}
 use Rattle.std.specs.List.{list_all}
 use Rattle.std.specs.Char.{to_ascii_lowercase, is_ascii_digit, digit_value}
@@ -11,18 +11,14 @@ use Rattle.std.proofs.lemmas.Bool.{and_from}
 use Rattle.std.proofs.lemmas.Slice.Eq.{bytes_eq-Decides}
 use Rattle.std.proofs.lemmas.List.Folds.{list_all_more}
 use Rattle.std.proofs.lemmas.Int.Digits.{digits_value_more}
+use Rattle.label_sets.proofs.Laws.{same_tests}
 
 -- `eq_ignore_ascii_case` with a word in small letters
 pub same_word : (word bytes : List ℕ) (b : Bool) → map to_ascii_lowercase word ≡ word → (IsTrue b ↔ (map to_ascii_lowercase bytes ≡ map to_ascii_lowercase word)) → b ≡ bytes_eq (map to_ascii_lowercase bytes) word
-same_word word bytes b small both = agree b (bytes_eq (map to_ascii_lowercase bytes) word)
+same_word word bytes b small both = same_tests b (bytes_eq (map to_ascii_lowercase bytes) word)
     (λ yes. (bytes_eq-Decides (map to_ascii_lowercase bytes) word).1 (both.0 (true_is yes) ∙ small))
     (λ yes. is_true (both.1 ((bytes_eq-Decides (map to_ascii_lowercase bytes) word).0 yes ∙ sym small)))
   where
-    agree : (a b : Bool) → (a ≡ true → b ≡ true) → (b ≡ true → a ≡ true) → a ≡ b
-    agree true b f g = sym (f refl)
-    agree false true f g = g refl
-    agree false false f g = refl
-
     true_is : {a : Bool} → a ≡ true → IsTrue a
     true_is e = grind (arith, e)
 

@@ -1,5 +1,6 @@
 mod Cases
 pub mod Laws
+pub mod ListLaws
 pub mod NewNames
 pub mod Order
 pub mod Places

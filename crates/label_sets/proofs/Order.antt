@@ -17,16 +17,13 @@ use Rattle.label_sets.specs.Sets.{by_name, IsLabelSet}
 use Rattle.label_sets.specs.Labels.{label_inserted, labels_sorted, has_value, label_set, without_label}
 use Rattle.label_sets.specs.Building.{same_name}
 use Rattle.label_sets.specs.Keys.{label_cmp}
+use Rattle.label_sets.proofs.ListLaws.{all-weaker, all-filter}
 
 pub by_name_total : IsTotalOrder by_name
 by_name_total = on_total (λ (l : Label). l.name) nat_list_cmp_total
 
 pub every : {X : Type 0} (P : X → Type 0) (xs : List X) (z : X) → AllByRecursion P xs → Contains xs z → P z
 every P xs z h c = All-contains P xs z (All-from_recursion P xs h) c
-
-weaker : {X : Type 0} (P Q : X → Type 0) → ((x : X) → P x → Q x) → (xs : List X) → AllByRecursion P xs → AllByRecursion Q xs
-weaker P Q f [] h = tt
-weaker P Q f (x ∷ xs) h = (f x h.0, weaker P Q f xs h.1)
 
 permuted : {X : Type 0} (P : X → Type 0) (xs ys : List X) → IsPermutation xs ys → AllByRecursion P xs → AllByRecursion P ys
 permuted P xs ys p h = recursion_from_All P ys (All-permutation P xs ys p (All-from_recursion P xs h))
@@ -128,7 +125,7 @@ inserted_ascending l [] apart h = (tt, tt)
 inserted_ascending l (m ∷ ms) apart h = go (is_lt (by_name l m)) refl (inserted_ascending l ms apart.1 h.1)
   where
     go : (b : Bool) → is_lt (by_name l m) ≡ b → IsStrictlySortedBy by_name (label_inserted l ms) → IsStrictlySortedBy by_name (cond b (l ∷ m ∷ ms) (m ∷ label_inserted l ms))
-    go true e ih = let less = less_is l m e in ((less, weaker (λ z. by_name m z ≡ Less) (λ z. by_name l z ≡ Less) (λ z k. by_name_total.trans l m z less k) ms h.0), h)
+    go true e ih = let less = less_is l m e in ((less, all-weaker (λ z. by_name m z ≡ Less) (λ z. by_name l z ≡ Less) (λ z k. by_name_total.trans l m z less k) ms h.0), h)
     go false e ih = (permuted (λ z. by_name m z ≡ Less) (l ∷ ms) (label_inserted l ms) (inserted_moves l ms) (other_way l m apart.0 e, h.0), ih)
 
 pub sorted_ascending : (ls : List Label) → IsDistinct same_name ls → IsStrictlySortedBy by_name (labels_sorted ls)
@@ -204,15 +201,6 @@ kept {X} p (x ∷ xs) z c t = go (p x) refl (contains_cases x xs z c) (λ k. kep
     go false e (inl same) ih = absurd (let f : true ≡ false = sym t ∙ (ap p (sym same) ∙ e) in cc)
     go false e (inr rest) ih = ih rest
 
--- what is true of each element is true of those that are kept
-filtered : {X : Type 0} (P : X → Type 0) (p : X → Bool) (xs : List X) → AllByRecursion P xs → AllByRecursion P (filter p xs)
-filtered P p [] h = tt
-filtered P p (x ∷ xs) h = go (p x) (filtered P p xs h.1)
-  where
-    go : (b : Bool) → AllByRecursion P (filter p xs) → AllByRecursion P (cond b (x ∷ filter p xs) (filter p xs))
-    go true ih = (h.0, ih)
-    go false ih = ih
-
 -- distinct elements stay distinct where some are left out
 pub distinct_kept : {X : Type 0} (e : X → X → Bool) (p : X → Bool) (xs : List X) → IsDistinct e xs → IsDistinct e (filter p xs)
 unfolding IsDistinct
@@ -220,7 +208,7 @@ distinct_kept e p [] h = tt
 distinct_kept e p (x ∷ xs) h = go (p x) (distinct_kept e p xs h.1)
   where
     go : (b : Bool) → IsDistinct e (filter p xs) → IsDistinct e (cond b (x ∷ filter p xs) (filter p xs))
-    go true ih = (filtered (λ y. e x y ≡ false) p xs h.0, ih)
+    go true ih = (all-filter (λ y. e x y ≡ false) p xs h.0, ih)
     go false ih = ih
 
 -- what is left of a sorted list without empty values is the set of the pairs

@@ -32,13 +32,7 @@ kind_at n = cond (n == 0) Counter (cond (n == 1) Gauge (cond (n == 2) Histogram 
 kind_at-kind_place : (k : Kind) → kind_at (kind_place k) ≡ k
 unfolding kind_at
 kind_at-kind_place Counter = refl
-kind_at-kind_place Gauge = refl
-kind_at-kind_place Histogram = refl
-kind_at-kind_place GaugeHistogram = refl
-kind_at-kind_place StateSet = refl
-kind_at-kind_place Info = refl
-kind_at-kind_place Summary = refl
-kind_at-kind_place Unknown = refl
+kind_at-kind_place _ = refl
 
 same_kind : (a b : Kind) → kind_place a ≡ kind_place b → a ≡ b
 same_kind a b e = sym (kind_at-kind_place a) ∙ (ap kind_at e ∙ kind_at-kind_place b)

@@ -1,5 +1,5 @@
 -- Steps over quoted values and escaped texts.
-use Rattle.std.proofs.Common.{◌≡◌, ◌≢◌, ℕ, zero, suc, ◌+◌, ◌-◌, ◌<◌, ◌≤◌, Bool, true, false, ◌||◌, List, [], ◌∷◌, ◌++◌, length, take, drop, get_or, Option, Some, None, refl, sym, ap, subst, ◌∙◌, arith, append_assoc, add-one}
+use Rattle.std.proofs.Common.{◌≡◌, ◌≢◌, ℕ, zero, suc, ◌+◌, ◌-◌, ◌<◌, ◌≤◌, Bool, true, false, List, [], ◌∷◌, ◌++◌, length, take, drop, get_or, Option, Some, None, refl, sym, ap, subst, ◌∙◌, arith, append_assoc, add-one}
 use Rattle.std.specs.List.{list_any}
 use Rattle.std.specs.Prelude.{◌==◌, MatchOption}
 use Rattle.std.proofs.lemmas.Bool.Decides.{nat_tests}
@@ -9,6 +9,7 @@ use Rattle.std.proofs.Math.Seq.{take-add, drop-cons}
 use Rattle.label_sets.specs.Escapes.{is_quote, is_backslash, quoted_at, unescaped}
 use Rattle.line_scan.specs.Marks.{behind_front, step_over, escape_at, is_mark, HasNoMark, IsFirstMark, IsFirstOf}
 use Rattle.std.proofs.lemmas.List.Folds.{list_any_more, list_any_at}
+use Rattle.std.proofs.lemmas.Bool.{or_parts}
 use Rattle.memchr.specs.Find.{TakesFirst, is_byte2, places, places_from}
 
 front_front : (xs ys : List ℕ) (o : Option (List ℕ × List ℕ)) → behind_front xs (behind_front ys o) ≡ behind_front (xs ++ ys) o
@@ -40,10 +41,6 @@ take-take_on m n bs = sym (take-add m n bs)
 quote_first : (xs ys : List ℕ) → behind_front xs (quoted_at (34 ∷ ys)) ≡ Some (xs, ys)
 quote_first xs [] = rw append-nil refl
 quote_first xs (y ∷ ys) = rw append-nil refl
-
-or_false : (a b : Bool) → (a || b) ≡ false → (a ≡ false) × (b ≡ false)
-or_false true b e = absurd cc
-or_false false b e = (refl, e)
 
 -- the same behind what was passed
 pub step_on : (bytes : List ℕ) (at : ℕ) → at < length bytes → is_quote (get_or bytes at 0) ≡ false → quoted_at bytes ≡ behind_front (take at bytes) (quoted_at (drop at bytes))
@@ -114,8 +111,8 @@ mark_found bytes left (Some at) h = first_mark bytes at left h
 pub unmarked_front : (bytes : List ℕ) (n : ℕ) → n ≤ length bytes → HasNoMark (take n bytes) → quoted_at bytes ≡ behind_front (take n bytes) (quoted_at (drop n bytes))
 unmarked_front bytes zero within h = front_nothing (quoted_at bytes)
 unmarked_front bytes (suc n) within h =
-    let parts = or_false (list_any is_mark (take n bytes)) (is_mark (get_or bytes n 0)) (sym (list_any_more is_mark bytes n 0 (omega arith)) ∙ ap (λ k. list_any is_mark (take k bytes)) (add-one n) ∙ h) in
-    let kinds = or_false (get_or bytes n 0 == 34) (get_or bytes n 0 == 92) parts.1 in
+    let parts = or_parts (list_any is_mark (take n bytes)) (is_mark (get_or bytes n 0)) (sym (list_any_more is_mark bytes n 0 (omega arith)) ∙ ap (λ k. list_any is_mark (take k bytes)) (add-one n) ∙ h) in
+    let kinds = or_parts (get_or bytes n 0 == 34) (get_or bytes n 0 == 92) parts.1 in
     let step = step_on bytes n (omega arith) kinds.0 (unmarked_front bytes n (omega arith) parts.0) in
     let one : step_over (get_or bytes n 0) ≡ 1 = rw kinds.1 refl in
     let there : n + 1 ≡ suc n = add-one n in
@@ -130,8 +127,8 @@ unmarked bytes h =
 pub no_backslash : (bytes : List ℕ) → HasNoMark bytes → list_any is_backslash bytes ≡ false
 no_backslash [] h = refl
 no_backslash (c ∷ cs) h =
-    let parts = or_false (is_mark c) (list_any is_mark cs) h in
-    let kinds = or_false (c == 34) (c == 92) parts.0 in
+    let parts = or_parts (is_mark c) (list_any is_mark cs) h in
+    let kinds = or_parts (c == 34) (c == 92) parts.0 in
     rw (kinds.1, no_backslash cs parts.1) refl
 
 -- a backslash in front of a place
@@ -169,7 +166,7 @@ pub no_escape : (escape : ℕ → Option ℕ) (written : List ℕ) → list_any 
 no_escape escape [] h = refl
 no_escape escape (c ∷ []) h = refl
 no_escape escape (c ∷ d ∷ cs) h =
-    let parts = or_false (is_backslash c) (list_any is_backslash (d ∷ cs)) h in
+    let parts = or_parts (is_backslash c) (list_any is_backslash (d ∷ cs)) h in
     rw parts.0 (ap (λ (l : List ℕ). c ∷ l) (no_escape escape (d ∷ cs) parts.1))
 
 -- ---- for the calls

@@ -2,7 +2,7 @@
 use Rattle.std.proofs.Common.{◌≡◌, ◌∙◌, ℕ, ◌<◌, ◌≤◌, Bool, true, false, List, [], map, length, set, get_or, Option, Some, option_map, refl, sym, ap, subst, arith}
 use Rattle.std.specs.Prelude.{find, All, ◌&&◌, ◌==◌, bytes_eq}
 use Rattle.std.specs.List.{position_or_len}
-use Rattle.std.proofs.lemmas.Bool.{eqb-true}
+use Rattle.std.proofs.lemmas.Bool.{eqb-true, and_parts}
 use Rattle.std.proofs.lemmas.Slice.Eq.{bytes_eq-Decides}
 use Rattle.std.proofs.lemmas.List.Folds.{find_past}
 use Rattle.std.proofs.lemmas.List.Elements.{All-set, All-get_or}
@@ -16,16 +16,11 @@ use Rattle.bridge_ports.specs.WorldMaking.{IsRightListen}
 use Rattle.memory_world.specs.WorldParts.{listen_given, IsListenRight, IsDoorOut}
 use Rattle.memory_world.proofs.PairLaws.{find_map, find_none, find_here, passes_here}
 
-both_true : (a b : Bool) → (a && b) ≡ true → (a ≡ true) × (b ≡ true)
-both_true true true e = (refl, refl)
-both_true true false e = absurd (cc e)
-both_true false b e = absurd (cc e)
-
 -- one address is the other
 pub one_address : (a b : Address) → is_address a b ≡ true → a ≡ b
 one_address a b e =
-    let x = both_true (bytes_eq a.host b.host) (a.port == b.port && bytes_eq a.path b.path) e in
-    let y = both_true (a.port == b.port) (bytes_eq a.path b.path) x.1 in
+    let x = and_parts (bytes_eq a.host b.host) (a.port == b.port && bytes_eq a.path b.path) e in
+    let y = and_parts (a.port == b.port) (bytes_eq a.path b.path) x.1 in
     let host : a.host ≡ b.host = (bytes_eq-Decides a.host b.host).0 x.0 in
     let port : a.port ≡ b.port = eqb-true a.port b.port y.0 in
     let path : a.path ≡ b.path = (bytes_eq-Decides a.path b.path).0 y.1 in

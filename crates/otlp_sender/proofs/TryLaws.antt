@@ -10,11 +10,8 @@ use Rattle.otlp_sender.specs.declared.posted.Try.TheVariants as tries
 use Rattle.otlp_sender.specs.Posting.{IsRightTry, HasPostVerdict, IsTryBy, try_seen, ArePosted}
 
 try_by_once : (end : End) (got : List ℕ) (a b : Try) → IsTryBy end got a → IsTryBy end got b → a ≡ b
-try_by_once ends.ConnectFailed got a b x y = x ∙ sym y
-try_by_once ends.WriteFailed got a b x y = x ∙ sym y
-try_by_once ends.ReadFailed got a b x y = x ∙ sym y
-try_by_once ends.Ended got a b x y = x ∙ sym y
 try_by_once ends.Left got a b x y = x.2 ∙ ap try_seen (shows_once got x.0 y.0 x.1 y.1) ∙ sym y.2
+try_by_once _ got a b x y = x ∙ sym y
 
 pub try_once : (talk : Talk) (a b : Try) → HasPostVerdict talk a → HasPostVerdict talk b → a ≡ b
 try_once talk a b x y = try_by_once talk.end talk.got a b x y

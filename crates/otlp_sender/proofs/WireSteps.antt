@@ -140,9 +140,7 @@ exchange_broke text old new b = record {
 all_sent : (end : End) (text : List ℕ) → end ≢ ends.ConnectFailed → end ≢ ends.WriteFailed → IsSent end text text
 all_sent ends.ConnectFailed text a b = absurd (a refl)
 all_sent ends.WriteFailed text a b = absurd (b refl)
-all_sent ends.ReadFailed text a b = refl
-all_sent ends.Ended text a b = refl
-all_sent ends.Left text a b = refl
+all_sent _ text a b = refl
 
 pub exchange_read : (text : List ℕ) (old mid new : WireState) (t : Try) → mid ≡ sent_on text old → IsHeadTalk mid new t → IsConnectedTalk text old new t
 exchange_read text old mid new t is h = record {

@@ -39,10 +39,6 @@ pub not_true : (b : Bool) → not b ≡ true → b ≡ false
 not_true true e = absurd cc
 not_true false e = refl
 
-pub not_false : (b : Bool) → not b ≡ false → b ≡ true
-not_false true e = refl
-not_false false e = absurd cc
-
 pub one_kept : (name : List ℕ) (ls : List Label) (l : Label) → bytes_eq l.name name ≡ false → without_label name (ls ++ l ∷ []) ≡ without_label name ls ++ l ∷ []
 one_kept name ls l e = filter-append (λ (m : Label). not (bytes_eq m.name name)) ls (l ∷ []) ∙ ap (λ (b : Bool). without_label name ls ++ cond (not b) (l ∷ []) []) e
 

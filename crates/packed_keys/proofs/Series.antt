@@ -8,6 +8,7 @@ use Rattle.std.proofs.lemmas.Bool.Decides.{nat_tests}
 use Rattle.std.proofs.lemmas.List.{map-append}
 use Rattle.std.proofs.lemmas.List.Folds.{list_any-append}
 use Rattle.std.proofs.lemmas.Option.{slice_get-map, same_Some}
+use Rattle.std.proofs.lemmas.Bool.{or_left}
 use Rattle.label_sets.specs.declared.series_key.SeriesKey.{SeriesKey}
 use Rattle.label_sets.specs.Keys.{kind_place, kind_eq, key_eq}
 use Rattle.label_sets.specs.Labels.{label_sets_eq}
@@ -54,10 +55,6 @@ one_test a b = same_tests (bytes_eq (series_bytes a) (series_bytes b)) (key_eq a
     (λ t. (bytes_decides (series_bytes a) (series_bytes b)).1 (ap series_bytes ((key_decides a b).0 t)))
 
 -- ---- keys that stand once
-
-either : (a b : Bool) → a ≡ true → (a || b) ≡ true
-either true b e = refl
-either false b e = absurd cc
 
 or_nothing : (b : Bool) → (b || false) ≡ b
 or_nothing true = refl
@@ -124,7 +121,7 @@ found_place keys key strings (Some at) are is = record {
 
 stands_at : (keys : List SeriesKey) (key : SeriesKey) (at : ℕ) → slice_get keys at ≡ Some key → list_any (key_eq key) keys ≡ true
 stands_at [] key at e = absurd cc
-stands_at (k ∷ keys) key zero e = either (key_eq key k) (list_any (key_eq key) keys) ((key_decides key k).1 (sym (same_Some k key e)))
+stands_at (k ∷ keys) key zero e = or_left (key_eq key k) (list_any (key_eq key) keys) ((key_decides key k).1 (sym (same_Some k key e)))
 stands_at (k ∷ keys) key (suc at) e = rest (key_eq key k) (stands_at keys key at e)
   where
     rest : (b : Bool) {c : Bool} → c ≡ true → (b || c) ≡ true

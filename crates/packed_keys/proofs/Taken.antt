@@ -6,6 +6,7 @@ use Rattle.std.proofs.lemmas.List.{append-nil, take_more, take-append-drop, take
 use Rattle.std.proofs.lemmas.List.Elements.{filter-append}
 use Rattle.std.proofs.lemmas.List.Folds.{list_any-append}
 use Rattle.std.proofs.lemmas.Option.{slice_get_within, get_or_from_slice_get}
+use Rattle.std.proofs.lemmas.Bool.{or_parts}
 use Rattle.label_sets.specs.declared.series_key.SeriesKey.{SeriesKey}
 use Rattle.label_sets.specs.Keys.{key_eq}
 use Rattle.label_sets.proofs.Laws.{key_decides, same_tests}
@@ -13,10 +14,6 @@ use Rattle.packed_keys.specs.Partings.{IsParted, is_among, keys_behind}
 use Rattle.packed_keys.proofs.Series.{front_once}
 
 -- ---- tests
-
-or_false : (a b : Bool) → (a || b) ≡ false → (a ≡ false) × (b ≡ false)
-or_false true b e = absurd cc
-or_false false b e = (refl, e)
 
 both_false : (a : Bool) {b : Bool} → a ≡ false → b ≡ false → (a || b) ≡ false
 both_false true e f = absurd cc
@@ -69,7 +66,7 @@ all_among P (k ∷ keys) f = (f k (rw ((key_decides k k).1 refl) refl), all_amon
 apart_more : (strays taken : List SeriesKey) (key : SeriesKey) → AllByRecursion (λ k. is_among taken k ≡ false) strays → is_among strays key ≡ false → AllByRecursion (λ k. is_among (taken ++ key ∷ []) k ≡ false) strays
 apart_more [] taken key all e = tt
 apart_more (s ∷ strays) taken key all e =
-    let parts = or_false (key_eq key s) (is_among strays key) e in
+    let parts = or_parts (key_eq key s) (is_among strays key) e in
     (list_any-append (key_eq s) taken (key ∷ []) ∙ both_false (is_among taken s) all.0 (both_false (key_eq s key) (turned key s parts.0) refl), apart_more strays taken key all.1 parts.1)
 
 -- ---- one key more
@@ -87,7 +84,7 @@ strayed asked keys strays left key p = record {
   in_order = λ test none. filter-append test asked (key ∷ []) ∙ (ap (λ (ks : List SeriesKey). ks ++ filter test (key ∷ [])) (p.in_order test none) ∙ sym (filter-append test strays (key ∷ [])));
   apart = λ once.
       let front = front_once asked key once in
-      all_more (λ k. is_among p.taken k ≡ false) strays key (p.apart front.0) (or_false (is_among strays key) (is_among p.taken key) (sym (p.asked_are key) ∙ front.1)).1;
+      all_more (λ k. is_among p.taken k ≡ false) strays key (p.apart front.0) (or_parts (is_among strays key) (is_among p.taken key) (sym (p.asked_are key) ∙ front.1)).1;
 }
 
 -- a key that is near, with those before it
@@ -109,7 +106,7 @@ taken_away asked keys strays left skipped key p = record {
       filter-append test asked (key ∷ []) ∙ (ap (λ (b : Bool). filter test asked ++ cond b (key ∷ []) []) parts.1 ∙ (append-nil (filter test asked) ∙ p.in_order test parts.0));
   apart = λ once.
       let front = front_once asked key once in
-      apart_more strays p.taken key (p.apart front.0) (or_false (is_among strays key) (is_among p.taken key) (sym (p.asked_are key) ∙ front.1)).0;
+      apart_more strays p.taken key (p.apart front.0) (or_parts (is_among strays key) (is_among p.taken key) (sym (p.asked_are key) ∙ front.1)).0;
 }
 
 -- the keys behind all that were taken

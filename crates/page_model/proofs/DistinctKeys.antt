@@ -1,5 +1,5 @@
 -- The keys of a page's readings are distinct, for every list of items.
-use Rattle.std.proofs.Common.{◌≡◌, ℕ, Bool, true, false, cond, not, ◌&&◌, List, [], ◌∷◌, ◌++◌, map, filter, filter_map, Option, Some, None, refl, sym, ap, ◌∙◌, codes, reverse, subst}
+use Rattle.std.proofs.Common.{◌≡◌, ℕ, Bool, true, false, not, ◌&&◌, List, [], ◌∷◌, ◌++◌, map, filter, filter_map, Option, Some, None, refl, sym, ap, ◌∙◌, codes, reverse, subst}
 use Rattle.std.specs.List.{AllByRecursion, IsDistinct, flat_map, cons_option}
 use Rattle.std.specs.Str.{bytes_eq}
 use Rattle.std.specs.Cmp.Lexicographic.{bytes_decides}
@@ -7,7 +7,7 @@ use Rattle.std.specs.Prelude.{option_map, unwrap_or}
 use Rattle.std.proofs.lemmas.List.{append_cancel_right}
 use Rattle.std.proofs.lemmas.Bool.{and_parts, not-true}
 use Rattle.std.proofs.lemmas.Option.{none-some, same_Some}
-use Rattle.label_sets.proofs.Laws.{distinct_kept, kind_decides}
+use Rattle.label_sets.proofs.Laws.{distinct_kept, kind_decides, filter-passes, all-weaker}
 use Rattle.label_sets.specs.declared.kind.Kind.{Kind}
 use Rattle.label_sets.specs.declared.kind.Kind.TheVariants.{Counter, Gauge, Info}
 use Rattle.label_sets.specs.declared.label_set.LabelSet.{LabelSet}
@@ -31,24 +31,12 @@ use Rattle.page_model.specs.Presence.{all_readings, keys_of}
 -- ---- lists
 
 module _ {A : Type 0} where
-  filter_passes : (t : A → Bool) (xs : List A) → AllByRecursion (λ y. t y ≡ true) (filter t xs)
-  filter_passes t [] = tt
-  filter_passes t (x ∷ xs) = go (t x) refl (filter_passes t xs)
-    where
-      go : (b : Bool) → t x ≡ b → AllByRecursion (λ y. t y ≡ true) (filter t xs) → AllByRecursion (λ y. t y ≡ true) (cond b (x ∷ filter t xs) (filter t xs))
-      go true e ih = (e, ih)
-      go false e ih = ih
-
-  all_mono : (P Q : A → Type 0) → ((x : A) → P x → Q x) → (xs : List A) → AllByRecursion P xs → AllByRecursion Q xs
-  all_mono P Q f [] h = tt
-  all_mono P Q f (x ∷ xs) h = (f x h.0, all_mono P Q f xs h.1)
-
   pub first_of_each_distinct : (e : A → A → Bool) (xs : List A) → IsDistinct e (first_of_each e xs)
   unfolding IsDistinct
   first_of_each_distinct e [] = tt
   first_of_each_distinct e (x ∷ xs) =
       let rest = first_of_each e xs in (
-        all_mono (λ y. not (e x y) ≡ true) (λ y. e x y ≡ false) (λ y h. not-true (e x y) h) (filter (λ y. not (e x y)) rest) (filter_passes (λ y. not (e x y)) rest),
+        all-weaker (λ y. not (e x y) ≡ true) (λ y. e x y ≡ false) (λ y h. not-true (e x y) h) (filter (λ y. not (e x y)) rest) (filter-passes (λ y. not (e x y)) rest),
         distinct_kept e (λ y. not (e x y)) rest (first_of_each_distinct e xs),
       )
 

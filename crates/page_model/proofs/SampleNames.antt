@@ -4,6 +4,7 @@ use Rattle.std.specs.Prelude.{◌==◌}
 use Rattle.std.specs.List.{list_any}
 use Rattle.std.specs.Str.{bytes_eq}
 use Rattle.std.specs.Cmp.Lexicographic.{bytes_decides}
+use Rattle.std.proofs.lemmas.Bool.{and_parts}
 use Rattle.label_sets.specs.declared.kind.Kind.{Kind}
 use Rattle.label_sets.specs.declared.kind.Kind.TheVariants as kinds
 use Rattle.page_model.specs.declared.format.Format.{Format}
@@ -31,20 +32,9 @@ named_is bytes = named_among bytes all_suffixes
 named_back : (suffix : Suffix) → suffix_named (suffix_bytes suffix) ≡ Some suffix
 unfolding suffix_named
 named_back Own = refl
-named_back Bucket = refl
-named_back Count = refl
-named_back GaugeCount = refl
-named_back Sum = refl
-named_back GaugeSum = refl
-named_back Total = refl
-named_back Created = refl
-named_back Info = refl
+named_back _ = refl
 
 -- ---- a name that is a front and an ending
-
-both : (a b : Bool) → (a && b) ≡ true → (a ≡ true) × (b ≡ true)
-both true b e = (refl, e)
-both false b e = absurd (let f : false ≡ true = e in cc)
 
 -- behind the front that it has, the ending decides
 ending_decides : (front name ending : List ℕ) → bytes_eq (take (length front) name) front ≡ true → bytes_eq (drop (length front) name) ending ≡ bytes_eq name (front ++ ending)
@@ -52,7 +42,7 @@ ending_decides [] [] ending h = refl
 ending_decides [] (x ∷ xs) ending h = refl
 ending_decides (f ∷ fs) [] ending h = absurd (let e : false ≡ true = h in cc)
 ending_decides (f ∷ fs) (x ∷ xs) ending h =
-    let parts = both (x == f) (bytes_eq (take (length fs) xs) fs) h in
+    let parts = and_parts (x == f) (bytes_eq (take (length fs) xs) fs) h in
     rw parts.0 (ending_decides fs xs ending parts.1)
 
 -- without the front it isn't
@@ -100,7 +90,7 @@ module _ (family name : List ℕ) where
     where
       behind_front : (front a b : List ℕ) → bytes_eq (front ++ a) (front ++ b) ≡ bytes_eq a b
       behind_front [] a b = refl
-      behind_front (c ∷ cs) a b = rw (both (c == c) true ((bytes_decides (c ∷ []) (c ∷ [])).1 refl)).0 (behind_front cs a b)
+      behind_front (c ∷ cs) a b = rw (and_parts (c == c) true ((bytes_decides (c ∷ []) (c ∷ [])).1 refl)).0 (behind_front cs a b)
 
   -- a name without a suffix is allowed to no kind
   pub none_allowed : (format : Format) (kind : Kind) → ((suffix : Suffix) → name ≡ family ++ suffix_bytes suffix → None ≡ Some suffix) → false ≡ is_sample_name format kind family name

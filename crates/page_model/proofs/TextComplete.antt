@@ -9,7 +9,7 @@ use Rattle.std.proofs.Common.{eq-eqb}
 use Rattle.std.proofs.lemmas.Bool.{eqb-true, and_parts, or_from}
 use Rattle.std.proofs.lemmas.Option.{none-some, same_Some}
 use Rattle.label_sets.specs.declared.kind.Kind.{Kind}
-use Rattle.label_sets.specs.declared.kind.Kind.TheVariants.{Counter, Gauge, Histogram, GaugeHistogram, StateSet, Info, Summary, Unknown}
+use Rattle.label_sets.specs.declared.kind.Kind.TheVariants.{Counter, Gauge, Histogram, Summary, Unknown}
 use Rattle.label_sets.specs.declared.label.Label.{Label}
 use Rattle.label_sets.specs.Lists.{rest_while, behind}
 use Rattle.label_sets.specs.Names.{is_metric_name, is_metric_start, is_metric_char, is_label_name, is_label_start, is_label_char, is_blank}
@@ -312,9 +312,7 @@ kind_again Gauge word e = subst (λ w. (kind_named w ≡ Some Gauge) × Stops is
 kind_again Histogram word e = subst (λ w. (kind_named w ≡ Some Histogram) × Stops is_blank w) (same_Some (codes "histogram") word e) (refl, refl)
 kind_again Summary word e = subst (λ w. (kind_named w ≡ Some Summary) × Stops is_blank w) (same_Some (codes "summary") word e) (refl, refl)
 kind_again Unknown word e = subst (λ w. (kind_named w ≡ Some Unknown) × Stops is_blank w) (same_Some (codes "untyped") word e) (refl, refl)
-kind_again GaugeHistogram word e = absurd (none-some word e)
-kind_again StateSet word e = absurd (none-some word e)
-kind_again Info word e = absurd (none-some word e)
+kind_again _ word e = absurd (none-some word e)
 
 -- ---- lines
 

@@ -9,7 +9,7 @@ use Rattle.std.proofs.lemmas.List.{append-nil}
 use Rattle.std.proofs.lemmas.Bool.{eqb-true, and_parts}
 use Rattle.std.proofs.lemmas.Option.{none-some, same_Some}
 use Rattle.label_sets.specs.declared.kind.Kind.{Kind}
-use Rattle.label_sets.specs.declared.kind.Kind.TheVariants.{Counter, Gauge, Histogram, GaugeHistogram, StateSet, Info, Summary, Unknown}
+use Rattle.label_sets.specs.declared.kind.Kind.TheVariants.{Counter, Gauge, Histogram, Summary, Unknown}
 use Rattle.label_sets.specs.declared.label.Label.{Label}
 use Rattle.label_sets.specs.Lists.{◌>>=◌, when_true, rest_while, behind, some_passes}
 use Rattle.label_sets.specs.Names.{is_metric_name, is_metric_char, is_label_name, is_label_char, is_blank}
@@ -225,9 +225,7 @@ no_empty_kind Gauge e = let h : codes "gauge" ≡ [] = same_Some (codes "gauge")
 no_empty_kind Histogram e = let h : codes "histogram" ≡ [] = same_Some (codes "histogram") [] e in cc
 no_empty_kind Summary e = let h : codes "summary" ≡ [] = same_Some (codes "summary") [] e in cc
 no_empty_kind Unknown e = let h : codes "untyped" ≡ [] = same_Some (codes "untyped") [] e in cc
-no_empty_kind GaugeHistogram e = none-some [] e
-no_empty_kind StateSet e = none-some [] e
-no_empty_kind Info e = none-some [] e
+no_empty_kind _ e = none-some [] e
 
 kind_gap : (rest : List ℕ) (kind : Kind) → at_blank rest ≡ true → text_kind_word kind ≡ Some (without_leading_blanks rest) → IsGap (take_while is_blank rest)
 kind_gap [] kind h e = absurd (no_empty_kind kind e)

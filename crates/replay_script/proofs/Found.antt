@@ -1,5 +1,5 @@
 -- A part that may stand at a place is the one that is read there.
-use Rattle.std.proofs.Common.{◌≡◌, ◌≢◌, ℕ, zero, suc, ◌+◌, ◌*◌, ◌^◌, ◌<◌, ◌≤◌, Bool, true, false, cond, not, ◌&&◌, ◌||◌, ◌==◌, List, [], ◌∷◌, ◌++◌, length, get_or, take, drop, Option, Some, None, refl, sym, ap, subst, ◌∙◌, arith, append_assoc, bytes_eq, codes, nat_le, nat_lt, nat_eq, slice_index}
+use Rattle.std.proofs.Common.{◌≡◌, ℕ, ◌+◌, ◌*◌, ◌^◌, ◌<◌, Bool, true, ◌&&◌, List, [], ◌∷◌, ◌++◌, length, take, drop, Some, refl, sym, ap, ◌∙◌, arith, append_assoc, codes, nat_le, nat_lt, nat_eq, slice_index}
 use Rattle.std.specs.Fmt.{decimal}
 use Rattle.std.specs.List.{list_all, starts_with}
 use Rattle.std.proofs.lemmas.Bool.{and_parts, and_from, ltb-true, lt-ltb}
@@ -14,7 +14,7 @@ use Rattle.replay_script.specs.declared.header.HeaderLine.{HeaderLine}
 use Rattle.replay_script.specs.declared.header.HeaderLine.TheVariants.{Keep, Tries, Limit, MaxPage, Cut, Rounds}
 use Rattle.replay_script.specs.HeaderLines.{header_row, is_in_row}
 use Rattle.replay_script.specs.declared.ending.Ending.{Ending}
-use Rattle.replay_script.specs.declared.ending.Ending.TheVariants.{ConnectFails, WriteFails, ReadFails, PeerEnds}
+use Rattle.replay_script.specs.declared.ending.Ending.TheVariants.{ConnectFails}
 use Rattle.replay_script.specs.ScriptParts.{ending_word, format_word, TargetLine, Part, opening, header, target, page, scrape, post, record_words, part_words, part_text}
 use Rattle.replay_script.specs.ScriptRules.{may_stand_behind, is_next_line, is_target_line, is_record, fits_ending, has_target, has_room_for_post}
 use Rattle.replay_script.specs.ScriptContents.{targets_of, header_number}
@@ -50,11 +50,7 @@ body_found bytes more =
 header_visible : (line : HeaderLine) (n : ℕ) → n < 2 ^ 64 → are_visible (part_words (header line n)) ≡ true
 unfolding part_words header_row
 header_visible Keep n small = rw (decimal_visible n small) refl
-header_visible Tries n small = rw (decimal_visible n small) refl
-header_visible Limit n small = rw (decimal_visible n small) refl
-header_visible MaxPage n small = rw (decimal_visible n small) refl
-header_visible Cut n small = rw (decimal_visible n small) refl
-header_visible Rounds n small = rw (decimal_visible n small) refl
+header_visible _ n small = rw (decimal_visible n small) refl
 
 -- a header line's number is small
 header_small : (line : HeaderLine) (n : ℕ) → is_in_row (header_row line) n ≡ true → n < 2 ^ 64
@@ -70,11 +66,7 @@ header_small Rounds n e = omega (arith, (in_range 1 1000000 n e).1)
 header_found : (line : HeaderLine) (n : ℕ) → n < 2 ^ 64 → header_in (header_row line).word (decimal n) ≡ Some (header line n)
 unfolding header_row header_in header_line_in
 header_found Keep n small = rw (number_found most_number n (omega (arith, small)) small) refl
-header_found Tries n small = rw (number_found most_number n (omega (arith, small)) small) refl
-header_found Limit n small = rw (number_found most_number n (omega (arith, small)) small) refl
-header_found MaxPage n small = rw (number_found most_number n (omega (arith, small)) small) refl
-header_found Cut n small = rw (number_found most_number n (omega (arith, small)) small) refl
-header_found Rounds n small = rw (number_found most_number n (omega (arith, small)) small) refl
+header_found _ n small = rw (number_found most_number n (omega (arith, small)) small) refl
 
 -- ---- target lines
 
@@ -139,16 +131,12 @@ page_in at formats.OpenMetrics bytes = refl
 scrape_in : (at : ℕ) (ending : Ending) (bytes : List ℕ) → record_in (codes "scrape") at (ending_word ending) bytes ≡ Some (scrape at ending bytes)
 unfolding record_in ending_in
 scrape_in at ConnectFails bytes = refl
-scrape_in at WriteFails bytes = refl
-scrape_in at ReadFails bytes = refl
-scrape_in at PeerEnds bytes = refl
+scrape_in at _ bytes = refl
 
 post_in : (at : ℕ) (ending : Ending) (bytes : List ℕ) → record_in (codes "post") at (ending_word ending) bytes ≡ Some (post at ending bytes)
 unfolding record_in ending_in
 post_in at ConnectFails bytes = refl
-post_in at WriteFails bytes = refl
-post_in at ReadFails bytes = refl
-post_in at PeerEnds bytes = refl
+post_in at _ bytes = refl
 
 format_visible : (format : Format) → list_all is_visible (format_word format) ≡ true
 format_visible formats.Text = refl
@@ -156,9 +144,7 @@ format_visible formats.OpenMetrics = refl
 
 ending_visible : (ending : Ending) → list_all is_visible (ending_word ending) ≡ true
 ending_visible ConnectFails = refl
-ending_visible WriteFails = refl
-ending_visible ReadFails = refl
-ending_visible PeerEnds = refl
+ending_visible _ = refl
 
 -- ---- parts
 

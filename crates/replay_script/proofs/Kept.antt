@@ -73,27 +73,15 @@ opening_taken old new is place same_header same_target same_scrapes same_posts s
 
 below_seven : (line : HeaderLine) → nat_lt 7 (place_of line) ≡ false
 below_seven Keep = refl
-below_seven Tries = refl
-below_seven Limit = refl
-below_seven MaxPage = refl
-below_seven Cut = refl
-below_seven Rounds = refl
+below_seven _ = refl
 
 below_six : (line : HeaderLine) → nat_lt 6 (place_of line) ≡ false
 below_six Keep = refl
-below_six Tries = refl
-below_six Limit = refl
-below_six MaxPage = refl
-below_six Cut = refl
-below_six Rounds = refl
+below_six _ = refl
 
 above_none : (line : HeaderLine) → nat_lt 0 (place_of line) ≡ true
 above_none Keep = refl
-above_none Tries = refl
-above_none Limit = refl
-above_none MaxPage = refl
-above_none Cut = refl
-above_none Rounds = refl
+above_none _ = refl
 
 -- a line is next where its place is greater
 next_is : (line : HeaderLine) (earlier : List Part) → is_next_line line earlier ≡ nat_lt (place_behind earlier) (place_of line)
@@ -118,11 +106,7 @@ not_in_row line n old new fails = refused (header line n) old new (λ earlier o 
 header_more : (line : HeaderLine) (n : ℕ) (earlier : List Part) → with_header_number line n (header_of earlier) ≡ header_of (header line n ∷ earlier)
 unfolding header_of
 header_more Keep n earlier = refl
-header_more Tries n earlier = refl
-header_more Limit n earlier = refl
-header_more MaxPage n earlier = refl
-header_more Cut n earlier = refl
-header_more Rounds n earlier = refl
+header_more _ n earlier = refl
 
 pub header_taken : (line : HeaderLine) (n : ℕ) (old new : Progress) → old.place < place_of line → is_in_row (header_row line) n ≡ true → new.place ≡ place_of line → new.header ≡ with_header_number line n old.header
     → new.target ≡ old.target → new.scrapes.items ≡ old.scrapes.items → new.posts.items ≡ old.posts.items → new.finished.items ≡ old.finished.items → TakesPart (header line n) old new true

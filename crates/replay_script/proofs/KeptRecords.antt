@@ -75,19 +75,18 @@ the_target (Some t) e = (t, refl)
 
 -- ---- a reply more
 
--- what is kept with a scrape more
-scrape_known : (p : Part) (r : MemoryReply) (old new : Progress) (earlier : List Part) → Knows earlier old → is_some old.target ≡ true
-    → place_behind (p ∷ earlier) ≡ 6 → header_of (p ∷ earlier) ≡ header_of earlier → targets_of (p ∷ earlier) ≡ with_scrape r (targets_of earlier)
-    → new.place ≡ 6 → new.header ≡ old.header → new.target ≡ old.target → new.scrapes.items ≡ old.scrapes.items ++ r ∷ [] → new.posts.items ≡ old.posts.items
-    → new.finished.items ≡ old.finished.items → Knows (p ∷ earlier) new
-scrape_known p r old new earlier k some at_place its_header its_targets place same_header same_target more same_posts same_finished =
+-- what is kept with a reply more of the last target, whose replies are then these
+reply_known : (p : Part) (old new : Progress) (earlier : List Part) (scrapes posts : List MemoryReply) → Knows earlier old → is_some old.target ≡ true
+    → place_behind (p ∷ earlier) ≡ 6 → header_of (p ∷ earlier) ≡ header_of earlier
+    → ((last : Scraped) → targets_of earlier ≡ target_read (Some last) old.scrapes.items old.posts.items ++ reverse old.finished.items → targets_of (p ∷ earlier) ≡ target_read (Some last) scrapes posts ++ reverse old.finished.items)
+    → new.place ≡ 6 → new.header ≡ old.header → new.target ≡ old.target → new.scrapes.items ≡ scrapes → new.posts.items ≡ posts → new.finished.items ≡ old.finished.items → Knows (p ∷ earlier) new
+reply_known p old new earlier scrapes posts k some at_place its_header one_more place same_header same_target its_scrapes its_posts same_finished =
     let last = the_target old.target some in
     let TargetsWith : Option Scraped → List MemoryReply → List MemoryReply → List ScriptTarget → List ScriptTarget = λ u xs ys ts. target_read u xs ys ++ reverse ts in
-    let before : targets_of earlier ≡ TargetsWith (Some last.0) old.scrapes.items old.posts.items old.finished.items = k.targets ∙ ap (λ u. TargetsWith u old.scrapes.items old.posts.items old.finished.items) last.1 in
-    let kept : targets_of (p ∷ earlier) ≡ TargetsWith (Some last.0) (old.scrapes.items ++ r ∷ []) old.posts.items old.finished.items = its_targets ∙ ap (with_scrape r) before in
-    let read : targets_read new ≡ TargetsWith (Some last.0) (old.scrapes.items ++ r ∷ []) old.posts.items old.finished.items =
-    ap (λ u. TargetsWith u new.scrapes.items new.posts.items new.finished.items) (same_target ∙ last.1) ∙ ap (λ rs. TargetsWith (Some last.0) rs new.posts.items new.finished.items) more
-    ∙ ap (λ rs. TargetsWith (Some last.0) (old.scrapes.items ++ r ∷ []) rs new.finished.items) same_posts ∙ ap (TargetsWith (Some last.0) (old.scrapes.items ++ r ∷ []) old.posts.items) same_finished in
+    let kept : targets_of (p ∷ earlier) ≡ TargetsWith (Some last.0) scrapes posts old.finished.items = one_more last.0 (k.targets ∙ ap (λ u. TargetsWith u old.scrapes.items old.posts.items old.finished.items) last.1) in
+    let read : targets_read new ≡ TargetsWith (Some last.0) scrapes posts old.finished.items =
+    ap (λ u. TargetsWith u new.scrapes.items new.posts.items new.finished.items) (same_target ∙ last.1) ∙ ap (λ rs. TargetsWith (Some last.0) rs new.posts.items new.finished.items) its_scrapes
+    ∙ ap (λ rs. TargetsWith (Some last.0) scrapes rs new.finished.items) its_posts ∙ ap (TargetsWith (Some last.0) scrapes posts) same_finished in
     let is_there : new.target ≢ None = λ none. true≢false (sym some ∙ ap is_some (sym same_target ∙ none)) in
     record {
       place = place ∙ sym at_place;
@@ -96,26 +95,21 @@ scrape_known p r old new earlier k some at_place its_header its_targets place sa
       none_finished = λ none. absurd (is_there none);
     }
 
--- what is kept with a post more
+-- with a scrape more
+scrape_known : (p : Part) (r : MemoryReply) (old new : Progress) (earlier : List Part) → Knows earlier old → is_some old.target ≡ true
+    → place_behind (p ∷ earlier) ≡ 6 → header_of (p ∷ earlier) ≡ header_of earlier → targets_of (p ∷ earlier) ≡ with_scrape r (targets_of earlier)
+    → new.place ≡ 6 → new.header ≡ old.header → new.target ≡ old.target → new.scrapes.items ≡ old.scrapes.items ++ r ∷ [] → new.posts.items ≡ old.posts.items
+    → new.finished.items ≡ old.finished.items → Knows (p ∷ earlier) new
+scrape_known p r old new earlier k some at_place its_header its_targets =
+    reply_known p old new earlier (old.scrapes.items ++ r ∷ []) old.posts.items k some at_place its_header (λ last before. its_targets ∙ ap (with_scrape r) before)
+
+-- with a post more
 post_known : (p : Part) (r : MemoryReply) (old new : Progress) (earlier : List Part) → Knows earlier old → is_some old.target ≡ true
     → place_behind (p ∷ earlier) ≡ 6 → header_of (p ∷ earlier) ≡ header_of earlier → targets_of (p ∷ earlier) ≡ with_post r (targets_of earlier)
     → new.place ≡ 6 → new.header ≡ old.header → new.target ≡ old.target → new.scrapes.items ≡ old.scrapes.items → new.posts.items ≡ old.posts.items ++ r ∷ []
     → new.finished.items ≡ old.finished.items → Knows (p ∷ earlier) new
-post_known p r old new earlier k some at_place its_header its_targets place same_header same_target same_scrapes more same_finished =
-    let last = the_target old.target some in
-    let TargetsWith : Option Scraped → List MemoryReply → List MemoryReply → List ScriptTarget → List ScriptTarget = λ u xs ys ts. target_read u xs ys ++ reverse ts in
-    let before : targets_of earlier ≡ TargetsWith (Some last.0) old.scrapes.items old.posts.items old.finished.items = k.targets ∙ ap (λ u. TargetsWith u old.scrapes.items old.posts.items old.finished.items) last.1 in
-    let kept : targets_of (p ∷ earlier) ≡ TargetsWith (Some last.0) old.scrapes.items (old.posts.items ++ r ∷ []) old.finished.items = its_targets ∙ ap (with_post r) before in
-    let read : targets_read new ≡ TargetsWith (Some last.0) old.scrapes.items (old.posts.items ++ r ∷ []) old.finished.items =
-    ap (λ u. TargetsWith u new.scrapes.items new.posts.items new.finished.items) (same_target ∙ last.1) ∙ ap (λ rs. TargetsWith (Some last.0) rs new.posts.items new.finished.items) same_scrapes
-    ∙ ap (λ rs. TargetsWith (Some last.0) old.scrapes.items rs new.finished.items) more ∙ ap (TargetsWith (Some last.0) old.scrapes.items (old.posts.items ++ r ∷ [])) same_finished in
-    let is_there : new.target ≢ None = λ none. true≢false (sym some ∙ ap is_some (sym same_target ∙ none)) in
-    record {
-      place = place ∙ sym at_place;
-      header = same_header ∙ k.header ∙ sym its_header;
-      targets = kept ∙ sym read;
-      none_finished = λ none. absurd (is_there none);
-    }
+post_known p r old new earlier k some at_place its_header its_targets =
+    reply_known p old new earlier old.scrapes.items (old.posts.items ++ r ∷ []) k some at_place its_header (λ last before. its_targets ∙ ap (with_post r) before)
 
 -- ---- pages
 

@@ -8,10 +8,10 @@ use Rattle.std.proofs.lemmas.Option.{same_Some, none-some}
 use Rattle.std.proofs.lemmas.List.{length-reverse}
 use Rattle.std.proofs.lemmas.List.Sorted.{IsPermutation-reverse}
 use Rattle.std.proofs.lemmas.Map.Keys.{IsDistinct-IsPermutation}
-use Rattle.std.proofs.lemmas.Slice.Eq.{bytes_eq-Decides}
 use mathlib.Core.List.{reverse-cons}
 use Rattle.plain_words.proofs.Laws.{or_parts}
 use Rattle.label_sets.specs.Lists.{when_true}
+use Rattle.label_sets.proofs.Laws.{all-reverse, bytes_eq-swap}
 use Rattle.plain_words.specs.Places.{is_visible_word, is_port}
 use Rattle.replay_script.specs.declared.header.Header.{Header}
 use Rattle.replay_script.specs.declared.script.ScriptTarget.{ScriptTarget}
@@ -45,11 +45,7 @@ line_at (suc (suc (suc (suc (suc (suc n)))))) = Rounds
 at_place : (line : HeaderLine) → line_at (place_of line) ≡ line
 unfolding line_at
 at_place Keep = refl
-at_place Tries = refl
-at_place Limit = refl
-at_place MaxPage = refl
-at_place Cut = refl
-at_place Rounds = refl
+at_place _ = refl
 
 -- a place is that of one line
 one_place : (a b : HeaderLine) → place_of a ≡ place_of b → a ≡ b
@@ -200,9 +196,7 @@ page_over at format body e = absurd cc
 
 raw_over : (at : ℕ) (ending : Ending) (bytes : List ℕ) → IsOver (raw_reply at ending bytes)
 raw_over at ConnectFails bytes e = absurd cc
-raw_over at WriteFails bytes e = absurd cc
-raw_over at ReadFails bytes e = absurd cc
-raw_over at PeerEnds bytes e = absurd cc
+raw_over at _ bytes e = absurd cc
 
 -- a list of no bytes
 no_bytes : (bytes : List ℕ) → nat_eq (length bytes) 0 ≡ true → bytes ≡ []
@@ -326,31 +320,14 @@ right_targets h [] sound whole = tt
 right_targets h (t ∷ ts) sound whole =
     let s = sound.0 in (record { scraped = script_target (t.target) s.instance s.job s.host s.port; job = s.job; host = s.host; port = s.port; path = s.path; scrapes = whole.0; replies = s.replies; posts = s.posts; post_replies = s.post_replies }, right_targets h ts sound.1 whole.1)
 
--- what holds of all holds of them the other way round
-all_append : {A : Type 0} (P : A → Type 0) (xs ys : List A) → AllByRecursion P xs → AllByRecursion P ys → AllByRecursion P (xs ++ ys)
-all_append P [] ys a b = b
-all_append P (x ∷ xs) ys a b = (a.0, all_append P xs ys a.1 b)
-
-all_reverse : {A : Type 0} (P : A → Type 0) (xs : List A) → AllByRecursion P xs → AllByRecursion P (reverse xs)
-all_reverse P [] all = tt
-all_reverse P (x ∷ xs) all = subst (AllByRecursion P) (sym (reverse-cons x xs)) (all_append P (reverse xs) (x ∷ []) (all_reverse P xs all.1) (all.0, tt))
-
 -- ---- names
 
 -- the target of a script's target
 abbrev target_in : ScriptTarget → Scraped
 target_in t = t.target
 
-bytes_flip : (a b : List ℕ) → bytes_eq a b ≡ bytes_eq b a
-bytes_flip a b = go (bytes_eq a b) (bytes_eq b a) refl refl
-  where
-    go : (x y : Bool) → bytes_eq a b ≡ x → bytes_eq b a ≡ y → bytes_eq a b ≡ bytes_eq b a
-    go true y e f = e ∙ sym ((bytes_eq-Decides b a).1 (sym ((bytes_eq-Decides a b).0 e)))
-    go false true e f = (bytes_eq-Decides a b).1 (sym ((bytes_eq-Decides b a).0 f)) ∙ sym f
-    go false false e f = e ∙ sym f
-
 names_flip : (a b : Scraped) → same_names a b ≡ same_names b a
-names_flip a b = ap (λ x. x && bytes_eq a.instance b.instance) (bytes_flip a.job b.job) ∙ ap (λ x. bytes_eq b.job a.job && x) (bytes_flip a.instance b.instance)
+names_flip a b = ap (λ x. x && bytes_eq a.instance b.instance) (bytes_eq-swap a.job b.job) ∙ ap (λ x. bytes_eq b.job a.job && x) (bytes_eq-swap a.instance b.instance)
 
 -- none of the targets has the new one's names
 none_named : (new : Scraped) (ts : List ScriptTarget) → list_any (λ (other : ScriptTarget). same_names new other.target) ts ≡ false → AllByRecursion (λ y. same_names new y ≡ false) (map target_in ts)
@@ -402,7 +379,7 @@ right_of_parts parts o ends =
       header = header_right parts o ends;
       some_target = omega (arith, some_length (targets_of parts) both.0, length-reverse (targets_of parts));
       few_targets = omega (arith, few_targets parts o, length-reverse (targets_of parts));
-      targets = all_reverse (IsRightTarget (header_of parts)) (targets_of parts) (right_targets (header_of parts) (targets_of parts) (sound_targets parts o) whole);
+      targets = all-reverse (IsRightTarget (header_of parts)) (targets_of parts) (right_targets (header_of parts) (targets_of parts) (sound_targets parts o) whole);
       names = subst (IsDistinct same_names) (sym (map_reverse (targets_of parts))) names;
     }
 

@@ -44,11 +44,7 @@ put_behind old new x fresh is = is ∙ ap (λ b. cond b old (old ++ x ∷ [])) f
 pub first_fits : (p : Part) → breaks_order empty_group p ≡ false
 unfolding group_from
 first_fits (parts.Bucket b) = refl
-first_fits (parts.Quantile q) = refl
-first_fits (parts.Sum n) = refl
-first_fits (parts.Count n) = refl
-first_fits (parts.Total n) = refl
-first_fits (parts.Created n) = refl
+first_fits _ = refl
 
 -- labels of no group are none of those of the groups
 pub unknown_labels : (ss : List LabelSet) (gs : List Gathered) (labels : LabelSet) → length ss ≡ length gs → known_group (zip ss gs) labels ≡ None → list_any (label_sets_eq labels) ss ≡ false

@@ -8,6 +8,7 @@ use Rattle.label_sets.specs.declared.kind.Kind.TheVariants.{Counter, Histogram, 
 use Rattle.label_sets.specs.declared.label_set.LabelSet.{LabelSet}
 use Rattle.label_sets.specs.Labels.{label_sets_eq}
 use Rattle.label_sets.specs.Lists.{first_of_each, first_some}
+use Rattle.label_sets.proofs.Laws.{any-map}
 use Rattle.exact_decimal.specs.declared.number.Number.{Number}
 use Rattle.exact_decimal.specs.Order.{whole}
 use Rattle.page_model.specs.declared.format.Format.{Format}
@@ -113,10 +114,6 @@ measured_group : (ps : List Part) → is_measured_group (group_from ps) ≡ list
 unfolding group_from
 measured_group ps = (λ i. some_in quantile_in ps i || first_in count_in ps i || first_in sum_in ps i) ∙ any_of (λ p. is_some (quantile_in p)) (λ p. is_some (count_in p)) (λ p. is_some (sum_in p)) ps
 
-list_any-map : (t : Part → Bool) (f : Sample → Part) (xs : List Sample) → list_any t (map f xs) ≡ list_any (λ s. t (f s)) xs
-list_any-map t f [] = refl
-list_any-map t f (x ∷ xs) = ap (λ b. t (f x) || b) (list_any-map t f xs)
-
 -- ---- the reading of one group
 
 -- a grouped counter's own sample has this suffix
@@ -176,7 +173,7 @@ module _ (st : Setting) (family : List ℕ) (samples : List Sample) (labels : La
         (λ s m e. whole_in_summary st family s (own_fair Summary fair s m) (summary_count st family s (own_fair Summary fair s m) ∙ e)) ∙ in_kept Summary (first_some count_in) in
         let sum = own_sum family (own Summary) (λ s m. summary_sum st family s (own_fair Summary fair s m)) (λ s m. summary_gsum st family s (own_fair Summary fair s m)) ∙ in_kept Summary (first_some sum_in) in
         let measured : list_any (is_measured family) (own Summary) ≡ is_measured_group (kept Summary) =
-        sym (measured_group parts_of ∙ sym (in_kept Summary (list_any is_measured_part)) ∙ list_any-map is_measured_part (part_of family) (own Summary)
+        sym (measured_group parts_of ∙ sym (in_kept Summary (list_any is_measured_part)) ∙ any-map is_measured_part (part_of family) (own Summary)
         ∙ list_any-agree (λ s. is_measured_part (part_of family s)) (is_measured family) (own Summary) (λ s m. summary_measured st family s (own_fair Summary fair s m))) in
         rw (quantiles, count, sum, measured, own_created Summary fair refl) refl
 

@@ -3,7 +3,7 @@ use Rattle.std.proofs.Common.{◌≡◌, Bool, true, false, cond, not, ◌&&◌,
 use Rattle.std.specs.Prelude.{⊤}
 use Rattle.std.proofs.lemmas.List.{append-nil, reverse-append}
 use Rattle.std.proofs.lemmas.List.Elements.{filter-append, filter_map-append}
-use Rattle.std.proofs.lemmas.List.Folds.{list_all-append, list_any-append}
+use Rattle.std.proofs.lemmas.List.Folds.{list_all-append}
 use Rattle.std.specs.List.{list_any, list_all, last_or, cons_option}
 use Rattle.std.specs.Option.{option_or}
 use Rattle.std.specs.Map.{lookup}
@@ -23,16 +23,6 @@ and_swap true false = refl
 and_swap false true = refl
 and_swap false false = refl
 
-or_false : (a : Bool) → (a || false) ≡ a
-or_false true = refl
-or_false false = refl
-
-or_swap : (a b : Bool) → (a || b) ≡ (b || a)
-or_swap true true = refl
-or_swap true false = refl
-or_swap false true = refl
-or_swap false false = refl
-
 -- ---- a list turned round
 
 pub reverse-cons : {A : Type 0} (x : A) (xs : List A) → reverse (x ∷ xs) ≡ reverse xs ++ x ∷ []
@@ -42,11 +32,6 @@ pub list_all-reverse : {A : Type 0} (p : A → Bool) (xs : List A) → list_all 
 list_all-reverse p [] = refl
 list_all-reverse p (x ∷ xs) = ap (list_all p) (reverse-cons x xs) ∙ list_all-append p (reverse xs) (x ∷ [])
     ∙ ap (λ b. list_all p (reverse xs) && b) (and_true (p x)) ∙ and_swap (list_all p (reverse xs)) (p x) ∙ ap (λ b. p x && b) (list_all-reverse p xs)
-
-pub list_any-reverse : {A : Type 0} (p : A → Bool) (xs : List A) → list_any p (reverse xs) ≡ list_any p xs
-list_any-reverse p [] = refl
-list_any-reverse p (x ∷ xs) = ap (list_any p) (reverse-cons x xs) ∙ list_any-append p (reverse xs) (x ∷ [])
-    ∙ ap (λ b. list_any p (reverse xs) || b) (or_false (p x)) ∙ or_swap (list_any p (reverse xs)) (p x) ∙ ap (λ b. p x || b) (list_any-reverse p xs)
 
 pub last_or-snoc : {A : Type 0} (o : Option A) (xs : List A) (x : A) → last_or o (xs ++ x ∷ []) ≡ Some x
 last_or-snoc o [] x = refl

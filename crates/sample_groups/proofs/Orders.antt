@@ -7,6 +7,7 @@ use Rattle.label_sets.specs.declared.kind.Kind.{Kind}
 use Rattle.label_sets.specs.declared.kind.Kind.TheVariants.{Counter, Histogram, GaugeHistogram, Summary}
 use Rattle.label_sets.specs.declared.label_set.LabelSet.{LabelSet}
 use Rattle.label_sets.specs.Lists.{some_passes}
+use Rattle.label_sets.proofs.Laws.{any-reverse}
 use Rattle.exact_decimal.specs.Decimals.{DecimalValue}
 use Rattle.exact_decimal.specs.declared.number.Number.TheVariants.{Finite}
 use Rattle.exact_decimal.specs.Order.{less, same}
@@ -23,7 +24,7 @@ use Rattle.sample_groups.specs.Parts.{is_grouped, quantile_part, part_of, entry_
 use Rattle.sample_groups.specs.Groups.{Gathered, bucket_in, quantile_in, group_from, parts_in, groups_from, known_group, or_empty, breaks_last, breaks_order}
 use Rattle.sample_groups.specs.Sound.{AreSound}
 use Rattle.sample_groups.proofs.KindCases.{of_histograms, of_grouped}
-use Rattle.sample_groups.proofs.Members.{when, find-member, first_some-when, last_or-reverse, list_any-reverse, list_any-agree, list_any-filter_map}
+use Rattle.sample_groups.proofs.Members.{when, find-member, first_some-when, last_or-reverse, list_any-agree, list_any-filter_map}
 use Rattle.sample_groups.proofs.Steps.{group_at, group_is_kept}
 use Rattle.sample_groups.proofs.Samples.{IsFair, fair_at, count_of, bucket_part, own_part, quantile_part_is, whole_in_histogram, place_of, histogram_own, gauge_own, summary_bucket, counter_by, is_in_group, entries, values_in-entries}
 
@@ -121,7 +122,7 @@ module _ (st : Setting) (family : List ℕ) (above : List Sample) (s : Sample) (
   kept_places labels d = list_any-agree (stands_at labels d) (λ t. some_passes (λ (p : Quantile). same (Finite p.at) (Finite d)) (when (is_in_group st Summary family labels t) (quantile_in (part_of family t)))) above
       (λ t m. placed_same d t m (has_suffix family [] t) (is_in_group st Summary family labels t) refl
       ∙ ap (λ o. some_passes (λ (p : Quantile). same (Finite p.at) (Finite d)) (when (is_in_group st Summary family labels t) o)) (sym (quantile_part_is family t)))
-      ∙ sym (list_any-reverse (λ t. some_passes (λ (p : Quantile). same (Finite p.at) (Finite d)) (when (is_in_group st Summary family labels t) (quantile_in (part_of family t)))) above)
+      ∙ sym (any-reverse (λ t. some_passes (λ (p : Quantile). same (Finite p.at) (Finite d)) (when (is_in_group st Summary family labels t) (quantile_in (part_of family t)))) above)
       ∙ sym (list_any-filter_map (λ (p : Quantile). same (Finite p.at) (Finite d)) (λ t. when (is_in_group st Summary family labels t) (quantile_in (part_of family t))) (reverse above))
       ∙ ap (list_any (λ (p : Quantile). same (Finite p.at) (Finite d))) (sym (values_in-entries st Summary family quantile_in labels (reverse above)))
 

@@ -12,7 +12,7 @@ use Rattle.label_sets.specs.declared.label_set.LabelSet.{LabelSet}
 use Rattle.label_sets.specs.Labels.{label_sets_eq}
 use Rattle.exact_decimal.specs.Decimals.{DecimalValue}
 use Rattle.exact_decimal.specs.declared.number.Number.{Number}
-use Rattle.exact_decimal.specs.declared.number.Number.TheVariants.{Finite, Up, Down, NotANumber}
+use Rattle.exact_decimal.specs.declared.number.Number.TheVariants.{Finite}
 use Rattle.exact_decimal.specs.Order.{whole, is_finite}
 use Rattle.page_model.specs.declared.format.Format.{Format}
 use Rattle.page_model.specs.declared.format.Format.TheVariants.{Text, OpenMetrics}
@@ -235,9 +235,7 @@ whole_in_summary st family s fair e = has_whole s.value (forbids_none (is_count 
 
 finite_number : (v : Number) → not (is_finite v) ≡ false → (d : DecimalValue) × (v ≡ Finite d)
 finite_number (Finite d) h = (d, refl)
-finite_number Up h = absurd cc
-finite_number Down h = absurd cc
-finite_number NotANumber h = absurd cc
+finite_number _ h = absurd cc
 
 -- a sample with the family's own name has a place
 pub place_of : (st : Setting) (family : List ℕ) (s : Sample) → IsFair st Summary family s → has_suffix family [] s ≡ true → (d : DecimalValue) × (quantile_at s ≡ Finite d)

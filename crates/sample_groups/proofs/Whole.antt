@@ -10,7 +10,7 @@ use Rattle.label_sets.specs.declared.label_set.LabelSet.{LabelSet}
 use Rattle.label_sets.specs.Labels.{label_sets_eq}
 use Rattle.label_sets.specs.Lists.{first_of_each, some_passes}
 use Rattle.exact_decimal.specs.declared.number.Number.{Number}
-use Rattle.exact_decimal.specs.declared.number.Number.TheVariants.{Finite, Up, Down, NotANumber}
+use Rattle.exact_decimal.specs.declared.number.Number.TheVariants.{Up}
 use Rattle.exact_decimal.specs.Order.{less, same}
 use Rattle.exact_decimal.proofs.Laws.{whole_same}
 use Rattle.page_model.specs.declared.item.Sample.{Sample}
@@ -62,10 +62,8 @@ marked_first t marked (x ∷ xs) m = by (t x) refl (marked_first t marked xs m.1
 -- what is below a number is not plus infinity
 less_not_up : (a b : Number) → less a b ≡ true → is_up a ≡ false
 unfolding less
-less_not_up (Finite a) b e = refl
-less_not_up Down b e = refl
-less_not_up NotANumber b e = refl
 less_not_up Up b e = absurd cc
+less_not_up _ b e = refl
 
 -- ---- counts
 

@@ -90,13 +90,7 @@ whole_is_decided (goes_on format body) e = absurd (cc e)
 -- no fault of a reply is one of the wire
 pub peer_fault : (fault : ReplyFault) → BlamesWire (Err (without_body (cause_of fault))) → ⊥
 peer_fault faults.Head x = x
-peer_fault (faults.Status status) x = x
-peer_fault faults.Encoding x = x
-peer_fault faults.MediaType x = x
-peer_fault faults.TooLong x = x
-peer_fault faults.Chunk x = x
-peer_fault faults.Truncated x = x
-peer_fault faults.Memory x = x
+peer_fault _ x = x
 
 refused_by : (most : ℕ) (got : List ℕ) (cause : Cause) → HasVerdict most got (refused cause) → IsSaidOf most got ends.Left (Err (stops.Failed cause))
 refused_by most got cause x = record {
@@ -111,12 +105,7 @@ pub refused_said : (most : ℕ) (got : List ℕ) (fault : ReplyFault) → IsRefu
     → IsSaidOf most got ends.Left (Err (without_body (cause_of fault)))
 refused_said most got faults.Memory r some = absurd (some tt)
 refused_said most got faults.Truncated r some = absurd r
-refused_said most got faults.Head r some = subst (λ (o : Option Cause). IsSaidOf most got ends.Left (Err (without_body o))) (sym r.1) (refused_by most got r.0 r.2)
-refused_said most got (faults.Status status) r some = subst (λ (o : Option Cause). IsSaidOf most got ends.Left (Err (without_body o))) (sym r.1) (refused_by most got r.0 r.2)
-refused_said most got faults.Encoding r some = subst (λ (o : Option Cause). IsSaidOf most got ends.Left (Err (without_body o))) (sym r.1) (refused_by most got r.0 r.2)
-refused_said most got faults.MediaType r some = subst (λ (o : Option Cause). IsSaidOf most got ends.Left (Err (without_body o))) (sym r.1) (refused_by most got r.0 r.2)
-refused_said most got faults.TooLong r some = subst (λ (o : Option Cause). IsSaidOf most got ends.Left (Err (without_body o))) (sym r.1) (refused_by most got r.0 r.2)
-refused_said most got faults.Chunk r some = subst (λ (o : Option Cause). IsSaidOf most got ends.Left (Err (without_body o))) (sym r.1) (refused_by most got r.0 r.2)
+refused_said most got _ r some = subst (λ (o : Option Cause). IsSaidOf most got ends.Left (Err (without_body o))) (sym r.1) (refused_by most got r.0 r.2)
 
 -- ---- the end of a reply
 
@@ -368,16 +357,12 @@ no_write most at text sent rest w new parts is later rose = record {
 sent_all : (end : End) (text : List ℕ) → (end ≢ ends.ConnectFailed) × (end ≢ ends.WriteFailed) → IsSent end text text
 sent_all ends.ConnectFailed text x = absurd (x.0 refl)
 sent_all ends.WriteFailed text x = absurd (x.1 refl)
-sent_all ends.ReadFailed text x = refl
-sent_all ends.Ended text x = refl
-sent_all ends.Left text x = refl
+sent_all _ text x = refl
 
 got_some : (end : End) (got : List ℕ) → (end ≢ ends.ConnectFailed) × (end ≢ ends.WriteFailed) → IsGot end got
 got_some ends.ConnectFailed got x = absurd (x.0 refl)
 got_some ends.WriteFailed got x = absurd (x.1 refl)
-got_some ends.ReadFailed got x = tt
-got_some ends.Ended got x = tt
-got_some ends.Left got x = tt
+got_some _ got x = tt
 
 -- the reply was read behind all of the text
 pub reply_read : (most at : ℕ) (text : List ℕ) (w mid new : WireState) (said : Result Body NoBody) → mid ≡ sent_on text (connected_at at (length text) w)

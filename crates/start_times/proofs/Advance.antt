@@ -21,7 +21,7 @@ use Rattle.start_times.specs.Starts.{Tracking, has_start, reading_start}
 use Rattle.start_times.specs.Rows.{Tracked, Tracks, row_of, kept_row, older_row}
 use Rattle.start_times.specs.Sightings.{Saw, Sees, start_in, row_beside, sighted_entry, is_cumulative_reading, is_read, missed_entry}
 use Rattle.start_times.specs.Advancing.{HasDistinctKeys, scrape_of}
-use Rattle.start_times.proofs.RowLaws.{reading_is_of, row_is_enough, row_of_sight, row_of_miss}
+use Rattle.start_times.proofs.RowLaws.{reading_is_of, row_is_enough, row_of_sight, row_of_miss, none_is, some_is}
 use Rattle.start_times.proofs.Zips.{zip_length}
 use Rattle.start_times.proofs.Sights.{saw_nothing}
 use Rattle.start_times.proofs.Found.{key_equal, key_itself}
@@ -202,14 +202,6 @@ rows_once k page moment once distinct =
     let parts : IsDistinct key_eq (map (λ (r : Reading). r.key) rs ++ keys_of others)
     = apart (map (λ (r : Reading). r.key) rs) (keys_of others) (kept_once (all_readings page) distinct) (missed_once k.keep (is_read rs) k.rows once) (all_of (map (λ (r : Reading). r.key) rs) (λ x. list_any (key_eq x) (keys_of others) ≡ false) gone) in
     subst (IsDistinct key_eq) (sym (map-append (λ (e : SeriesKey × Row). e.0) fresh others ∙ ap (λ (ks : List SeriesKey). ks ++ keys_of others) keys)) parts
-
-none_is : {A : Type 0} (o : Option A) → is_some o ≡ false → o ≡ None
-none_is None e = refl
-none_is (Some x) e = absurd cc
-
-some_is : {A : Type 0} (o : Option A) → is_some o ≡ true → (x : A) × (o ≡ Some x)
-some_is None e = absurd cc
-some_is (Some x) e = (x, refl)
 
 nothing_kept : (t : Tracking) (key : SeriesKey) (past : List Scrape) → has_start key.kind ≡ false → kept_row t key past ≡ None
 unfolding kept_row

@@ -6,24 +6,19 @@ use Rattle.std.proofs.lemmas.List.{length-map, length-take}
 use Rattle.start_times.proofs.RowLaws.{too_old}
 use Rattle.std.proofs.lemmas.List.Folds.{list_any-append}
 use Rattle.std.proofs.lemmas.Map.Made.{is_some-lookup}
+use Rattle.std.proofs.lemmas.Bool.{or_left, or_right}
 use Rattle.label_sets.specs.declared.series_key.SeriesKey.{SeriesKey}
 use Rattle.label_sets.specs.Keys.{key_eq}
-use Rattle.label_sets.proofs.Laws.{key_decides}
 use Rattle.page_model.specs.declared.page.Reading.{Reading}
 use Rattle.page_model.specs.Presence as presence
-use Rattle.page_model.specs.Presence.{all_readings, reading_at, is_present}
+use Rattle.page_model.specs.Presence.{all_readings, is_present}
 use Rattle.start_times.specs.Scrapes.{Scrape}
 use Rattle.start_times.specs.Starts.{Tracking, has_start}
 use Rattle.start_times.specs.Rows.{row_behind, kept_row, reading_count, most_readings}
 use Rattle.start_times.specs.Laws.{RowsAreFew}
+use Rattle.start_times.proofs.Found.{key_equal, key_itself}
 
 -- ---- distinct keys that all stand in a list are no more than the list
-
-equal_keys : (a b : SeriesKey) → key_eq a b ≡ true → a ≡ b
-equal_keys a b e = (key_decides a b).0 e
-
-same_key : (a : SeriesKey) → key_eq a a ≡ true
-same_key a = (key_decides a a).1 refl
 
 others : SeriesKey → List SeriesKey → List SeriesKey
 others x ys = filter (λ y. not (key_eq x y)) ys
@@ -52,7 +47,7 @@ still_there x k [] apart h = absurd cc
 still_there x k (y ∷ ys) apart h = go (key_eq x y) refl (key_eq k y) refl (still_there x k ys apart)
   where
     go : (b : Bool) → key_eq x y ≡ b → (c : Bool) → key_eq k y ≡ c → (list_any (key_eq k) ys ≡ true → list_any (key_eq k) (others x ys) ≡ true) → list_any (key_eq k) (others x (y ∷ ys)) ≡ true
-    go true p true q later = absurd (let e : x ≡ k = equal_keys x y p ∙ sym (equal_keys k y q) in let f : key_eq x x ≡ false = subst (λ z. key_eq x z ≡ false) (sym e) apart in let g : true ≡ false = sym (same_key x) ∙ f in cc)
+    go true p true q later = absurd (let e : x ≡ k = key_equal x y p ∙ sym (key_equal k y q) in let f : key_eq x x ≡ false = subst (λ z. key_eq x z ≡ false) (sym e) apart in let g : true ≡ false = sym (key_itself x) ∙ f in cc)
     go true p false q later = rw p (later (rw q at h))
     go false p true q later = rw (p, q) refl
     go false p false q later = rw (p, q) (later (rw q at h))
@@ -62,7 +57,7 @@ apart_from x k [] all h = absurd cc
 apart_from x k (y ∷ ys) all h = go (key_eq k y) refl (apart_from x k ys all.1)
   where
     go : (b : Bool) → key_eq k y ≡ b → (list_any (key_eq k) ys ≡ true → key_eq x k ≡ false) → key_eq x k ≡ false
-    go true p later = subst (λ z. key_eq x z ≡ false) (sym (equal_keys k y p)) all.0
+    go true p later = subst (λ z. key_eq x z ≡ false) (sym (key_equal k y p)) all.0
     go false p later = later (rw p at h)
 
 in_rest : (x k : SeriesKey) (xs : List SeriesKey) → list_any (key_eq k) xs ≡ true → list_any (key_eq k) (x ∷ xs) ≡ true
@@ -76,7 +71,7 @@ pub no_more_than : (xs ys : List SeriesKey) → IsDistinct key_eq xs → ((k : S
 unfolding IsDistinct
 no_more_than [] ys once there = omega arith
 no_more_than (x ∷ xs) ys once there =
-    let first : list_any (key_eq x) ys ≡ true = there x (rw (same_key x) refl) in
+    let first : list_any (key_eq x) ys ≡ true = there x (rw (key_itself x) refl) in
     let few = fewer x ys first in
     let rest = no_more_than xs (others x ys) once.1 (λ k h. still_there x k ys (apart_from x k xs once.0 h) (there k (in_rest x k xs h))) in
     omega arith
@@ -111,14 +106,6 @@ present_there key (r ∷ rs) h = go (key_eq key r.key) refl (present_there key r
     go true p later = rw p refl
     go false p later = rw p (later (rw p at h))
 
-either : (a b : Bool) → b ≡ true → (a || b) ≡ true
-either true b h = refl
-either false b h = h
-
-first_of : (a b : Bool) → a ≡ true → (a || b) ≡ true
-first_of true b h = refl
-first_of false b h = absurd cc
-
 row_seen : (t : Tracking) (key : SeriesKey) (past : List Scrape) (age n : ℕ) → age + n ≡ t.keep + 1 → is_some (row_behind t key age past) ≡ true → list_any (key_eq key) (seen_keys (take n past)) ≡ true
 unfolding seen_keys
 row_seen t key [] age n e h = absurd cc
@@ -126,8 +113,8 @@ row_seen t key (s ∷ past) age zero e h = absurd (let none : row_behind t key a
 row_seen t key (s ∷ past) age (suc n) e h = go (is_present key s.page) refl (row_seen t key past (age + 1) n (omega arith))
   where
     go : (b : Bool) → is_present key s.page ≡ b → (is_some (row_behind t key (age + 1) past) ≡ true → list_any (key_eq key) (seen_keys (take n past)) ≡ true) → list_any (key_eq key) (presence.keys_of s.page ++ seen_keys (take n past)) ≡ true
-    go true p later = rw (list_any-append (key_eq key) (presence.keys_of s.page) (seen_keys (take n past))) (first_of (list_any (key_eq key) (presence.keys_of s.page)) (list_any (key_eq key) (seen_keys (take n past))) (present_there key (all_readings s.page) p))
-    go false p later = rw (list_any-append (key_eq key) (presence.keys_of s.page) (seen_keys (take n past))) (either (list_any (key_eq key) (presence.keys_of s.page)) (list_any (key_eq key) (seen_keys (take n past))) (later (rw p at h)))
+    go true p later = rw (list_any-append (key_eq key) (presence.keys_of s.page) (seen_keys (take n past))) (or_left (list_any (key_eq key) (presence.keys_of s.page)) (list_any (key_eq key) (seen_keys (take n past))) (present_there key (all_readings s.page) p))
+    go false p later = rw (list_any-append (key_eq key) (presence.keys_of s.page) (seen_keys (take n past))) (or_right (list_any (key_eq key) (presence.keys_of s.page)) (list_any (key_eq key) (seen_keys (take n past))) (later (rw p at h)))
 
 -- a row that is kept is one of a series that one of the scrapes that count has
 kept_seen : (t : Tracking) (key : SeriesKey) (past : List Scrape) → is_some (kept_row t key past) ≡ true → list_any (key_eq key) (seen_keys (take (t.keep + 1) past)) ≡ true

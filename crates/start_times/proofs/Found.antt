@@ -8,6 +8,7 @@ use Rattle.std.proofs.lemmas.List.Folds.{list_any-append}
 use Rattle.std.proofs.lemmas.Option.{same_Some}
 use Rattle.std.proofs.lemmas.Map.Entries.{lookup_from_place}
 use Rattle.std.proofs.lemmas.Map.Made.{keys_of-zip, is_some-lookup}
+use Rattle.std.proofs.lemmas.Bool.{or_parts}
 use Rattle.label_sets.specs.declared.series_key.SeriesKey.{SeriesKey}
 use Rattle.label_sets.specs.Keys.{key_eq}
 use Rattle.label_sets.proofs.Laws.{key_decides, same_tests}
@@ -29,10 +30,6 @@ pub key_laws : IsEquivalence key_eq
 key_laws = record { refl = key_itself; symm = key_turned; congr = λ x y z e. ap (λ (k : SeriesKey). key_eq k z) (key_equal x y e) }
 
 -- ---- tests
-
-or_false : (a b : Bool) → (a || b) ≡ false → (a ≡ false) × (b ≡ false)
-or_false true b e = absurd cc
-or_false false b e = (refl, e)
 
 or_nothing : (a b : Bool) → b ≡ false → (a || (b || false)) ≡ a
 or_nothing true b e = refl
@@ -75,7 +72,7 @@ not_more fresh key k apart = sym (list_any-append (key_eq k) fresh (key ∷ []) 
 none_more : (ks fresh : List SeriesKey) (key : SeriesKey) → list_any (key_eq key) ks ≡ false → map (is_among fresh) ks ≡ map (is_among (fresh ++ key ∷ [])) ks
 none_more [] fresh key absent = refl
 none_more (k ∷ ks) fresh key absent =
-    let parts = or_false (key_eq key k) (list_any (key_eq key) ks) absent in
+    let parts = or_parts (key_eq key k) (list_any (key_eq key) ks) absent in
     rw (not_more fresh key k parts.0, none_more ks fresh key parts.1) refl
 
 all_apart : (k : SeriesKey) (ks : List SeriesKey) → AllByRecursion (λ y. key_eq k y ≡ false) ks → list_any (key_eq k) ks ≡ false

@@ -1,9 +1,9 @@
 -- A row is all that a start needs of a past.
-use Rattle.std.proofs.Common.{◌≡◌, ℕ, zero, suc, ◌+◌, ◌≤◌, ◌<◌, Bool, true, false, cond, not, ◌||◌, List, [], ◌∷◌, take, find, unwrap_or, Option, Some, None, is_some, option_and_then, refl, sym, ap, subst, ◌∙◌, arith}
+use Rattle.std.proofs.Common.{◌≡◌, ℕ, zero, suc, ◌+◌, ◌≤◌, ◌<◌, Bool, true, false, cond, not, List, [], ◌∷◌, take, find, unwrap_or, Option, Some, None, is_some, option_and_then, refl, sym, ap, subst, ◌∙◌, arith}
 use Rattle.std.specs.Prelude.{nat_le, nat_eq}
 use Rattle.std.specs.Option.{option_eq}
 use Rattle.std.proofs.lemmas.Option.{none-some, same_Some}
-use Rattle.std.proofs.lemmas.Bool.{le-leb, leb-true, leb-false, lt-leb}
+use Rattle.std.proofs.lemmas.Bool.{le-leb, leb-true, leb-false, lt-leb, or_parts, not-false}
 use Rattle.std.proofs.Math.Seq.{take-nil}
 use Rattle.label_sets.specs.declared.series_key.SeriesKey.{SeriesKey}
 use Rattle.label_sets.specs.Keys.{key_eq}
@@ -17,19 +17,11 @@ use Rattle.start_times.specs.Laws.{RowIsEnough, RowOfSight, RowOfMiss, StartWith
 
 -- ---- tests
 
-pub or_false : (a b : Bool) → (a || b) ≡ false → (a ≡ false) × (b ≡ false)
-or_false true b e = absurd cc
-or_false false b e = (refl, e)
-
-pub not_false : (b : Bool) → not b ≡ false → b ≡ true
-not_false true e = refl
-not_false false e = absurd cc
-
 none_equal : (o : Option ℕ) → option_eq nat_eq o None ≡ true → o ≡ None
 none_equal None e = refl
 none_equal (Some n) e = absurd (let h : false ≡ true = e in cc)
 
-some_is : {A : Type 0} (o : Option A) → is_some o ≡ true → (x : A) × (o ≡ Some x)
+pub some_is : {A : Type 0} (o : Option A) → is_some o ≡ true → (x : A) × (o ≡ Some x)
 some_is None e = absurd cc
 some_is (Some x) e = (x, refl)
 
@@ -103,8 +95,8 @@ beside t past moment r (Some s) h =
     let same : old.key ≡ r.key = reading_is_of r.key s old h.3 in
     let d : Bool = differs s.moment old moment r in
     rw (h.4, h.3) (picked (created_at moment r) d moment (last_reset t r.key past) (start_time t s.moment old rest) (λ none even.
-    let parts = or_false (falls r.key.kind (last_of old.value) (last_of r.value)) (not (option_eq nat_eq (created_at s.moment old) (created_at moment r))) even in
-    let equal : option_eq nat_eq (created_at s.moment old) None ≡ true = subst (λ o. option_eq nat_eq (created_at s.moment old) o ≡ true) none (not_false (option_eq nat_eq (created_at s.moment old) (created_at moment r)) parts.1) in
+    let parts = or_parts (falls r.key.kind (last_of old.value) (last_of r.value)) (not (option_eq nat_eq (created_at s.moment old) (created_at moment r))) even in
+    let equal : option_eq nat_eq (created_at s.moment old) None ≡ true = subst (λ o. option_eq nat_eq (created_at s.moment old) o ≡ true) none (not-false (option_eq nat_eq (created_at s.moment old) (created_at moment r)) parts.1) in
     let absent : created_at s.moment old ≡ None = none_equal (created_at s.moment old) equal in
     let there : last_reset t r.key (s ∷ rest) ≡ cond (is_reset t s.moment old rest) s.moment (last_reset t r.key rest) = rw h.3 refl in
     let row : start_time t s.moment old rest ≡ cond (is_reset t s.moment old rest) s.moment (last_reset t r.key rest) =

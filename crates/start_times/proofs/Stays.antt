@@ -4,14 +4,14 @@ use Rattle.std.specs.Prelude.{nat_le, nat_eq}
 use Rattle.std.specs.List.{AllByRecursion}
 use Rattle.std.specs.Option.{option_map_or, option_eq}
 use Rattle.std.proofs.lemmas.Option.{same_Some, none-some}
-use Rattle.std.proofs.lemmas.Bool.{leb-true}
+use Rattle.std.proofs.lemmas.Bool.{leb-true, or_parts, not-false}
 use Rattle.label_sets.specs.declared.series_key.SeriesKey.{SeriesKey}
 use Rattle.exact_decimal.specs.Order.{nanos}
 use Rattle.page_model.specs.Presence.{reading_at, is_present}
 use Rattle.start_times.specs.Scrapes.{Scrape}
 use Rattle.start_times.specs.Starts.{Tracking, created_at, up_to, last_of, falls, last_seen, differs, is_reset, last_reset, start_time}
 use Rattle.start_times.specs.Laws.{IsNotLater, StartIsNotLater, StartStays}
-use Rattle.start_times.proofs.RowLaws.{reading_is_of, or_false, not_false, none_is}
+use Rattle.start_times.proofs.RowLaws.{reading_is_of, none_is}
 use Rattle.std.proofs.lemmas.Bool.Decides.{nat_tests}
 
 -- ---- never later
@@ -66,8 +66,8 @@ unfolding start_time differs
 start_stays t moment r old misses before earlier missed few there same =
     let key = r.key in
     let past = misses ++ before ∷ earlier in
-    let parts = or_false (falls r.key.kind (last_of old.value) (last_of r.value)) (not (option_eq nat_eq (created_at before.moment old) (created_at moment r))) same in
-    let created : created_at before.moment old ≡ created_at moment r = same_option (created_at before.moment old) (created_at moment r) (not_false (option_eq nat_eq (created_at before.moment old) (created_at moment r)) parts.1) in
+    let parts = or_parts (falls r.key.kind (last_of old.value) (last_of r.value)) (not (option_eq nat_eq (created_at before.moment old) (created_at moment r))) same in
+    let created : created_at before.moment old ≡ created_at moment r = same_option (created_at before.moment old) (created_at moment r) (not-false (option_eq nat_eq (created_at before.moment old) (created_at moment r)) parts.1) in
     let present : is_present key before.page ≡ true = ap is_some there in
     let seen : last_seen t key past ≡ Some before = ap (λ (n : ℕ). find (λ (s : Scrape). is_present key s.page) (take n past)) (add-one t.keep) ∙ seen_behind key misses before earlier t.keep missed few present in
     let even : is_reset t moment r past ≡ false = rw (seen, there) same in

@@ -8,7 +8,7 @@ use Rattle.label_sets.specs.declared.kind.Kind.{Kind}
 use Rattle.label_sets.specs.declared.kind.Kind.TheVariants.{Counter, Gauge, Histogram, GaugeHistogram, StateSet, Info, Summary, Unknown}
 use Rattle.label_sets.specs.Lists.{some_passes}
 use Rattle.exact_decimal.specs.declared.number.Number.{Number}
-use Rattle.exact_decimal.specs.declared.number.Number.TheVariants.{Finite, Up, Down, NotANumber}
+use Rattle.exact_decimal.specs.declared.number.Number.TheVariants.{Finite}
 use Rattle.exact_decimal.specs.Order.{less, is_finite}
 use Rattle.page_model.specs.declared.page.Bucket.{Bucket}
 use Rattle.page_model.specs.declared.page.Reading.{Reading}
@@ -29,9 +29,7 @@ use Rattle.target_core.specs.Points.{MayBeLaidOut, MayAllBeLaidOut}
 finite_below : (a b : Number) → is_bound a ≡ true → less a b ≡ true → is_finite a ≡ true
 unfolding less
 finite_below (Finite d) b bound h = refl
-finite_below Up b bound h = absurd cc
-finite_below Down b bound h = absurd cc
-finite_below NotANumber b bound h = absurd cc
+finite_below _ b bound h = absurd cc
 
 cumulative_from : (bs : List Bucket) (b : Bucket) → is_bound b.le ≡ true → AreRising (Some b) bs → some_passes (λ (c : Bucket). is_up c.le) (last_or (Some b) bs) ≡ true → are_cumulative (b ∷ bs) ≡ true
 unfolding are_cumulative may_follow

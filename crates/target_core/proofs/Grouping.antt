@@ -1,16 +1,13 @@
 -- Values by a key of bytes: one value more, and the values of one key changed.
-use Rattle.std.proofs.Common.{◌≡◌, ℕ, zero, suc, ◌<◌, Bool, true, false, cond, not, ◌&&◌, ◌||◌, List, [], ◌∷◌, ◌++◌, map, filter, length, get_or, set, Some, None, refl, sym, ap, ◌∙◌, arith}
+use Rattle.std.proofs.Common.{◌≡◌, ℕ, zero, suc, ◌<◌, Bool, true, false, cond, not, ◌||◌, List, [], ◌∷◌, ◌++◌, map, filter, length, get_or, set, Some, refl, sym, ap, ◌∙◌, arith}
 use Rattle.std.specs.Prelude.{slice_get}
 use Rattle.std.specs.List.{IsDistinct, AllByRecursion, list_any}
 use Rattle.std.specs.Str.{bytes_eq}
-use Rattle.std.specs.Cmp.Lexicographic.{bytes_decides, nat_list_eq_equiv}
+use Rattle.std.specs.Cmp.Lexicographic.{bytes_decides}
 use Rattle.std.proofs.lemmas.List.{append-nil}
 use Rattle.std.proofs.lemmas.List.Elements.{filter-append}
 use Rattle.label_sets.specs.Lists.{first_of_each}
-use Rattle.label_sets.proofs.Laws.{distinct_kept}
-
-bytes_swap : (a b : List ℕ) → bytes_eq a b ≡ bytes_eq b a
-bytes_swap a b = nat_list_eq_equiv.symm a b
+use Rattle.label_sets.proofs.Laws.{distinct_kept, bytes_eq-swap}
 
 module _ {A : Type 0} (id : A → List ℕ) where
   -- two values have one key
@@ -86,7 +83,7 @@ module _ {A : Type 0} (id : A → List ℕ) where
 
     not_first : (x : A) (xs : List A) (at : ℕ) → AllByRecursion (λ y. same x y ≡ false) xs → slice_get (map id xs) at ≡ Some k → bytes_eq k (id x) ≡ false
     not_first x [] at all e = absurd cc
-    not_first x (y ∷ ys) zero all e = let same_key : id y ≡ k = cc in bytes_swap k (id x) ∙ ap (bytes_eq (id x)) (sym same_key) ∙ all.0
+    not_first x (y ∷ ys) zero all e = let same_key : id y ≡ k = cc in bytes_eq-swap k (id x) ∙ ap (bytes_eq (id x)) (sym same_key) ∙ all.0
     not_first x (y ∷ ys) (suc at) all e = not_first x ys at all.1 e
 
     pub one_changed : (xs : List A) (at : ℕ) (d : B) → ((x : A) → id x ≡ k → g x ≡ h (f x)) → IsDistinct same xs → slice_get (map id xs) at ≡ Some k

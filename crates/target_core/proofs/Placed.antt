@@ -4,6 +4,7 @@ use Rattle.std.specs.List.{IsDistinct, AllByRecursion, list_any}
 use Rattle.std.specs.Str.{bytes_eq}
 use Rattle.std.specs.Cmp.Lexicographic.{bytes_decides}
 use Rattle.std.proofs.lemmas.Bool.Decides.{Decides-eqb}
+use Rattle.std.proofs.lemmas.Bool.{and_parts}
 use Rattle.label_sets.specs.declared.kind.Kind.{Kind}
 use Rattle.label_sets.specs.declared.series_key.SeriesKey.{SeriesKey}
 use Rattle.label_sets.specs.Keys.{kind_place, kind_eq, identity_eq}
@@ -12,10 +13,6 @@ use Rattle.otlp_tree.specs.declared.tree.Metric.{Metric}
 use Rattle.target_core.specs.declared.markers.Marker.{Marker}
 use Rattle.target_core.specs.Markers.{is_of_metric}
 use Rattle.target_core.specs.Laws.{is_same_metric, metrics_with, OneMetricOfThePage, OneMetricAlone}
-
-both : (a b : Bool) → (a && b) ≡ true → (a ≡ true) × (b ≡ true)
-both true b e = (refl, e)
-both false b e = absurd cc
 
 join : (a b : Bool) → a ≡ true → b ≡ true → (a && b) ≡ true
 join true b e f = f
@@ -36,10 +33,10 @@ kinds_then a b c e f = (Decides-eqb (kind_place a) (kind_place c)).1 ((Decides-e
 
 same_metric : (p q : Kind × Metric) (key : SeriesKey) → is_of_metric p.0 p.1 key ≡ true → is_of_metric q.0 q.1 key ≡ true → is_same_metric p q ≡ true
 same_metric p q key e f =
-    let a = both (bytes_eq p.1.name key.name && kind_eq p.0 key.kind) (bytes_eq p.1.unit key.unit) e in
-    let b = both (bytes_eq p.1.name key.name) (kind_eq p.0 key.kind) a.0 in
-    let c = both (bytes_eq q.1.name key.name && kind_eq q.0 key.kind) (bytes_eq q.1.unit key.unit) f in
-    let d = both (bytes_eq q.1.name key.name) (kind_eq q.0 key.kind) c.0 in
+    let a = and_parts (bytes_eq p.1.name key.name && kind_eq p.0 key.kind) (bytes_eq p.1.unit key.unit) e in
+    let b = and_parts (bytes_eq p.1.name key.name) (kind_eq p.0 key.kind) a.0 in
+    let c = and_parts (bytes_eq q.1.name key.name && kind_eq q.0 key.kind) (bytes_eq q.1.unit key.unit) f in
+    let d = and_parts (bytes_eq q.1.name key.name) (kind_eq q.0 key.kind) c.0 in
     join (bytes_eq p.1.name q.1.name && kind_eq p.0 q.0) (bytes_eq p.1.unit q.1.unit)
     (join (bytes_eq p.1.name q.1.name) (kind_eq p.0 q.0) (bytes_same p.1.name q.1.name key.name b.0 d.0) (kinds_same p.0 q.0 key.kind b.1 d.1)) (bytes_same p.1.unit q.1.unit key.unit a.1 c.1)
 
@@ -64,19 +61,19 @@ one_metric_of_the_page (p ∷ ps) key once = go (is_of_metric p.0 p.1 key) refl 
 
 identity_then : (a b c : SeriesKey) → identity_eq a b ≡ true → identity_eq b c ≡ true → identity_eq a c ≡ true
 identity_then a b c e f =
-    let x = both (bytes_eq a.name b.name && kind_eq a.kind b.kind) (bytes_eq a.unit b.unit) e in
-    let y = both (bytes_eq a.name b.name) (kind_eq a.kind b.kind) x.0 in
-    let z = both (bytes_eq b.name c.name && kind_eq b.kind c.kind) (bytes_eq b.unit c.unit) f in
-    let v = both (bytes_eq b.name c.name) (kind_eq b.kind c.kind) z.0 in
+    let x = and_parts (bytes_eq a.name b.name && kind_eq a.kind b.kind) (bytes_eq a.unit b.unit) e in
+    let y = and_parts (bytes_eq a.name b.name) (kind_eq a.kind b.kind) x.0 in
+    let z = and_parts (bytes_eq b.name c.name && kind_eq b.kind c.kind) (bytes_eq b.unit c.unit) f in
+    let v = and_parts (bytes_eq b.name c.name) (kind_eq b.kind c.kind) z.0 in
     join (bytes_eq a.name c.name && kind_eq a.kind c.kind) (bytes_eq a.unit c.unit)
     (join (bytes_eq a.name c.name) (kind_eq a.kind c.kind) (bytes_then a.name b.name c.name y.0 v.0) (kinds_then a.kind b.kind c.kind y.1 v.1)) (bytes_then a.unit b.unit c.unit x.1 z.1)
 
 identity_both : (a b c : SeriesKey) → identity_eq a c ≡ true → identity_eq b c ≡ true → identity_eq a b ≡ true
 identity_both a b c e f =
-    let x = both (bytes_eq a.name c.name && kind_eq a.kind c.kind) (bytes_eq a.unit c.unit) e in
-    let y = both (bytes_eq a.name c.name) (kind_eq a.kind c.kind) x.0 in
-    let z = both (bytes_eq b.name c.name && kind_eq b.kind c.kind) (bytes_eq b.unit c.unit) f in
-    let v = both (bytes_eq b.name c.name) (kind_eq b.kind c.kind) z.0 in
+    let x = and_parts (bytes_eq a.name c.name && kind_eq a.kind c.kind) (bytes_eq a.unit c.unit) e in
+    let y = and_parts (bytes_eq a.name c.name) (kind_eq a.kind c.kind) x.0 in
+    let z = and_parts (bytes_eq b.name c.name && kind_eq b.kind c.kind) (bytes_eq b.unit c.unit) f in
+    let v = and_parts (bytes_eq b.name c.name) (kind_eq b.kind c.kind) z.0 in
     join (bytes_eq a.name b.name && kind_eq a.kind b.kind) (bytes_eq a.unit b.unit)
     (join (bytes_eq a.name b.name) (kind_eq a.kind b.kind) (bytes_same a.name b.name c.name y.0 v.0) (kinds_same a.kind b.kind c.kind y.1 v.1)) (bytes_same a.unit b.unit c.unit x.1 z.1)
 

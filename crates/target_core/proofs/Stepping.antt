@@ -1,15 +1,14 @@
 -- One event more: the starts and the markers that a state gives are those of the events for which it stands.
-use Rattle.std.proofs.Common.{◌≡◌, ℕ, ◌+◌, ◌<◌, Bool, true, false, cond, not, ◌||◌, ◌&&◌, List, [], ◌∷◌, ◌++◌, map, filter, find, take, length, get_or, Option, Some, None, option_map, option_and_then, refl, sym, ap, subst, ◌∙◌, is_some}
+use Rattle.std.proofs.Common.{◌≡◌, ℕ, ◌+◌, ◌<◌, Bool, true, false, cond, ◌||◌, List, [], ◌∷◌, ◌++◌, map, filter, find, take, length, get_or, Option, Some, None, option_map, option_and_then, refl, sym, ap, subst, ◌∙◌, is_some}
 use Rattle.std.specs.Prelude.{Result, Ok, Err, IfOk}
-use Rattle.std.specs.List.{list_any, AllByRecursion, IsDistinct, flat_map}
+use Rattle.std.specs.List.{list_any, IsDistinct}
 use Rattle.std.proofs.lemmas.List.{map-append, get_or-map}
-use Rattle.std.specs.Map.{lookup, keys_of as row_keys}
-use Rattle.label_sets.specs.declared.kind.Kind.{Kind}
+use Rattle.std.specs.Map.{keys_of as row_keys}
+use Rattle.std.proofs.lemmas.Bool.{or_left, or_right}
 use Rattle.label_sets.specs.declared.series_key.SeriesKey.{SeriesKey}
 use Rattle.label_sets.specs.Keys.{key_eq}
 use Rattle.label_sets.proofs.Laws.{key_decides}
 use Rattle.page_model.specs.declared.page.Reading.{Reading}
-use Rattle.page_model.specs.declared.page.Family.{Family}
 use Rattle.page_model.specs.declared.page.Page.{Page}
 use Rattle.page_model.specs.declared.event.Event.{Event}
 use Rattle.page_model.specs.declared.event.Shown.{Shown}
@@ -17,7 +16,7 @@ use Rattle.page_model.specs.Presence.{all_readings, keys_of, reading_at, is_pres
 use Rattle.start_times.specs.declared.row.Row.{Row}
 use Rattle.start_times.specs.declared.row.Starts.{Starts}
 use Rattle.start_times.specs.Scrapes.{Scrape, last_moment, last_page, moment_after, scrape_after, scrapes_of}
-use Rattle.start_times.specs.Starts.{Tracking, has_start, start_time, reading_start, start_there}
+use Rattle.start_times.specs.Starts.{Tracking, has_start, reading_start, start_there}
 use Rattle.start_times.specs.Rows.{Tracked, Tracks, row_of, kept_row, kept_start}
 use Rattle.start_times.specs.Advancing.{Advances, HasDistinctKeys, scrape_of}
 use Rattle.start_times.proofs.Laws.{row_of_sight, reading_is_of}
@@ -26,7 +25,7 @@ use Rattle.otlp_tree.specs.declared.tree.Request.{Request}
 use Rattle.bridge_ports.specs.Targets.{Scraped}
 use Rattle.target_core.specs.declared.markers.Marker.{Marker}
 use Rattle.target_core.specs.MarkerGroups.{GroupedMarkers, marker_groups}
-use Rattle.target_core.specs.Trees.{request_of, request_with, up_of}
+use Rattle.target_core.specs.Trees.{request_of, up_of}
 use Rattle.target_core.specs.Events.{marker_with, markers_at, request_after, latest_shown, first_start, event_request}
 use Rattle.target_core.specs.States.{Following, StandsFor, Steps, told_scrapes}
 use Rattle.target_core.proofs.EmptyPast.{empty_past}
@@ -43,18 +42,10 @@ any_of_keys key (r ∷ rs) = by (key_eq key r.key) (any_of_keys key rs)
     by true e = refl
     by false e = e
 
-or_later : (b c : Bool) → c ≡ true → (b || c) ≡ true
-or_later true c e = refl
-or_later false c e = e
-
-or_first : (b c : Bool) → b ≡ true → (b || c) ≡ true
-or_first true c e = refl
-or_first false c e = absurd cc
-
 -- a map over keys that pass a test, where two functions agree on each key
 same_starts : (p : SeriesKey → Bool) (f g : SeriesKey → Marker) (keys : List SeriesKey) → ((key : SeriesKey) → list_any (key_eq key) keys ≡ true → f key ≡ g key) → map f (filter p keys) ≡ map g (filter p keys)
 same_starts p f g [] agree = refl
-same_starts p f g (k ∷ keys) agree = by (p k) (agree k (or_first (key_eq k k) (list_any (key_eq k) keys) ((key_decides k k).1 refl))) (same_starts p f g keys (λ key e. agree key (or_later (key_eq key k) (list_any (key_eq key) keys) e)))
+same_starts p f g (k ∷ keys) agree = by (p k) (agree k (or_left (key_eq k k) (list_any (key_eq k) keys) ((key_decides k k).1 refl))) (same_starts p f g keys (λ key e. agree key (or_right (key_eq key k) (list_any (key_eq key) keys) e)))
   where
     by : (b : Bool) → f k ≡ g k → map f (filter p keys) ≡ map g (filter p keys) → map f (cond b (k ∷ filter p keys) (filter p keys)) ≡ map g (cond b (k ∷ filter p keys) (filter p keys))
     by true e rest = λ i. e i ∷ rest i

@@ -4,6 +4,7 @@ use Rattle.std.specs.Prelude.{◌==◌, nat_lt, ⊤}
 use Rattle.std.specs.List.{slice_get}
 use Rattle.std.proofs.lemmas.Bool.Decides.{nat_tests}
 use Rattle.std.proofs.lemmas.Option.{slice_get-map}
+use Rattle.std.proofs.lemmas.Bool.{and_parts}
 use Rattle.target_core.specs.Events.{latest_shown}
 use Rattle.bridge_ports.specs.declared.talk.Talk.{Talk}
 use Rattle.series_table.specs.Talking.{Talking, Followed}
@@ -38,10 +39,6 @@ fresh_fine w rounds f = record {
   out_facts = refl;
 }
 
-both : (a b : Bool) → (a && b) ≡ true → (a ≡ true) × (b ≡ true)
-both true b e = (refl, e)
-both false b e = absurd cc
-
 no_out : (o : Option Out) → is_none o ≡ true → o ≡ None
 no_out None e = refl
 no_out (Some x) e = absurd cc
@@ -59,8 +56,8 @@ empty_list (x ∷ xs) h = absurd (omega arith)
 take_fine : (w : Talking) (rounds : ℕ) (f : Followed) (o : OneTarget) (lane : ℕ) → may_go rounds o ≡ true → Fine w rounds f o → Fine w rounds f (taken_by lane o)
 unfolding taken_by OutFacts
 take_fine w rounds f o lane may h =
-    let first = both (is_none o.out && not o.halted) (nat_lt (visits_of o) rounds) may in
-    let home : o.out ≡ None = no_out o.out (both (is_none o.out) (not o.halted) first.0).0 in
+    let first = and_parts (is_none o.out && not o.halted) (nat_lt (visits_of o) rounds) may in
+    let home : o.out ≡ None = no_out o.out (and_parts (is_none o.out) (not o.halted) first.0).0 in
     let left : visits_of o < rounds = below (visits_of o) rounds first.1 in
     let seen : OutFacts rounds o None = subst (OutFacts rounds o) home h.out_facts in
     record { followed = h.followed; bodies = h.bodies; few = h.few; out_facts = (left, omega arith, λ e. seen) }

@@ -4,6 +4,7 @@ use Rattle.std.specs.Prelude.{nat_lt}
 use Rattle.std.specs.List.{slice_get}
 use Rattle.std.proofs.lemmas.Bool.Decides.{nat_tests}
 use Rattle.std.proofs.lemmas.Option.{none-some, same_Some}
+use Rattle.std.proofs.lemmas.Bool.{and_parts}
 use Rattle.page_model.specs.declared.event.Shown.{Shown}
 use Rattle.series_table.specs.Talking.{Talking, Followed}
 use Rattle.target_table.specs.Runs.{Run, IsRightRun, most_of_run}
@@ -153,17 +154,13 @@ first-passes {A} test (y ∷ ys) i x e at = go (test y) refl (first_place test y
         let there : slice_get (y ∷ ys) (suc j) ≡ Some x = subst (λ n. slice_get (y ∷ ys) n ≡ Some x) as_suc at in
         later j q there
 
-both : (a b : Bool) → (a && b) ≡ true → (a ≡ true) × (b ≡ true)
-both true b e = (refl, e)
-both false b e = absurd cc
-
 pub turn-passes : {A : Type 0} (visits : A → ℕ) (test : A → Bool) (xs : List A) (i : ℕ) (x : A) → turn_of visits test xs ≡ Some i → slice_get xs i ≡ Some x → test x ≡ true
 unfolding turn_of
 turn-passes {A} visits test xs i x e at = go (fewest visits test xs) refl
   where
     go : (o : Option ℕ) → fewest visits test xs ≡ o → test x ≡ true
     go None p = absurd (none-some i (rw p at e))
-    go (Some n) p = (both (test x) (visits x == n) (first-passes (λ z. test z && visits z == n) xs i x (rw p at e) at)).0
+    go (Some n) p = (and_parts (test x) (visits x == n) (first-passes (λ z. test z && visits z == n) xs i x (rw p at e) at)).0
 
 below : (a b : ℕ) → nat_lt a b ≡ true → a < b
 below a b e = grind (arith, nat_tests)
@@ -181,7 +178,7 @@ turn_is_taken w run h place k table turn there =
     let slot = slot-at w run.rounds h.books 0 place run.targets h.slots h.seen (Some k) there table.targets in
     let zero_place : 0 + place ≡ place = omega arith in
     let home : IsTrackHome w run.rounds slot.0 place slot.1 k = subst (λ p. IsTrackHome w run.rounds slot.0 p slot.1 k) zero_place slot.3.2 in
-    let may = both (not k.halted) (nat_lt k.counts.visits run.rounds) (turn-passes visits_in (may_leave run.rounds) h.slots place (Some k) turn there) in
+    let may = and_parts (not k.halted) (nat_lt k.counts.visits run.rounds) (turn-passes visits_in (may_leave run.rounds) h.slots place (Some k) turn there) in
     record { followed = slot.0; target = slot.2; track = home.at; left = below k.counts.visits run.rounds may.1; no_second = home.no_second }
 
 -- a turn falls on a place of the list

@@ -9,6 +9,8 @@ mod otlp_sender_calls;
 #[cfg(test)]
 mod page_server_calls;
 #[cfg(test)]
+mod plans;
+#[cfg(test)]
 mod run_report_calls;
 #[cfg(test)]
 mod scrape_client_calls;

@@ -2,8 +2,9 @@
 ghost use Rattle.std.specs.Prelude.{◌≡◌, IfOk};
 ghost use Rattle.bridge_ports.specs.declared.talk.Stage.TheVariants as stages;
 
-use bridge_ports::{End, MemoryReply, MemoryWire, Place, Wire};
-use label_sets::{Bytes, List};
+use crate::plans::{Planned, replies};
+use bridge_ports::{End, MemoryWire, Place, Wire};
+use label_sets::List;
 use otlp_sender::{Posted, Try, post};
 use std::alloc::{AllocError, Global};
 use std::test::Fail;
@@ -15,32 +16,21 @@ const OK: &[u8] = b"HTTP/1.1 200 OK\r\nContent-Length: 2\r\n\r\n{}";
 const LATER: &[u8] = b"HTTP/1.1 503 Later\r\n\r\n";
 
 /// A wire that answers these replies, two bytes at a read, and whose calls of these numbers fail.
-fn wire(alloc: Global, plan: &[(&[u8], End)], failing: &[u64]) -> Result<MemoryWire, AllocError>
+fn wire(alloc: Global, plan: &[Planned<'_>], failing: &[u64]) -> Result<MemoryWire, AllocError>
     ensures { IfOk result (λ wire. wire.stage ≡ stages.Idle) }
 {
-    let mut replies = Vec::new(alloc);
-    for (got, end) in plan {
-        let reply = MemoryReply {
-            at: 7,
-            got: Bytes::from_slice(alloc, got)?,
-            end: *end,
-        };
-        if replies.push(reply).is_err() {
-            return Err(AllocError);
-        }
-    }
     let place = Place {
         number: 1,
         post: true,
     };
     let failing = List::from_vec(Vec::from_slice(alloc, failing)?)?;
-    Ok(MemoryWire::new(alloc, place, List::from_vec(replies)?, None, 2, failing))
+    Ok(MemoryWire::new(alloc, place, replies(alloc, plan)?, None, 2, failing))
 }
 
 /// What three tries come to, and how many were made.
 fn posted(
     alloc: Global,
-    plan: &[(&[u8], End)],
+    plan: &[Planned<'_>],
     failing: &[u64],
 ) -> Result<(Posted, u64), AllocError> {
     let mut wire = wire(alloc, plan, failing)?;

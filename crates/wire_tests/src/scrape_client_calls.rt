@@ -2,8 +2,9 @@
 //! the cause alone.
 ghost use Rattle.std.specs.Prelude.{◌≤◌};
 
-use bridge_ports::{Address, End, MemoryReply, MemoryWire, Place, Target};
-use label_sets::{Bytes, List, Memory, Text};
+use crate::plans::{replies, target};
+use bridge_ports::{End, MemoryWire, Place};
+use label_sets::{List, Memory};
 use page_model::{Cause, Outcome, Rule};
 use scrape_client::{outcome, scrape};
 use std::alloc::Global;
@@ -18,17 +19,6 @@ const OPEN_METRICS: &[u8] =
     b"HTTP/1.1 200 OK\r\nContent-Type: application/openmetrics-text; version=1.0.0\r\n\r\nx 1\n# EOF\n";
 
 const BAD_PAGE: &[u8] = b"HTTP/1.1 200 OK\r\n\r\nx 1\nx\n";
-
-fn target(alloc: Global) -> Result<Target, Memory> {
-    let job = Text::from_str(alloc, "j")?;
-    let instance = Text::from_str(alloc, "h:1")?;
-    let address = Address {
-        host: Bytes::from_slice(alloc, "h".as_bytes())?,
-        port: 1,
-        path: Bytes::from_slice(alloc, b"/metrics")?,
-    };
-    Ok(Target::new(job, instance, address, false))
-}
 
 /// Why a scrape failed; nothing where it gave a page.
 fn cause(outcome: Outcome) -> Option<Cause> {
@@ -52,8 +42,7 @@ fn scraped(
         number: 1,
         post: false,
     };
-    let got = Bytes::from_slice(alloc, got)?;
-    let replies = List::from_vec(Vec::from_array(alloc, [MemoryReply { at: 5, got, end }])?)?;
+    let replies = replies(alloc, &[(got, end)])?;
     let failing = List::from_vec(Vec::from_slice(alloc, failing)?)?;
     let mut wire = MemoryWire::new(alloc, place, replies, None, most, failing);
     let target = target(alloc)?;

@@ -4,8 +4,9 @@ ghost use Rattle.std.specs.Prelude.{◌≡◌, IfOk};
 ghost use Rattle.bridge_ports.specs.Plans.{seen_of};
 ghost use Rattle.series_table.specs.Records.{IsFresh};
 
-use bridge_ports::{Address, End, MemoryReply, MemoryWire, Place, Settings, Target, Wire};
-use label_sets::{Bytes, List, Memory, Text};
+use crate::plans::{Planned, replies, target};
+use bridge_ports::{Address, End, MemoryWire, Place, Settings, Wire};
+use label_sets::{Bytes, List, Memory};
 use series_table::{Counts, Track, TrackFault, Visited};
 use std::alloc::{AllocError, Global};
 use std::test::Fail;
@@ -28,9 +29,6 @@ const SETTINGS: Settings = Settings {
     interval: 10,
 };
 
-/// A reply, and how its talk ends.
-type Planned<'a> = (&'a [u8], End);
-
 /// A wire that answers these replies, past them that connections fail, and whose calls of these numbers fail.
 fn wire(
     alloc: Global,
@@ -40,20 +38,9 @@ fn wire(
 ) -> Result<MemoryWire, AllocError>
     ensures { IfOk result (λ wire. IsFresh (seen_of wire)) }
 {
-    let mut replies = Vec::new(alloc);
-    for (got, end) in plan {
-        let reply = MemoryReply {
-            at: 7,
-            got: Bytes::from_slice(alloc, got)?,
-            end: *end,
-        };
-        if replies.push(reply).is_err() {
-            return Err(AllocError);
-        }
-    }
     let place = Place { number: 1, post };
     let failing = List::from_vec(Vec::from_slice(alloc, failing)?)?;
-    Ok(MemoryWire::new(alloc, place, List::from_vec(replies)?, None, 4_096, failing))
+    Ok(MemoryWire::new(alloc, place, replies(alloc, plan)?, None, 4_096, failing))
 }
 
 fn address(alloc: Global) -> Result<Address, Memory> {
@@ -62,17 +49,6 @@ fn address(alloc: Global) -> Result<Address, Memory> {
         port: 1,
         path: Bytes::from_slice(alloc, b"/p")?,
     })
-}
-
-fn target(alloc: Global) -> Result<Target, Memory> {
-    let job = Text::from_str(alloc, "j")?;
-    let instance = Text::from_str(alloc, "h:1")?;
-    let address = Address {
-        host: Bytes::from_slice(alloc, "h".as_bytes())?,
-        port: 1,
-        path: Bytes::from_slice(alloc, b"/p")?,
-    };
-    Ok(Target::new(job, instance, address, false))
 }
 
 /// What visits came to: what a track counted, whether it is halted, and how many talks each wire has.

@@ -31,20 +31,26 @@ pub record IsThrough (c : Config) (coming : Coming) (before mid late after : Out
   pub closing : IsBeside after late
   pub back : after.world ≡ comes_back closed late.world
 
+-- what is so of the run between is so beside the door, where the run left the world as it was
+between : (c : Config) (coming : Coming) (before mid late after : Outside) (opened closed : Option DoorState) → IsThrough c coming before mid late after opened closed → late.world ≡ mid.world
+    → (Is : Outside → Outside → Type 0) → Is mid late → Is (with_world mid.world before) (with_world mid.world after)
+between c coming before mid late after opened closed through still Is run =
+    let late_is : late ≡ with_world mid.world after =
+    with_own late after (record { files = sym through.closing.files; home = sym through.closing.home; given = sym through.closing.given }) ∙ ap (λ (w : WorldState). with_world w after) still in
+    let before_is : mid ≡ with_world mid.world before = with_own mid before through.opening in
+    subst (λ (a : Outside). Is a (with_world mid.world after)) before_is (subst (λ (b : Outside). Is mid b) late_is run)
+
 -- a run between is one beside the door
 pub served_run : (c : Config) (coming : Coming) (before mid late after : Outside) (opened closed : Option DoorState) (ends : List TargetEnd) (served : ℕ) → IsThrough c coming before mid late after opened closed → IsRunEnd c mid late ends
     → ServesAt c.pages opened closed served → IsServedRun c coming before after ends served
 served_run c coming before mid late after opened closed ends served through run serves =
     let still : late.world ≡ mid.world = run.rest.world in
-    let late_is : late ≡ with_world mid.world after =
-    with_own late after (record { files = sym through.closing.files; home = sym through.closing.home; given = sym through.closing.given }) ∙ ap (λ (w : WorldState). with_world w after) still in
-    let before_is : mid ≡ with_world mid.world before = with_own mid before through.opening in
     record {
       during = mid.world;
       opened = opened;
       closed = closed;
       asked = through.asked;
-      run = subst (λ (a : Outside). IsRunEnd c a (with_world mid.world after) ends) before_is (subst (λ (b : Outside). IsRunEnd c mid b ends) late_is run);
+      run = between c coming before mid late after opened closed through still (λ a b. IsRunEnd c a b ends) run;
       serves = serves;
       back = through.back ∙ ap (comes_back closed) still;
     }
@@ -53,14 +59,11 @@ served_run c coming before mid late after opened closed ends served through run 
 pub unserved : (c : Config) (coming : Coming) (before mid late after : Outside) (opened closed : Option DoorState) → IsThrough c coming before mid late after opened closed → IsNotBegun c mid late → closed ≡ opened → IsUnserved c coming before after
 unserved c coming before mid late after opened closed through run same =
     let still : late.world ≡ mid.world = run.rest.world in
-    let late_is : late ≡ with_world mid.world after =
-    with_own late after (record { files = sym through.closing.files; home = sym through.closing.home; given = sym through.closing.given }) ∙ ap (λ (w : WorldState). with_world w after) still in
-    let before_is : mid ≡ with_world mid.world before = with_own mid before through.opening in
     record {
       during = mid.world;
       opened = opened;
       asked = inr through.asked;
-      run = subst (λ (a : Outside). IsNotBegun c a (with_world mid.world after)) before_is (subst (λ (b : Outside). IsNotBegun c mid b) late_is run);
+      run = between c coming before mid late after opened closed through still (IsNotBegun c) run;
       back = through.back ∙ (ap (λ (d : Option DoorState). comes_back d late.world) same ∙ ap (comes_back opened) still);
     }
 

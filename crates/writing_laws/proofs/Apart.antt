@@ -16,8 +16,9 @@ use Rattle.label_sets.specs.declared.kind.Kind.{Kind}
 use Rattle.label_sets.specs.declared.kind.Kind.TheVariants.{Counter, Gauge, Histogram, GaugeHistogram, StateSet, Info, Summary, Unknown}
 use Rattle.label_sets.specs.declared.label_set.LabelSet.{LabelSet}
 use Rattle.label_sets.specs.Labels.{has_name, label_sets_eq, without_label}
+use Rattle.label_sets.proofs.Laws.{all-append, all-weaker}
 use Rattle.exact_decimal.specs.declared.number.Number.{Number}
-use Rattle.exact_decimal.specs.declared.number.Number.TheVariants.{Finite, Up, Down, NotANumber}
+use Rattle.exact_decimal.specs.declared.number.Number.TheVariants.{Finite}
 use Rattle.exact_decimal.specs.Decimals.{decimal_cmp}
 use Rattle.exact_decimal.specs.Numbers.{number_of}
 use Rattle.exact_decimal.specs.Order.{less, same}
@@ -35,7 +36,7 @@ use Rattle.page_model.specs.Rules.{is_histogram, is_bound, has_suffix, is_bucket
 use Rattle.page_model.specs.Readings.{key_name, reading_labels}
 use Rattle.open_writing.specs.Writing.{bare_sample, number_sample, with_number_label, bucket_sample, quantile_sample, count_suffix, sum_suffix, total_samples, observations, value_samples, reading_samples}
 use Rattle.open_writing.specs.Forms.{IsFormedNumber, is_plain_value, is_u64, is_next_bucket, rise_to_infinity, is_one_place, IsFormedValue, IsFormedTime, IsFormedReading, label_sets_of}
-use Rattle.writing_laws.proofs.Turned.{all-append, all-map, all-of, all-weaker, none-any, Pairs, pairs-append, pairs-map, pairs-weaker, pairs-flat}
+use Rattle.writing_laws.proofs.Turned.{all-map, all-of, none-any, Pairs, pairs-append, pairs-map, pairs-weaker, pairs-flat}
 use Rattle.writing_laws.proofs.GroupedSamples.{other_group, written_threshold}
 use Rattle.writing_laws.proofs.BucketRules.{follows}
 use Rattle.writing_laws.proofs.ValuesBack.{suffix_is}
@@ -53,9 +54,7 @@ not_less Greater e = refl
 not_itself : (n : Number) → less n n ≡ false
 unfolding less same
 not_itself (Finite d) = not_less (decimal_cmp d d) (same_itself d)
-not_itself Up = refl
-not_itself Down = refl
-not_itself NotANumber = refl
+not_itself _ = refl
 
 le_more : (a b c : ℕ) → nat_le a b ≡ true → nat_le b c ≡ true → nat_le a c ≡ true
 le_more a b c e f = grind (arith, nat_tests)
@@ -93,21 +92,13 @@ module _ (limit : ℕ) (family : List ℕ) where
   order_free Histogram t s un = λ both bucket. absurd (let k : false ≡ true = sym un ∙ bucket in cc)
   order_free GaugeHistogram t s un = λ both bucket. absurd (let k : false ≡ true = sym un ∙ bucket in cc)
   order_free Summary t s un = λ own. absurd (let k : false ≡ true = sym un ∙ own in cc)
-  order_free Counter t s un = tt
-  order_free Gauge t s un = tt
-  order_free StateSet t s un = tt
-  order_free Info t s un = tt
-  order_free Unknown t s un = tt
+  order_free _ t s un = tt
 
   unplaced_by : (kind : Kind) (b : List ℕ) (labels : LabelSet) (n : Number) → bytes_eq b (codes "_bucket") ≡ false → bytes_eq b [] ≡ false → IsUnplaced kind (bare_sample (family ++ b) labels n)
   unplaced_by Histogram b labels n e f = suffix_is family b (codes "_bucket") labels n ∙ e
   unplaced_by GaugeHistogram b labels n e f = suffix_is family b (codes "_bucket") labels n ∙ e
   unplaced_by Summary b labels n e f = suffix_is family b [] labels n ∙ f
-  unplaced_by Counter b labels n e f = tt
-  unplaced_by Gauge b labels n e f = tt
-  unplaced_by StateSet b labels n e f = tt
-  unplaced_by Info b labels n e f = tt
-  unplaced_by Unknown b labels n e f = tt
+  unplaced_by _ b labels n e f = tt
 
   -- ---- samples that differ by their names
 
@@ -185,12 +176,7 @@ module _ (limit : ℕ) (family : List ℕ) where
       (pairs-weaker Rise (λ b c. IsApart Histogram (bucket_sample family labels b) (bucket_sample family labels c)) (λ b c r. (bucket_differs labels b c free r, λ both bucket. bucket_follows labels b c free r)) bs rise)
   bucket_pairs GaugeHistogram labels bs h free rise = pairs-map (IsApart GaugeHistogram) (bucket_sample family labels) bs
       (pairs-weaker Rise (λ b c. IsApart GaugeHistogram (bucket_sample family labels b) (bucket_sample family labels c)) (λ b c r. (bucket_differs labels b c free r, λ both bucket. bucket_follows labels b c free r)) bs rise)
-  bucket_pairs Counter labels bs h free rise = absurd (let k : false ≡ true = h in cc)
-  bucket_pairs Gauge labels bs h free rise = absurd (let k : false ≡ true = h in cc)
-  bucket_pairs StateSet labels bs h free rise = absurd (let k : false ≡ true = h in cc)
-  bucket_pairs Info labels bs h free rise = absurd (let k : false ≡ true = h in cc)
-  bucket_pairs Summary labels bs h free rise = absurd (let k : false ≡ true = h in cc)
-  bucket_pairs Unknown labels bs h free rise = absurd (let k : false ≡ true = h in cc)
+  bucket_pairs _ labels bs h free rise = absurd (let k : false ≡ true = h in cc)
 
   -- a histogram's suffixes differ from each other and from those of buckets
   pub record HasTotals (kind : Kind) : Type 0 where
@@ -341,14 +327,10 @@ module _ (limit : ℕ) (family : List ℕ) where
 
   -- the labels of a sample's reading are told from its labels
   labels_only : (kind : Kind) (x s : Sample) → x.labels ≡ s.labels → reading_labels st kind family x ≡ reading_labels st kind family s
-  labels_only Counter x s e = e
-  labels_only Gauge x s e = e
   labels_only Histogram x s e = ap (without_label (codes "le")) e
   labels_only GaugeHistogram x s e = ap (without_label (codes "le")) e
-  labels_only StateSet x s e = e
-  labels_only Info x s e = e
   labels_only Summary x s e = ap (without_label (codes "quantile")) e
-  labels_only Unknown x s e = e
+  labels_only _ x s e = e
 
   two_differ : (kind : Kind) (a b : LabelSet) (x s : Sample) → a ≢ b → IsFair limit kind family a x → IsFair limit kind family b s → Differ x s
   two_differ kind a b x s ne fx fs = and_last _ _ (other_group x.labels s.labels (λ e. ne (sym fx.of ∙ labels_only kind x s e ∙ fs.of)))
@@ -362,11 +344,7 @@ module _ (limit : ℕ) (family : List ℕ) where
       let k : false ≡ true = sym other ∙ both in cc)
   two_ordered Summary a b x s ne fx fs = λ own.
       and_first _ _ (and_last _ _ (other_group (sample_group st Summary family x) (sample_group st Summary family s) (λ e. ne (sym fx.of ∙ e ∙ fs.of))))
-  two_ordered Counter a b x s ne fx fs = tt
-  two_ordered Gauge a b x s ne fx fs = tt
-  two_ordered StateSet a b x s ne fx fs = tt
-  two_ordered Info a b x s ne fx fs = tt
-  two_ordered Unknown a b x s ne fx fs = tt
+  two_ordered _ a b x s ne fx fs = tt
 
   pub sets_differ : (a b : LabelSet) → label_sets_eq a b ≡ false → a ≢ b
   sets_differ a b e = λ f. absurd (let k : false ≡ true = sym e ∙ (label_sets_decide a b).1 f in cc)
@@ -430,8 +408,4 @@ module _ (limit : ℕ) (family : List ℕ) where
       go : (b : Bool) → has_suffix family [] s ≡ b → (has_suffix family [] s && list_any (λ t. has_suffix family [] t && in_one_group st Summary family t s && same (quantile_at t) (quantile_at s)) above) ≡ false
       go true e = and_last _ _ (none-any (λ t. has_suffix family [] t && in_one_group st Summary family t s && same (quantile_at t) (quantile_at s)) above (all-weaker (λ t. OrderOf Summary t s) _ (λ t g. g e) above h))
       go false e = and_first _ _ e
-  in_order Counter above s h = refl
-  in_order Gauge above s h = refl
-  in_order StateSet above s h = refl
-  in_order Info above s h = refl
-  in_order Unknown above s h = refl
+  in_order _ above s h = refl

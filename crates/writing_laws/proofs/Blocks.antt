@@ -91,18 +91,18 @@ and_false true = refl
 and_false false = refl
 
 -- without a line of the family, none of them passes a test
-none_of : (family : List ℕ) (test : Owned → Bool) (above : List Owned) → list_any (is_of family) above ≡ false → list_any (λ o. is_of family o && test o) above ≡ false
-none_of family test [] h = refl
-none_of family test (o ∷ above) h = go (is_of family o) h (none_of family test above)
+pub none_owned : (family : List ℕ) (test : Owned → Bool) (above : List Owned) → list_any (is_of family) above ≡ false → list_any (λ o. is_of family o && test o) above ≡ false
+none_owned family test [] h = refl
+none_owned family test (o ∷ above) h = go (is_of family o) h (none_owned family test above)
   where
     go : (b : Bool) → (b || list_any (is_of family) above) ≡ false → (list_any (is_of family) above ≡ false → list_any (λ p. is_of family p && test p) above ≡ false)
         → ((b && test o) || list_any (λ p. is_of family p && test p) above) ≡ false
     go true e ih = absurd cc
     go false e ih = ih e
 
-not_after : (st : Setting) (earlier : List Item) → list_any is_eof earlier ≡ false → is_after_eof st earlier ≡ false
+pub not_behind_eof : (st : Setting) (earlier : List Item) → list_any is_eof earlier ≡ false → is_after_eof st earlier ≡ false
 unfolding is_after_eof
-not_after st earlier h = rw h (and_false (is_open_metrics st.format))
+not_behind_eof st earlier h = rw h (and_false (is_open_metrics st.format))
 
 not_split : (family : List ℕ) (item : Item) (above : List Owned) → list_any (is_of family) above ≡ false → is_split above (record { family = family; item = item }) ≡ false
 unfolding is_split
@@ -118,13 +118,13 @@ unfolding leaves_incomplete
 leaves_whole st [] family h = refl
 leaves_whole st (nearest ∷ above) family h = rw h (and_false (not (is_of family nearest)))
 
-no_unit_given : (family : List ℕ) (above : List Owned) → list_any (is_of family) above ≡ false → list_any (gives_unit family) above ≡ false
-no_unit_given family above h = none_of family _ above h
+pub no_unit_yet : (family : List ℕ) (above : List Owned) → list_any (is_of family) above ≡ false → list_any (gives_unit family) above ≡ false
+no_unit_yet family above h = none_owned family _ above h
 
 type_unit : (family : List ℕ) (kind : Kind) (above : List Owned) → list_any (is_of family) above ≡ false → is_bad_unit above (record { family = family; item = items.KindOf family kind }) ≡ false
 unfolding is_bad_unit has_forbidden_unit
 type_unit family kind above h =
-    let none : list_any (gives_unit family) (record { family = family; item = items.KindOf family kind } ∷ above) ≡ false = rw (own_name family) (no_unit_given family above h) in
+    let none : list_any (gives_unit family) (record { family = family; item = items.KindOf family kind } ∷ above) ≡ false = rw (own_name family) (no_unit_yet family above h) in
     rw none (rw (and_false (is_info_or_state_set (kind_of (record { family = family; item = items.KindOf family kind } ∷ above) family))) refl)
 
 -- its TYPE line breaks no rule
@@ -132,5 +132,5 @@ pub type_is_free : (st : Setting) (earlier : List Item) (family : List ℕ) (kin
 unfolding item_fault item_breaks owned_breaks is_late_descriptor
 type_is_free st earlier family kind m =
     let above = owned_lines st.format earlier in
-    let late : list_any (λ o. is_of family o && (are_one_sort (items.KindOf family kind) o.item || is_sample o.item)) above ≡ false = none_of family (λ o. are_one_sort (items.KindOf family kind) o.item || is_sample o.item) above m.new in
-    rw (not_after st earlier m.no_eof, late, not_split family (items.KindOf family kind) above m.new, leaves_whole st above family m.complete, type_unit family kind above m.new) refl
+    let late : list_any (λ o. is_of family o && (are_one_sort (items.KindOf family kind) o.item || is_sample o.item)) above ≡ false = none_owned family (λ o. are_one_sort (items.KindOf family kind) o.item || is_sample o.item) above m.new in
+    rw (not_behind_eof st earlier m.no_eof, late, not_split family (items.KindOf family kind) above m.new, leaves_whole st above family m.complete, type_unit family kind above m.new) refl

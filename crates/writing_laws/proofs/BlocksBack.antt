@@ -10,6 +10,7 @@ use Rattle.label_sets.specs.Lists.{first_of_each}
 use Rattle.page_model.specs.declared.item.Item.{Item}
 use Rattle.page_model.specs.Owners.{Owned, is_of}
 use Rattle.writing_laws.proofs.Blocks.{own, own_name}
+use Rattle.writing_laws.proofs.Turned.{filter-twice}
 
 -- a family's name and its lines, of which there is one at least
 pub record Lines : Type 0 where
@@ -47,21 +48,11 @@ turned a b e = go (bytes_eq b a) refl
 abbrev names_of : List Owned → List (List ℕ)
 names_of os = map (λ (o : Owned). o.family) os
 
--- a name that is passed over twice is passed over once
-twice : (name : List ℕ) (ns : List (List ℕ)) → filter (λ n. not (bytes_eq name n)) (filter (λ n. not (bytes_eq name n)) ns) ≡ filter (λ n. not (bytes_eq name n)) ns
-twice name [] = refl
-twice name (n ∷ ns) = by (bytes_eq name n) refl (twice name ns)
-  where
-    by : (b : Bool) → bytes_eq name n ≡ b → filter (λ m. not (bytes_eq name m)) (filter (λ m. not (bytes_eq name m)) ns) ≡ filter (λ m. not (bytes_eq name m)) ns
-        → filter (λ m. not (bytes_eq name m)) (cond (not b) (n ∷ filter (λ m. not (bytes_eq name m)) ns) (filter (λ m. not (bytes_eq name m)) ns)) ≡ cond (not b) (n ∷ filter (λ m. not (bytes_eq name m)) ns) (filter (λ m. not (bytes_eq name m)) ns)
-    by true e ih = ih
-    by false e ih = rw e (ap (λ ms. n ∷ ms) ih)
-
 -- the names of one family's lines are one name, whatever follows
 one_name : (name : List ℕ) (first : Item) (others : List Item) (rest : List (List ℕ)) → first_of_each bytes_eq (names_of (own name (first ∷ others)) ++ rest) ≡ name ∷ filter (λ n. not (bytes_eq name n)) (first_of_each bytes_eq rest)
 one_name name first [] rest = refl
 one_name name first (item ∷ others) rest = ap (λ ns. name ∷ filter (λ n. not (bytes_eq name n)) ns) (one_name name item others rest)
-    ∙ ap (λ ns. name ∷ ns) (rw (own_name name) (twice name (first_of_each bytes_eq rest)))
+    ∙ ap (λ ns. name ∷ ns) (rw (own_name name) (filter-twice (λ n. not (bytes_eq name n)) (first_of_each bytes_eq rest)))
 
 names_append : (os ps : List Owned) → names_of (os ++ ps) ≡ names_of os ++ names_of ps
 names_append [] ps = refl

@@ -10,8 +10,9 @@ use Rattle.label_sets.specs.declared.label_set.LabelSet.{LabelSet}
 use Rattle.label_sets.specs.Lists.{some_passes}
 use Rattle.label_sets.specs.Names.{is_metric_name}
 use Rattle.label_sets.specs.Labels.{has_name, label_sets_eq}
+use Rattle.label_sets.proofs.Laws.{all-append, all-weaker}
 use Rattle.exact_decimal.specs.declared.number.Number.{Number}
-use Rattle.exact_decimal.specs.declared.number.Number.TheVariants.{Finite, Up, Down, NotANumber}
+use Rattle.exact_decimal.specs.declared.number.Number.TheVariants.{Finite, Up}
 use Rattle.exact_decimal.specs.Numbers.{number_of}
 use Rattle.exact_decimal.specs.Order.{less, same}
 use Rattle.exact_decimal.proofs.Laws.{same_itself}
@@ -28,7 +29,7 @@ use Rattle.page_model.specs.Owners.{Owned, kind_of, samples_of, group_of}
 use Rattle.page_model.specs.Rules.{is_histogram, is_bucket, is_count, is_up, is_bound, in_one_group, threshold, buckets_of_group, infinite_bucket, is_complete_at, is_incomplete, leaves_incomplete}
 use Rattle.open_writing.specs.Writing.{bare_sample, number_sample, with_number_label, bucket_sample, count_suffix, sum_suffix, total_samples, observations, value_samples, reading_samples}
 use Rattle.open_writing.specs.Forms.{IsFormedNumber, is_plain_value, is_u64, is_next_bucket, rise_to_infinity, IsFormedValue, IsFormedReading, label_sets_of}
-use Rattle.writing_laws.proofs.Turned.{turn, all-append, all-map, all-of, all-weaker, all-turn, all-flat, Pairs, any-front, some-turn, any-flat, square, any-behind}
+use Rattle.writing_laws.proofs.Turned.{turn, all-map, all-of, all-turn, all-flat, Pairs, any-front, some-turn, any-flat, square, any-behind}
 use Rattle.writing_laws.proofs.Blocks.{GoesOn}
 use Rattle.writing_laws.proofs.GroupedSamples.{same_group, written_threshold}
 use Rattle.writing_laws.proofs.ValuesBack.{suffix_is}
@@ -70,15 +71,11 @@ all_pass p (x ∷ xs) h = and_from (p x) (list_all p xs) h.0 (all_pass p xs h.1)
 not_above : (n : Number) → less Up n ≡ false
 unfolding less
 not_above (Finite d) = refl
-not_above Up = refl
-not_above Down = refl
-not_above NotANumber = refl
+not_above _ = refl
 
 not_up : (n m : Number) → less n m ≡ true → is_up n ≡ true → ⊥
-not_up (Finite d) m e u = absurd (let k : false ≡ true = u in cc)
 not_up Up m e u = absurd (let k : false ≡ true = sym (not_above m) ∙ e in cc)
-not_up Down m e u = absurd (let k : false ≡ true = u in cc)
-not_up NotANumber m e u = absurd (let k : false ≡ true = u in cc)
+not_up _ m e u = absurd (let k : false ≡ true = u in cc)
 
 -- a bucket without bound has the count of all
 unbounded : (bs : List Bucket) → rise_to_infinity bs ≡ true → AllByRecursion (λ (b : Bucket). is_up b.le ≡ true → b.count ≡ observations bs) bs
@@ -208,12 +205,7 @@ module _ (limit : ℕ) (family : List ℕ) where
   own_group : (kind : Kind) (labels : LabelSet) → is_histogram kind ≡ true → NoPlace kind labels → group_of kind family labels ≡ labels
   own_group Histogram labels h free = without_absent (codes "le") labels free
   own_group GaugeHistogram labels h free = without_absent (codes "le") labels free
-  own_group Counter labels h free = absurd (let k : false ≡ true = h in cc)
-  own_group Gauge labels h free = absurd (let k : false ≡ true = h in cc)
-  own_group StateSet labels h free = absurd (let k : false ≡ true = h in cc)
-  own_group Info labels h free = absurd (let k : false ≡ true = h in cc)
-  own_group Summary labels h free = absurd (let k : false ≡ true = h in cc)
-  own_group Unknown labels h free = absurd (let k : false ≡ true = h in cc)
+  own_group _ labels h free = absurd (let k : false ≡ true = h in cc)
 
   module _ (kind : Kind) (unit : List ℕ) (name : is_metric_name family ≡ true) (histogram : is_histogram kind ≡ true) where
     -- the form of a reading of this family

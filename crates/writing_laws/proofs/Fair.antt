@@ -14,6 +14,7 @@ use Rattle.label_sets.specs.declared.label.Label.{Label}
 use Rattle.label_sets.specs.declared.label_set.LabelSet.{LabelSet}
 use Rattle.label_sets.specs.Names.{is_metric_name}
 use Rattle.label_sets.specs.Labels.{has_name}
+use Rattle.label_sets.proofs.Laws.{all-append}
 use Rattle.exact_decimal.specs.declared.number.Number.{Number}
 use Rattle.exact_decimal.specs.declared.number.Number.TheVariants.{Finite}
 use Rattle.exact_decimal.specs.Decimals.{IsNormal}
@@ -32,7 +33,6 @@ use Rattle.page_model.specs.Rules.{has_suffix, is_bucket, is_count, is_bound, is
 use Rattle.page_model.specs.Readings.{key_name}
 use Rattle.open_writing.specs.Writing.{bare_sample, number_sample, with_number_label, bucket_sample, quantile_sample, total_samples, observations, value_samples, reading_samples}
 use Rattle.open_writing.specs.Forms.{IsFormedNumber, IsFormedOption, is_plain_value, is_taken_name, is_count_of_events, is_state, is_u64, is_u64_option, is_next_bucket, rise_to_infinity, IsFormedValue, IsFormedTime, IsFormedReading}
-use Rattle.writing_laws.proofs.Turned.{all-append}
 use Rattle.writing_laws.proofs.Spelled.{number_text_read, IsWritableSample}
 use Rattle.writing_laws.proofs.GroupedSamples.{value_inserted, without_inserted, written_threshold}
 use Rattle.writing_laws.proofs.BucketRules.{whole_count}

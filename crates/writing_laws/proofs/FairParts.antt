@@ -7,7 +7,7 @@ use Rattle.std.specs.Str.{bytes_eq, is_utf8}
 use Rattle.std.specs.Cmp.Lexicographic.{bytes_decides}
 use Rattle.std.proofs.lemmas.Map.Text.{is_eq-slice_cmp}
 use Rattle.std.proofs.Math.Seq.{drop-append_seam}
-use Rattle.label_sets.proofs.Laws.{same_tests, sorted_itself, sorted_ascending, distinct_before}
+use Rattle.label_sets.proofs.Laws.{same_tests, sorted_itself, sorted_ascending, distinct_before, all-weaker}
 use Rattle.std.proofs.lemmas.Bool.{and_parts, and_from}
 use Rattle.std.proofs.lemmas.List.Folds.{list_all-append}
 use Rattle.std.proofs.lemmas.List.Elements.{All-from_recursion, recursion_from_All}
@@ -36,7 +36,7 @@ use Rattle.page_model.specs.Rules.{has_bad_value, has_bad_threshold}
 use Rattle.page_model.specs.Readings.{reading_labels}
 use Rattle.open_writing.specs.Writing.{bare_sample, with_number_label}
 use Rattle.open_writing.specs.Forms.{IsFormedNumber, is_text_label}
-use Rattle.writing_laws.proofs.Turned.{any-none, all-weaker}
+use Rattle.writing_laws.proofs.Turned.{any-none}
 use Rattle.writing_laws.proofs.Spelled.{number_text_token, IsWritableSample}
 use Rattle.writing_laws.proofs.LineBytes.{number_line}
 use Rattle.writing_laws.proofs.BlocksBack.{turned}

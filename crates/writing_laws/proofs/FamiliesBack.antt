@@ -12,6 +12,7 @@ use Rattle.label_sets.specs.declared.label_set.LabelSet.{LabelSet}
 use Rattle.label_sets.specs.Lists.{first_of_each, first_some}
 use Rattle.label_sets.specs.Names.{is_metric_name}
 use Rattle.label_sets.specs.Labels.{label_sets_eq}
+use Rattle.label_sets.proofs.Laws.{all-weaker}
 use Rattle.page_model.specs.declared.format.Format.TheVariants.{OpenMetrics}
 use Rattle.page_model.specs.declared.format.Treatment.TheVariants as treatments
 use Rattle.page_model.specs.declared.item.Item.{Item}
@@ -28,9 +29,9 @@ use Rattle.page_model.specs.Readings.{key_name, reading_labels, value_with, valu
 use Rattle.open_writing.specs.Writing.{value_samples, reading_samples, item_unless_empty, family_samples, family_items, sample_lines, page_with, number_sample}
 use Rattle.open_writing.specs.Forms.{IsFormedReading, IsFormedFamily, label_sets_of}
 use Rattle.open_writing.specs.OpenForms.{IsBareReading}
-use Rattle.writing_laws.proofs.Turned.{turn, reverse-turn, all-weaker}
+use Rattle.writing_laws.proofs.Turned.{turn, reverse-turn}
 use Rattle.writing_laws.proofs.BlocksBack as lines
-use Rattle.writing_laws.proofs.BlocksBack.{Lines, owned_of, lines_in, said_by, names_back, said_back}
+use Rattle.writing_laws.proofs.BlocksBack.{Lines, owned_of, lines_in, names_back, said_back}
 use Rattle.writing_laws.proofs.ReadingsBack as parts
 use Rattle.writing_laws.proofs.ReadingsBack.{Part, samples_in, samples_of_all, AllShare, labels_back, own_back, GiveReadings, readings_back}
 use Rattle.writing_laws.proofs.FairParts.{IsFair}

@@ -10,14 +10,10 @@ use Rattle.page_model.specs.Written.{Setting}
 use Rattle.page_model.specs.Items.{is_eof, is_sample, are_one_sort}
 use Rattle.page_model.specs.Suffixes.{is_sample_name}
 use Rattle.page_model.specs.Owners.{Owned, is_of, kind_of, sample_owner, owned_lines, samples_of}
-use Rattle.page_model.specs.Rules.{is_open_metrics, is_after_eof, is_late_descriptor, is_split, is_bad_unit, has_forbidden_unit, leaves_incomplete, is_unit, is_foreign_unit, gives_unit, is_info_or_state_set, is_bad_exemplar, is_interleaved, has_wrong_suffix, is_duplicate, has_bad_value, has_bad_threshold, is_out_of_order, is_past_limit}
+use Rattle.page_model.specs.Rules.{is_after_eof, is_late_descriptor, is_split, is_bad_unit, has_forbidden_unit, leaves_incomplete, is_unit, is_foreign_unit, is_info_or_state_set, is_bad_exemplar, is_interleaved, has_wrong_suffix, is_duplicate, has_bad_value, has_bad_threshold, is_out_of_order, is_past_limit}
 use Rattle.page_model.specs.Faults.{sample_breaks, owned_breaks, item_breaks, item_fault}
 use Rattle.page_model.specs.Pages.{AreFaultless}
-use Rattle.writing_laws.proofs.Blocks.{own_name, GoesOn, owned_here, Fit, block, MayBegin}
-
-and_none : (b : Bool) → (b && false) ≡ false
-and_none true = refl
-and_none false = refl
+use Rattle.writing_laws.proofs.Blocks.{own_name, GoesOn, owned_here, Fit, block, MayBegin, none_owned, not_behind_eof, no_unit_yet}
 
 -- ---- a sample
 
@@ -43,10 +39,6 @@ right_suffix st kind family s e = rw e refl
 pub within_limit : (st : Setting) (earlier : List Item) → nat_le st.limit (count_by is_sample earlier) ≡ false → is_past_limit st earlier ≡ false
 unfolding is_past_limit
 within_limit st earlier e = e
-
-pub not_behind_eof : (st : Setting) (earlier : List Item) → list_any is_eof earlier ≡ false → is_after_eof st earlier ≡ false
-unfolding is_after_eof
-not_behind_eof st earlier h = rw h (and_none (is_open_metrics st.format))
 
 pub stays_in : (family : List ℕ) (item nearest : Item) (others : List Owned) → is_split (record { family = family; item = nearest } ∷ others) (record { family = family; item = item }) ≡ false
 unfolding is_split
@@ -104,18 +96,6 @@ samples_are_free st earlier family kind (s ∷ ss) no_eof g f h =
 abbrev pub with_type : List ℕ → Kind → List Item → List Item
 with_type family kind earlier = items.KindOf family kind ∷ earlier
 
-pub none_late : (family : List ℕ) (test : Owned → Bool) (above : List Owned) → list_any (is_of family) above ≡ false → list_any (λ o. is_of family o && test o) above ≡ false
-none_late family test [] h = refl
-none_late family test (o ∷ above) h = go (is_of family o) h (none_late family test above)
-  where
-    go : (b : Bool) → (b || list_any (is_of family) above) ≡ false → (list_any (is_of family) above ≡ false → list_any (λ p. is_of family p && test p) above ≡ false)
-        → ((b && test o) || list_any (λ p. is_of family p && test p) above) ≡ false
-    go true e ih = absurd cc
-    go false e ih = ih e
-
-no_unit_yet : (family : List ℕ) (above : List Owned) → list_any (is_of family) above ≡ false → list_any (gives_unit family) above ≡ false
-no_unit_yet family above h = none_late family _ above h
-
 -- the unit is one that the family's kind allows and that its name ends with
 pub unit_is_right : (family unit : List ℕ) (kind : Kind) (above : List Owned) → list_any (is_of family) above ≡ false → is_foreign_unit family unit ≡ false → (is_info_or_state_set kind && is_unit unit) ≡ false
     → is_bad_unit (record { family = family; item = items.KindOf family kind } ∷ above) (record { family = family; item = items.Unit family unit }) ≡ false
@@ -133,14 +113,14 @@ pub unit_is_free : (st : Setting) (earlier : List Item) (family unit : List ℕ)
 unfolding item_fault item_breaks owned_breaks is_late_descriptor owned_lines
 unit_is_free st earlier family unit kind m foreign allowed =
     let above = owned_lines st.format earlier in
-    let late : list_any (λ o. is_of family o && (are_one_sort (items.Unit family unit) o.item || is_sample o.item)) above ≡ false = none_late family (λ o. are_one_sort (items.Unit family unit) o.item || is_sample o.item) above m.new in
+    let late : list_any (λ o. is_of family o && (are_one_sort (items.Unit family unit) o.item || is_sample o.item)) above ≡ false = none_owned family (λ o. are_one_sort (items.Unit family unit) o.item || is_sample o.item) above m.new in
     let no_eof : is_after_eof st (with_type family kind earlier) ≡ false = not_behind_eof st (with_type family kind earlier) m.no_eof in
     rw (no_eof, own_name family, late, stays_in family (items.Unit family unit) (items.KindOf family kind) above, leaves_nothing st family (items.KindOf family kind) above, unit_is_right family unit kind above m.new foreign allowed) refl
 
 help_after : (family text : List ℕ) (kind : Kind) (above : List Owned) → list_any (is_of family) above ≡ false
     → is_late_descriptor (record { family = family; item = items.KindOf family kind } ∷ above) (record { family = family; item = items.Help family text }) ≡ false
 unfolding is_late_descriptor
-help_after family text kind above h = rw (own_name family, none_late family (λ o. are_one_sort (items.Help family text) o.item || is_sample o.item) above h) refl
+help_after family text kind above h = rw (own_name family, none_owned family (λ o. are_one_sort (items.Help family text) o.item || is_sample o.item) above h) refl
 
 no_unit_in_help : (family text : List ℕ) (kind : Kind) (above : List Owned) → list_any (is_of family) above ≡ false
     → is_bad_unit (record { family = family; item = items.KindOf family kind } ∷ above) (record { family = family; item = items.Help family text }) ≡ false

@@ -8,6 +8,7 @@ use Rattle.std.proofs.lemmas.List.Sums.{sum_by-cons}
 use Rattle.label_sets.specs.declared.kind.Kind.{Kind}
 use Rattle.label_sets.specs.declared.label_set.LabelSet.{LabelSet}
 use Rattle.label_sets.specs.Labels.{label_sets_eq}
+use Rattle.label_sets.proofs.Laws.{all-weaker, any-map}
 use Rattle.page_model.specs.declared.format.Format.TheVariants.{OpenMetrics}
 use Rattle.page_model.specs.declared.format.Treatment.TheVariants as treatments
 use Rattle.page_model.specs.declared.item.Item.{Item}
@@ -17,7 +18,7 @@ use Rattle.page_model.specs.Written.{Setting, open_setting}
 use Rattle.page_model.specs.Items.{is_sample}
 use Rattle.page_model.specs.Owners.{Owned, owned_lines, samples_of, group_of}
 use Rattle.page_model.specs.Rules.{is_interleaved, is_duplicate, is_out_of_order}
-use Rattle.writing_laws.proofs.Turned.{turn, all-weaker, Each, any-map}
+use Rattle.writing_laws.proofs.Turned.{turn, Each}
 use Rattle.writing_laws.proofs.Blocks.{own, own_name, GoesOn, Fit, block}
 use Rattle.writing_laws.proofs.FamilyBlocks.{IsFree, AreFree}
 use Rattle.writing_laws.proofs.FairParts.{or_none, and_first, and_last, IsFair}

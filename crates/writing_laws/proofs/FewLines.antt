@@ -8,12 +8,11 @@ use Rattle.std.proofs.lemmas.Bool.{not-true}
 use Rattle.std.proofs.lemmas.List.{reverse-append}
 use Rattle.std.proofs.lemmas.List.Sums.{sum_by-cons}
 use Rattle.label_sets.specs.declared.kind.Kind.{Kind}
-use Rattle.label_sets.specs.declared.kind.Kind.TheVariants.{Counter, Gauge, Histogram, GaugeHistogram, StateSet, Info, Summary, Unknown}
+use Rattle.label_sets.specs.declared.kind.Kind.TheVariants.{Counter, Histogram, GaugeHistogram, Info, Summary}
 use Rattle.label_sets.specs.declared.label_set.LabelSet.{LabelSet}
 use Rattle.label_sets.specs.Lists.{first_of_each}
 use Rattle.label_sets.specs.Labels.{label_sets_eq}
-use Rattle.label_sets.proofs.Laws.{distinct_kept}
-use Rattle.page_model.proofs.Laws.{label_sets_decide}
+use Rattle.label_sets.proofs.Laws.{distinct_kept, filter-passes}
 use Rattle.exact_decimal.specs.declared.number.Number.{Number}
 use Rattle.exact_decimal.specs.Order.{whole}
 use Rattle.page_model.specs.declared.format.Format.{Format}
@@ -35,6 +34,7 @@ use Rattle.page_model.specs.Pages.{items_of, AreSomeOf, IsThinnerReading, AreThi
 use Rattle.open_writing.specs.Pieces.{option_count, value_lines, reading_lines, family_lines}
 use Rattle.open_writing.proofs.Laws.{families_counted}
 use Rattle.writing_laws.specs.WritingLaws.{WritesFewLines}
+use Rattle.writing_laws.proofs.Together.{same_set}
 
 -- ---- sums
 
@@ -123,18 +123,10 @@ at_most_one eq same y k (l ∷ ls) d = go (eq y l) refl (at_most_one eq same y k
         let rest : total (λ m. cond (eq y m) k 0) ls ≡ 0 = nothing_else (eq y) k ls (subst (λ z. AllByRecursion (λ m. eq z m ≡ false) ls) (sym (same y l e)) d.0) in
         omega (arith, rest)
 
-passes : {A : Type 0} (p : A → Bool) (xs : List A) → AllByRecursion (λ x. p x ≡ true) (filter p xs)
-passes p [] = tt
-passes p (x ∷ xs) = go (p x) refl (passes p xs)
-  where
-    go : (b : Bool) → p x ≡ b → AllByRecursion (λ y. p y ≡ true) (filter p xs) → AllByRecursion (λ y. p y ≡ true) (cond b (x ∷ filter p xs) (filter p xs))
-    go true e ih = (e, ih)
-    go false e ih = ih
-
 pub firsts_distinct : {A : Type 0} (eq : A → A → Bool) (xs : List A) → IsDistinct eq (first_of_each eq xs)
 unfolding IsDistinct
 firsts_distinct eq [] = tt
-firsts_distinct eq (x ∷ xs) = (others (filter (λ y. not (eq x y)) (first_of_each eq xs)) (passes (λ y. not (eq x y)) (first_of_each eq xs)), distinct_kept eq (λ y. not (eq x y)) (first_of_each eq xs) (firsts_distinct eq xs))
+firsts_distinct eq (x ∷ xs) = (others (filter (λ y. not (eq x y)) (first_of_each eq xs)) (filter-passes (λ y. not (eq x y)) (first_of_each eq xs)), distinct_kept eq (λ y. not (eq x y)) (first_of_each eq xs) (firsts_distinct eq xs))
   where
     others : (ys : List _) → AllByRecursion (λ y. not (eq x y) ≡ true) ys → AllByRecursion (λ y. eq x y ≡ false) ys
     others [] h = tt
@@ -148,9 +140,6 @@ parts_within eq same f xs ls d =
     let each = total-le (λ x. total (λ l. cond (eq (f x) l) 1 0) ls) (λ x. 1) (λ x. at_most_one eq same (f x) 1 ls d) xs in
     let ones = total-ones xs in
     omega (arith, counted, turned, each, ones)
-
-same_sets : (a b : LabelSet) → label_sets_eq a b ≡ true → a ≡ b
-same_sets a b e = (label_sets_decide a b).0 e
 
 pub same_bytes : (a b : List ℕ) → bytes_eq a b ≡ true → a ≡ b
 same_bytes a b e = (bytes_decides a b).0 e
@@ -274,12 +263,10 @@ module _ (family : List ℕ) where
   unfolding value_of
   value_bound f Counter own = plain_lines (counter_suffix f) own
   value_bound f Info own = plain_lines (codes "_info") own
-  value_bound f Gauge own = plain_lines [] own
-  value_bound f StateSet own = plain_lines [] own
-  value_bound f Unknown own = plain_lines [] own
   value_bound f Histogram own = bucket_lines own
   value_bound f GaugeHistogram own = bucket_lines own
   value_bound f Summary own = where_some _ _ (value_with family (codes "_created") own) (length own + length own) (quantile_lines own)
+  value_bound f _ own = plain_lines [] own
 
   -- ---- the readings of a family
 
@@ -326,7 +313,7 @@ module _ (family : List ℕ) where
         let told = readings_total (reading_of st kind family unit samples) ls in
         let each = total-le (λ l. option_lines (reading_of st kind family unit samples l)) (λ l. part l + part l) (reading_bound samples) ls in
         let both = total-both part part ls in
-        let within = parts_within label_sets_eq same_sets (reading_labels st kind family) samples ls (firsts_distinct label_sets_eq (map (reading_labels st kind family) samples)) in
+        let within = parts_within label_sets_eq same_set (reading_labels st kind family) samples ls (firsts_distinct label_sets_eq (map (reading_labels st kind family) samples)) in
         omega (arith, listed, told, each, both, within)
 
 -- ---- the families of a page

@@ -17,8 +17,8 @@ use Rattle.page_model.specs.Faults.{owned_breaks, item_breaks, item_fault}
 use Rattle.page_model.specs.Pages.{AreFaultless}
 use Rattle.open_writing.specs.Writing.{item_unless_empty, family_samples, family_items}
 use Rattle.writing_laws.proofs.Turned.{turn, turn-append, turn-map}
-use Rattle.writing_laws.proofs.Blocks.{own, own_name, GoesOn, kind_kept, goes_further, begins, MayBegin, type_is_free}
-use Rattle.writing_laws.proofs.FamilyBlocks.{not_behind_eof, stays_in, leaves_nothing, none_late, with_type, unit_is_free, help_is_free}
+use Rattle.writing_laws.proofs.Blocks.{own, own_name, GoesOn, kind_kept, goes_further, begins, MayBegin, type_is_free, none_owned, not_behind_eof}
+use Rattle.writing_laws.proofs.FamilyBlocks.{stays_in, leaves_nothing, with_type, unit_is_free, help_is_free}
 
 and_not : (b : Bool) → (b && not b) ≡ false
 and_not true = refl
@@ -34,7 +34,7 @@ help_no_unit family text above =
 help_after_unit : (family unit text : List ℕ) (kind : Kind) (above : List Owned) → list_any (is_of family) above ≡ false
     → is_late_descriptor (record { family = family; item = items.Unit family unit } ∷ record { family = family; item = items.KindOf family kind } ∷ above) (record { family = family; item = items.Help family text }) ≡ false
 unfolding is_late_descriptor
-help_after_unit family unit text kind above h = rw (own_name family, none_late family (λ o. are_one_sort (items.Help family text) o.item || is_sample o.item) above h) refl
+help_after_unit family unit text kind above h = rw (own_name family, none_owned family (λ o. are_one_sort (items.Help family text) o.item || is_sample o.item) above h) refl
 
 -- HELP behind TYPE and UNIT
 help_behind_unit : (st : Setting) (earlier : List Item) (family unit text : List ℕ) (kind : Kind) → MayBegin st earlier family → item_fault st (items.Unit family unit ∷ with_type family kind earlier) (items.Help family text) ≡ None

@@ -46,7 +46,7 @@ fine_line (c ∷ cs) h =
     let plain : is_line_feed c ≡ false = grind (arith, nat_tests) in
     record { utf8 = IsUtf8-append (c ∷ []) cs (subst IsUtf8 (encode_ascii c small) (IsUtf8-encode c (low_scalar c (omega (arith, small))))) rest.utf8; plain = (plain, rest.plain) }
 
-all_more : (p q : ℕ → Bool) → ((c : ℕ) → p c ≡ true → q c ≡ true) → (cs : List ℕ) → list_all p cs ≡ true → list_all q cs ≡ true
+pub all_more : (p q : ℕ → Bool) → ((c : ℕ) → p c ≡ true → q c ≡ true) → (cs : List ℕ) → list_all p cs ≡ true → list_all q cs ≡ true
 all_more p q more [] h = refl
 all_more p q more (c ∷ cs) h = let both = and_parts (p c) (list_all p cs) h in and_from (q c) (list_all q cs) (more c both.0) (all_more p q more cs both.1)
 
@@ -59,19 +59,29 @@ label_fine c h = grind (arith, nat_tests)
 token_fine : (c : ℕ) → is_token_char c ≡ true → is_fine c ≡ true
 token_fine c h = grind (arith, nat_tests)
 
+-- all characters of a name are of one sort, where the first may be fewer of them
+all_from : (start char : ℕ → Bool) → ((c : ℕ) → start c ≡ true → char c ≡ true) → (c : ℕ) (cs : List ℕ) → (start c && list_all char cs) ≡ true → list_all char (c ∷ cs) ≡ true
+all_from start char is c cs h = let both = and_parts (start c) (list_all char cs) h in and_from (char c) (list_all char cs) (is c both.0) both.1
+
+metric_starts : (c : ℕ) → is_metric_start c ≡ true → is_metric_char c ≡ true
+metric_starts c h = grind (arith, nat_tests)
+
+label_starts : (c : ℕ) → is_label_start c ≡ true → is_label_char c ≡ true
+label_starts c h = grind (arith, nat_tests)
+
+pub metric_chars : (name : List ℕ) → is_metric_name name ≡ true → list_all is_metric_char name ≡ true
+metric_chars [] h = absurd cc
+metric_chars (c ∷ cs) h = all_from is_metric_start is_metric_char metric_starts c cs h
+
+pub label_chars : (name : List ℕ) → is_label_name name ≡ true → list_all is_label_char name ≡ true
+label_chars [] h = absurd cc
+label_chars (c ∷ cs) h = all_from is_label_start is_label_char label_starts c cs h
+
 pub metric_name_line : (name : List ℕ) → is_metric_name name ≡ true → IsLineText name
-metric_name_line [] h = absurd cc
-metric_name_line (c ∷ cs) h =
-    let both = and_parts (is_metric_start c) (list_all is_metric_char cs) h in
-    let first : is_metric_char c ≡ true = grind (arith, nat_tests) in
-    fine_line (c ∷ cs) (and_from (is_fine c) (list_all is_fine cs) (metric_fine c first) (all_more is_metric_char is_fine metric_fine cs both.1))
+metric_name_line name h = fine_line name (all_more is_metric_char is_fine metric_fine name (metric_chars name h))
 
 pub label_name_line : (name : List ℕ) → is_label_name name ≡ true → IsLineText name
-label_name_line [] h = absurd cc
-label_name_line (c ∷ cs) h =
-    let both = and_parts (is_label_start c) (list_all is_label_char cs) h in
-    let first : is_label_char c ≡ true = grind (arith, nat_tests) in
-    fine_line (c ∷ cs) (and_from (is_fine c) (list_all is_fine cs) (label_fine c first) (all_more is_label_char is_fine label_fine cs both.1))
+label_name_line name h = fine_line name (all_more is_label_char is_fine label_fine name (label_chars name h))
 
 pub unit_line : (unit : List ℕ) → list_all is_metric_char unit ≡ true → IsLineText unit
 unit_line unit h = fine_line unit (all_more is_metric_char is_fine metric_fine unit h)

@@ -108,16 +108,13 @@ pub item_again : (item : Item) → IsWritableItem item → HasLabelSet item → 
 unfolding written_form
 item_again items.Blank h l = absurd h
 item_again items.Comment h l = absurd h
-item_again items.Eof h l = refl
-item_again (items.Help name text) h l = refl
-item_again (items.KindOf name kind) h l = refl
-item_again (items.Unit name unit) h l = refl
 item_again (items.Sample s) h l = ap items.Sample (
     let set = set_itself s.labels l.0 in
     let value = number_back s.value h.value in
     let same : record { name = s.name; labels = s.labels; value = s.value; stamp = s.stamp; exemplar = s.exemplar } ≡ record { name = s.name; labels = label_set s.labels; value = number (number_text s.value); stamp = None; exemplar = None }
     = λ i. record { name = s.name; labels = sym set i; value = sym value i; stamp = h.no_stamp i; exemplar = h.no_exemplar i } in
     same)
+item_again _ h l = refl
 
 -- ---- its own rules
 
@@ -128,13 +125,8 @@ none_broken st bytes w long utf8 range labels = rw (long, utf8, range, labels) r
 
 range_kept : (item : Item) → IsWritableItem item → has_out_of_range OpenMetrics (written_form item) ≡ false
 unfolding written_form
-range_kept items.Blank h = refl
-range_kept items.Comment h = refl
-range_kept items.Eof h = refl
-range_kept (items.Help name text) h = refl
-range_kept (items.KindOf name kind) h = refl
-range_kept (items.Unit name unit) h = refl
 range_kept (items.Sample s) h = rw (in_range s.value h.value) refl
+range_kept _ h = refl
 
 labels_kept : (item : Item) → HasLabelSet item → has_bad_labels treatments.Written (written_form item) ≡ false
 unfolding written_form

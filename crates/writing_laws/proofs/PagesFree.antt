@@ -11,6 +11,7 @@ use Rattle.label_sets.specs.declared.kind.Kind.{Kind}
 use Rattle.label_sets.specs.declared.label_set.LabelSet.{LabelSet}
 use Rattle.label_sets.specs.Lists.{some_passes}
 use Rattle.label_sets.specs.Names.{is_metric_char}
+use Rattle.label_sets.proofs.Laws.{all-append, all-weaker, any-map}
 use Rattle.exact_decimal.specs.Numbers.{number_of}
 use Rattle.page_model.specs.declared.format.Format.TheVariants.{OpenMetrics}
 use Rattle.page_model.specs.declared.format.Treatment.TheVariants as treatments
@@ -32,12 +33,12 @@ use Rattle.page_model.specs.Readings.{key_name}
 use Rattle.open_writing.specs.Writing.{bare_sample, number_sample, bucket_sample, quantile_sample, value_samples, reading_samples, item_unless_empty, family_samples, family_items, page_items, item_text}
 use Rattle.open_writing.specs.FamilyKeys.{FamilyKey, family_key, sample_names, share_sample_name, clash, AreApart}
 use Rattle.open_writing.specs.Forms.{rise_to_infinity, IsFormedValue, IsFormedReading, IsFormedFamily, label_sets_of, stand_together}
-use Rattle.writing_laws.proofs.Turned.{turn, turn-append, turn-map, turn-mapped, any-turn, all-append, all-map, all-of, all-weaker, all-turn, all-flat, all-both, none-append, any-map, Pairs, Each, each-pairs, map-append}
+use Rattle.writing_laws.proofs.Turned.{turn, turn-append, turn-map, turn-mapped, any-turn, all-map, all-of, all-turn, all-flat, all-both, none-append, Pairs, Each, each-pairs, map-append}
 use Rattle.writing_laws.proofs.Spelled.{IsWritableItem}
 use Rattle.writing_laws.proofs.LineRules.{HasText, HasLabelSet}
 use Rattle.writing_laws.proofs.TextOfItems.{IsWritableLine, AreWritableLines}
-use Rattle.writing_laws.proofs.Blocks.{own, block, MayBegin}
-use Rattle.writing_laws.proofs.FamilyBlocks.{not_behind_eof, no_eof_behind, samples_are_free}
+use Rattle.writing_laws.proofs.Blocks.{own, block, MayBegin, not_behind_eof}
+use Rattle.writing_laws.proofs.FamilyBlocks.{no_eof_behind, samples_are_free}
 use Rattle.writing_laws.proofs.FairParts.{or_none, and_first, IsFair}
 use Rattle.writing_laws.proofs.Fair.{fair_reading}
 use Rattle.writing_laws.proofs.Together.{NotBack, IsRun, samples_together}

@@ -2,17 +2,18 @@
 use Rattle.std.proofs.Common.{◌≡◌, ℕ, ◌+◌, ◌≤◌, Bool, true, false, cond, not, List, [], ◌∷◌, length, Option, Some, None, Result, Ok, Err, option_map, option_and_then, refl, sym, subst, arith, inl, inr, IsUtf8}
 use Rattle.std.specs.Prelude.{⊤, nat_le}
 use Rattle.std.specs.List.{list_all, fold, AllByRecursion}
-use Rattle.std.specs.Option.{option_or, option_map_or}
+use Rattle.std.specs.Option.{option_map_or}
 use Rattle.std.specs.Str.{is_utf8}
 use Rattle.std.proofs.lemmas.Bool.{and_parts, or_parts, false_from_ne_true, not-false}
 use Rattle.std.proofs.lemmas.Bool.Decides.{nat_tests}
 use Rattle.std.proofs.lemmas.Str.{IsUtf8-from_is_utf8}
 use Rattle.label_sets.specs.declared.kind.Kind.{Kind}
-use Rattle.label_sets.specs.declared.kind.Kind.TheVariants.{Counter, Gauge, Histogram, GaugeHistogram, StateSet, Info, Summary, Unknown}
+use Rattle.label_sets.specs.declared.kind.Kind.TheVariants.{Counter, GaugeHistogram, StateSet, Info}
 use Rattle.label_sets.specs.Lists.{some_passes}
 use Rattle.label_sets.specs.Labels.{has_distinct_names}
 use Rattle.label_sets.specs.Names.{is_metric_name, is_metric_char}
 use Rattle.label_sets.specs.Sets.{IsLabelSet}
+use Rattle.label_sets.proofs.Laws.{option_or-none, option_map-none}
 use Rattle.exact_decimal.specs.declared.number.Number.{Number}
 use Rattle.exact_decimal.specs.declared.number.Number.TheVariants.{Finite, Up, Down, NotANumber}
 use Rattle.exact_decimal.specs.declared.number.NumberFault.{NumberFault}
@@ -32,8 +33,8 @@ use Rattle.page_model.specs.Written.{Written, WrittenSample, WrittenExemplar, Se
 use Rattle.page_model.specs.Rules.{is_open_metrics}
 use Rattle.page_model.specs.Suffixes.{is_sample_name}
 use Rattle.page_model.specs.Owners.{Owned, kind_of, sample_owner, owner_of, with_owner, owned_lines}
-use Rattle.page_model.specs.Faults.{Line, line_breaks, line_rules, own_fault, item_fault, line_fault, end_fault, with_line, fault_from}
-use Rattle.page_model.specs.Pages.{Spells, SaysWhatItSpells, AreLines, AreFaultless}
+use Rattle.page_model.specs.Faults.{Line, line_breaks, line_rules, own_fault, item_fault, line_fault, with_line, fault_from}
+use Rattle.page_model.specs.Pages.{Spells, SaysWhatItSpells, AreLines}
 use Rattle.page_model.proofs.Laws.{none_found}
 use Rattle.open_writing.specs.Forms.{IsFormedNumber, is_text_label, is_kind_in}
 use Rattle.writing_laws.proofs.ReadTexts.{utf8_trimmed, open_sample_labels, open_help_text, text_sample_labels, text_help_text}
@@ -70,14 +71,10 @@ read_number token = go (number_read token) refl
     go (Err x) e = tt
 
 text_kind : (kind : Kind) (word : List ℕ) → text_kind_word kind ≡ Some word → is_kind_in Text kind ≡ true
-text_kind Counter word e = refl
-text_kind Gauge word e = refl
-text_kind Histogram word e = refl
-text_kind Summary word e = refl
-text_kind Unknown word e = refl
 text_kind GaugeHistogram word e = absurd cc
 text_kind StateSet word e = absurd cc
 text_kind Info word e = absurd cc
+text_kind _ word e = refl
 
 formed_sample : (f : Format) (t : Treatment) (name : List ℕ) (w : WrittenSample) (value : Number) → is_metric_name w.name ≡ true → list_all is_text_label w.labels ≡ true → has_bad_labels t (sample w) ≡ false → IsFormedItem f t (item_of f (sample w))
 formed_sample f t name w value named text ok =
@@ -96,22 +93,16 @@ formed_text t bytes (type_line name kind) u ok s = (s.metric_name, text_kind kin
 formed_text t bytes (unit_line name unit) u ok s = absurd s
 formed_text t bytes (sample w) u ok s = formed_sample Text t w.name w NotANumber s.metric_name (text_sample_labels (trimmed bytes) w s (utf8_trimmed bytes u)) ok
 
-open_kind : (kind : Kind) → is_kind_in OpenMetrics kind ≡ true
-open_kind Counter = refl
-open_kind Gauge = refl
-open_kind Histogram = refl
-open_kind Summary = refl
-open_kind Unknown = refl
-open_kind GaugeHistogram = refl
-open_kind StateSet = refl
-open_kind Info = refl
+pub kind_in_open : (kind : Kind) → is_kind_in OpenMetrics kind ≡ true
+kind_in_open Counter = refl
+kind_in_open _ = refl
 
 formed_open : (t : Treatment) (bytes : List ℕ) (w : Written) → IsUtf8 bytes → has_bad_labels t w ≡ false → SpellsOpen bytes w → IsFormedItem OpenMetrics t (item_of OpenMetrics w)
 formed_open t bytes blank u ok s = absurd s
 formed_open t bytes comment u ok s = absurd s
 formed_open t bytes eof u ok s = tt
 formed_open t bytes (help name text) u ok s = (s.1, open_help_text bytes name text s u)
-formed_open t bytes (type_line name kind) u ok s = (s.0, open_kind kind)
+formed_open t bytes (type_line name kind) u ok s = (s.0, kind_in_open kind)
 formed_open t bytes (unit_line name unit) u ok s = (s.0, s.1, refl)
 formed_open t bytes (sample w) u ok s = formed_sample OpenMetrics t w.name w NotANumber s.3 (open_sample_labels bytes w s u) ok
 
@@ -128,46 +119,24 @@ formed_line st l w says spelled none =
     let labels : some_passes (has_bad_labels st.treatment) l.says ≡ false = false_from_ne_true (some_passes (has_bad_labels st.treatment) l.says) (λ e. none_found (line_breaks st l) line_rules none rules.Labels (inr (inr (inr (inr (inl refl))))) e) in
     formed_written st.format st.treatment l.bytes w (IsUtf8-from_is_utf8 l.bytes (not-false (is_utf8 l.bytes) utf8)) (subst (λ s. some_passes (has_bad_labels st.treatment) s ≡ false) says labels) spelled
 
-pub none_of : {A : Type 0} (a b : Option A) → option_or a b ≡ None → (a ≡ None) × (b ≡ None)
-none_of None b h = (refl, h)
-none_of (Some x) b h = absurd cc
+-- what holds of what each line without a fault says holds of the items of all, behind others
+pub said_lines : (st : Setting) (P : Item → Type 0) → ((l : Line) (w : Written) → l.says ≡ Some w → Spells st.format l.bytes w → own_fault st l ≡ None → P (item_of st.format w)) → (ls : List Line) (pieces : List (List ℕ)) (earlier : List Item) (n : ℕ) (clean : Bool)
+    → AreLines st.format pieces ls → fault_from st earlier n ls clean ≡ None → AllByRecursion P earlier → AllByRecursion P (fold (λ above l. with_line st.format l above) earlier ls)
+unfolding fault_from line_fault
+said_lines st P says [] pieces earlier n clean are none h = h
+said_lines st P says (l ∷ ls) [] earlier n clean are none h = absurd are
+said_lines st P says (l ∷ ls) (piece ∷ pieces) earlier n clean are none h =
+    let both = option_or-none (option_map (λ (rule : Rule). (n, rule)) (line_fault st earlier l)) (fault_from st (with_line st.format l earlier) (n + 1) ls clean) none in
+    let own = option_or-none (own_fault st l) (option_and_then (λ w. item_fault st earlier (item_of st.format w)) l.says) (option_map-none (λ (rule : Rule). (n, rule)) (line_fault st earlier l) both.0) in
+    said_lines st P says ls pieces (with_line st.format l earlier) (n + 1) clean are.2 both.1 (by l.says refl own.0)
+  where
+    by : (said : Option Written) → l.says ≡ said → own_fault st l ≡ None → AllByRecursion P (option_map_or (λ w. item_of st.format w ∷ earlier) said earlier)
+    by None e own = h
+    by (Some w) e own = (says l w e (subst (λ b. Spells st.format b w) (sym are.0) (subst (SaysWhatItSpells st.format piece) e are.1)) own, h)
 
-pub none_mapped : {A B : Type 0} (f : A → B) (o : Option A) → option_map f o ≡ None → o ≡ None
-none_mapped f None h = refl
-none_mapped f (Some x) h = absurd cc
-
--- the items of lines without a fault, behind others
 pub formed_lines : (ls : List Line) (pieces : List (List ℕ)) (st : Setting) (earlier : List Item) (n : ℕ) (clean : Bool) → AreLines st.format pieces ls → fault_from st earlier n ls clean ≡ None
     → AllByRecursion (IsFormedItem st.format st.treatment) earlier → AllByRecursion (IsFormedItem st.format st.treatment) (fold (λ above l. with_line st.format l above) earlier ls)
-unfolding fault_from line_fault
-formed_lines [] pieces st earlier n clean are none h = h
-formed_lines (l ∷ ls) [] st earlier n clean are none h = absurd are
-formed_lines (l ∷ ls) (piece ∷ pieces) st earlier n clean are none h =
-    let both = none_of (option_map (λ (rule : Rule). (n, rule)) (line_fault st earlier l)) (fault_from st (with_line st.format l earlier) (n + 1) ls clean) none in
-    let own = none_of (own_fault st l) (option_and_then (λ w. item_fault st earlier (item_of st.format w)) l.says) (none_mapped (λ (rule : Rule). (n, rule)) (line_fault st earlier l) both.0) in
-    formed_lines ls pieces st (with_line st.format l earlier) (n + 1) clean are.2 both.1 (by l.says refl own.0)
-  where
-    by : (says : Option Written) → l.says ≡ says → own_fault st l ≡ None → AllByRecursion (IsFormedItem st.format st.treatment) (option_map_or (λ w. item_of st.format w ∷ earlier) says earlier)
-    by None e own = h
-    by (Some w) e own = (formed_line st l w e (subst (λ b. Spells st.format b w) (sym are.0) (subst (SaysWhatItSpells st.format piece) e are.1)) own, h)
-
--- a line without a fault has an item without one, where it has an item
-free_line : (st : Setting) (l : Line) (earlier : List Item) → line_fault st earlier l ≡ None → AreFaultless st earlier → AreFaultless st (with_line st.format l earlier)
-unfolding line_fault
-free_line st l earlier none free = by l.says (none_of (own_fault st l) (option_and_then (λ w. item_fault st earlier (item_of st.format w)) l.says) none).1
-  where
-    by : (says : Option Written) → option_and_then (λ w. item_fault st earlier (item_of st.format w)) says ≡ None → AreFaultless st (option_map_or (λ w. item_of st.format w ∷ earlier) says earlier)
-    by None h = free
-    by (Some w) h = (h, free)
-
--- the items of lines without a fault break no rule, and neither does the end behind them
-pub free_lines : (ls : List Line) (st : Setting) (earlier : List Item) (n : ℕ) (clean : Bool) → fault_from st earlier n ls clean ≡ None → AreFaultless st earlier
-    → AreFaultless st (fold (λ above l. with_line st.format l above) earlier ls) × (end_fault st (fold (λ above l. with_line st.format l above) earlier ls) clean ≡ None)
-unfolding fault_from
-free_lines [] st earlier n clean none free = (free, none_mapped (λ (rule : Rule). (n, rule)) (end_fault st earlier clean) none)
-free_lines (l ∷ ls) st earlier n clean none free =
-    let both = none_of (option_map (λ (rule : Rule). (n, rule)) (line_fault st earlier l)) (fault_from st (with_line st.format l earlier) (n + 1) ls clean) none in
-    free_lines ls st (with_line st.format l earlier) (n + 1) clean both.1 (free_line st l earlier (none_mapped (λ (rule : Rule). (n, rule)) (line_fault st earlier l) both.0) free)
+formed_lines ls pieces st = said_lines st (IsFormedItem st.format st.treatment) (formed_line st) ls pieces
 
 -- ---- owners
 

@@ -10,13 +10,13 @@ use Rattle.label_sets.specs.declared.label_set.LabelSet.{LabelSet}
 use Rattle.label_sets.specs.Names.{is_label_name}
 use Rattle.label_sets.specs.Labels.{name_before, has_value, label_inserted, labels_sorted, label_set, has_name, repeated_at, has_distinct_names, without_label, exported_name, is_target_name, label_renamed, renamed}
 use Rattle.label_sets.specs.Sets.{IsLabelSet}
-use Rattle.label_sets.proofs.Laws.{IsLabelSet-renamed, IsLabelSet-label_set, distinct_from_repeated_at}
+use Rattle.label_sets.proofs.Laws.{IsLabelSet-renamed, IsLabelSet-label_set, distinct_from_repeated_at, length-inserted}
 use Rattle.page_model.specs.declared.format.Treatment.{Treatment}
 use Rattle.page_model.specs.declared.format.Treatment.TheVariants.{Scraped, Written}
 use Rattle.page_model.specs.Owners.{kept_labels}
 use Rattle.open_writing.specs.Forms.{is_taken_name, is_text_label, is_own_label}
 use Rattle.writing_laws.proofs.FairParts.{all_inserted}
-use Rattle.writing_laws.proofs.ReadTexts.{label_chars}
+use Rattle.writing_laws.proofs.LineBytes.{label_chars}
 
 -- ---- lists
 
@@ -40,21 +40,9 @@ length_filtered q (x ∷ xs) = go (q x) (length_filtered q xs)
     go true ih = omega (arith, ih)
     go false ih = omega (arith, ih)
 
-length_inserted : (l : Label) (ls : List Label) → length (label_inserted l ls) ≡ suc (length ls)
-length_inserted l [] = refl
-length_inserted l (m ∷ ms) = go (name_before l.name m.name) (length_inserted l ms)
-  where
-    go : (b : Bool) → length (label_inserted l ms) ≡ suc (length ms) → length (cond b (l ∷ m ∷ ms) (m ∷ label_inserted l ms)) ≡ suc (suc (length ms))
-    go true ih = refl
-    go false ih = ap suc ih
-
--- a label more is one more
-pub length-inserted : (l : Label) (ls : List Label) → length (label_inserted l ls) ≡ length ls + 1
-length-inserted l ls = let more = length_inserted l ls in omega (arith, more)
-
 length_sorted : (ls : List Label) → length (labels_sorted ls) ≡ length ls
 length_sorted [] = refl
-length_sorted (l ∷ ls) = length_inserted l (labels_sorted ls) ∙ ap suc (length_sorted ls)
+length_sorted (l ∷ ls) = length-inserted l (labels_sorted ls) ∙ ap suc (length_sorted ls)
 
 length_mapped : {A B : Type 0} (f : A → B) (xs : List A) → length (map f xs) ≡ length xs
 length_mapped f [] = refl
@@ -175,7 +163,7 @@ renamed_own k all (l ∷ ls) e = and_from (is_own_label Scraped (label_renamed a
     one true f = ap not (no_target (exported_name (length all) all l.name) (subst (λ n. Begins (exported_name n all l.name)) (sym e) (new_begins k all l.name)))
     one false f = ap not f
 
-written_own : (ls : List Label) → list_all (is_own_label Written) ls ≡ true
+pub written_own : (ls : List Label) → list_all (is_own_label Written) ls ≡ true
 unfolding is_taken_name
 written_own [] = refl
 written_own (l ∷ ls) = written_own ls

@@ -12,6 +12,7 @@ use Rattle.label_sets.specs.declared.label_set.LabelSet.{LabelSet}
 use Rattle.label_sets.specs.Lists.{first_of_each, first_some, rest_while}
 use Rattle.label_sets.specs.Labels.{label_sets_eq}
 use Rattle.label_sets.specs.Names.{is_metric_name, is_metric_char}
+use Rattle.label_sets.proofs.Laws.{all-append, all-weaker, all-reverse, all-filter, rest-none, length-inserted}
 use Rattle.exact_decimal.specs.declared.number.Number.{Number}
 use Rattle.exact_decimal.specs.declared.number.Number.TheVariants.{Finite}
 use Rattle.exact_decimal.specs.Numbers.{number_of}
@@ -38,18 +39,17 @@ use Rattle.page_model.specs.Readings.{value_with, buckets_of, quantiles_of, sum_
 use Rattle.page_model.specs.Pages.{items_of, AreFaultless, IsPageOf, AreSomeOf}
 use Rattle.page_model.proofs.Laws.{label_sets_decide, kind_of_page}
 use Rattle.sample_groups.specs.Sound.{AreSound}
-use Rattle.family_rules.proofs.Laws.{AreFit, fit_lines, sound_samples, reversed_samples, IsValueOf, HaveValuesOf, page_values}
+use Rattle.family_rules.proofs.Laws.{AreFit, fit_lines, sound_samples, reversed_samples, IsValueOf, HaveValuesOf, page_values, AreTogether, together_samples, free_lines}
 use Rattle.open_writing.specs.Writing.{number_sample, with_number_label, bucket_sample, quantile_sample, total_samples, value_samples, reading_samples, written_text}
 use Rattle.open_writing.specs.Forms.{is_kind_in, stand_together, label_sets_of, IsFormedReading, IsFormedFamily, AreFormed}
 use Rattle.writing_laws.specs.WritingLaws.{ReadPagesAreFormed, OpenFormsAreWritable, OpenFormsReadBack}
-use Rattle.writing_laws.proofs.Turned.{all-append, all-map, all-of, all-weaker, any-none, none-any, Pairs}
+use Rattle.writing_laws.proofs.Turned.{all-map, all-of, any-none, none-any, Pairs}
 use Rattle.writing_laws.proofs.FairParts.{NoPlace, without_absent}
 use Rattle.writing_laws.proofs.FewLines.{firsts_distinct}
 use Rattle.writing_laws.proofs.ReadBack.{reads_back}
-use Rattle.writing_laws.proofs.ThinnerPages.{none_in_rest, some_all, some_distinct, some_mapped, some_together, thin_forms, thin_same}
-use Rattle.writing_laws.proofs.ReadLabels.{length-inserted}
-use Rattle.writing_laws.proofs.ReadItems.{IsFormedSample, IsFormedItem, IsFormedOwned, formed_lines, free_lines, formed_owned}
-use Rattle.writing_laws.proofs.ReadFamilies.{all-reverse, pairs-reverse, formed_kind, formed_help, formed_unit, format_unit, sampled, own_unit, allowed_unit, AreRuns, runs_of, samples_together}
+use Rattle.writing_laws.proofs.ThinnerPages.{some_all, some_distinct, some_mapped, some_together, thin_forms, thin_same}
+use Rattle.writing_laws.proofs.ReadItems.{IsFormedSample, IsFormedItem, IsFormedOwned, formed_lines, formed_owned}
+use Rattle.writing_laws.proofs.ReadFamilies.{pairs-reverse, formed_kind, formed_help, formed_unit, format_unit, sampled, own_unit, allowed_unit, samples_together}
 use Rattle.writing_laws.proofs.ReadParts.{IsKeptSet, kept_reading, no_place_in, IsPart}
 use Rattle.writing_laws.proofs.ReadValues.{formed_time, IsReadBucket, read_buckets}
 use Rattle.writing_laws.proofs.ReadSummaries.{IsReadQuantile, read_quantiles, Placed, formed_value}
@@ -75,20 +75,12 @@ pub firsts_some : {A : Type 0} (eq : A → A → Bool) (xs : List A) → AreSome
 firsts_some eq [] = tt
 firsts_some eq (x ∷ xs) = inl (refl, some_filter (λ y. not (eq x y)) xs (first_of_each eq xs) (firsts_some eq xs))
 
-all_filter : {A : Type 0} (P : A → Type 0) (p : A → Bool) (xs : List A) → AllByRecursion P xs → AllByRecursion P (filter p xs)
-all_filter P p [] h = tt
-all_filter P p (x ∷ xs) h = go (p x) (all_filter P p xs h.1)
-  where
-    go : (b : Bool) → AllByRecursion P (filter p xs) → AllByRecursion P (cond b (x ∷ filter p xs) (filter p xs))
-    go true ih = (h.0, ih)
-    go false ih = ih
-
 pairs_filter : {A : Type 0} (R : A → A → Type 0) (p : A → Bool) (xs : List A) → Pairs R xs → Pairs R (filter p xs)
 pairs_filter R p [] h = tt
 pairs_filter R p (x ∷ xs) h = go (p x) (pairs_filter R p xs h.1)
   where
     go : (b : Bool) → Pairs R (filter p xs) → Pairs R (cond b (x ∷ filter p xs) (filter p xs))
-    go true ih = (all_filter (R x) p xs h.0, ih)
+    go true ih = (all-filter (R x) p xs h.0, ih)
     go false ih = ih
 
 map_twice : {A B C : Type 0} (f : B → C) (g : A → B) (xs : List A) → map f (map g xs) ≡ map (λ x. f (g x)) xs
@@ -100,7 +92,7 @@ unfolding IsDistinct stand_together
 distinct_together [] d = refl
 distinct_together (g ∷ gs) d =
     and_from (not (list_any (label_sets_eq g) (rest_while (label_sets_eq g) gs))) (stand_together gs)
-    (not_from_false _ (none_in_rest (label_sets_eq g) gs (none-any (label_sets_eq g) gs d.0))) (distinct_together gs d.1)
+    (not_from_false _ (rest-none (label_sets_eq g) gs (none-any (label_sets_eq g) gs d.0))) (distinct_together gs d.1)
 
 -- ---- the samples of a family
 
@@ -322,7 +314,7 @@ open_state : (f : Format) → is_kind_in f StateSet ≡ true → is_open_metrics
 open_state Text e = absurd (let h : false ≡ true = e in cc)
 open_state OpenMetrics e = refl
 
-together : (st : Setting) (kind : Kind) (family : List ℕ) (ss : List Sample) (ls : List LabelSet) → is_kind_in st.format kind ≡ true → AreRuns st kind family ss → AllByRecursion (IsReadLabels st kind) ls → IsDistinct label_sets_eq ls
+together : (st : Setting) (kind : Kind) (family : List ℕ) (ss : List Sample) (ls : List LabelSet) → is_kind_in st.format kind ≡ true → AreTogether st kind family ss → AllByRecursion (IsReadLabels st kind) ls → IsDistinct label_sets_eq ls
     → AreSomeOf (λ a b. b ≡ a) (first_of_each label_sets_eq (map (reading_labels st kind family) (reverse ss))) ls → stand_together (map (group_of kind family) ls) ≡ true
 together st StateSet family ss ls in_format runs h d some =
     let all : List LabelSet = map (kept_labels st.treatment) (map (λ (s : Sample). s.labels) (reverse ss)) in
@@ -349,7 +341,7 @@ record AreFormedReadings (f : Format) (t : Treatment) (kind : Kind) (family unit
   distinct : IsDistinct label_sets_eq (label_sets_of rs)
   stand : stand_together (map (group_of kind family) (label_sets_of rs)) ≡ true
 
-family_readings : (st : Setting) (kind : Kind) (family unit : List ℕ) (ss : List Sample) → is_kind_in st.format kind ≡ true → AllByRecursion (IsFormedSample st.treatment) ss → AreSound st kind family ss → AreRuns st kind family ss
+family_readings : (st : Setting) (kind : Kind) (family unit : List ℕ) (ss : List Sample) → is_kind_in st.format kind ≡ true → AllByRecursion (IsFormedSample st.treatment) ss → AreSound st kind family ss → AreTogether st kind family ss
     → HaveValuesOf kind (readings_of st kind family unit (reverse ss)) → AreFormedReadings st.format st.treatment kind family unit (readings_of st kind family unit (reverse ss))
 unfolding readings_of
 family_readings st kind family unit ss in_format formed sound runs have =
@@ -387,7 +379,7 @@ formed_family st earlier clean formed free none family named =
     (subst (λ (k : Kind). HaveValuesOf k (readings_of st k family unit (samples_of lines family))) kind_is have) in
     let rs : AreFormedReadings st.format st.treatment (kind_of above family) family unit (readings_of st (kind_of above family) family unit (reverse (samples_of above family))) =
     family_readings st (kind_of above family) family unit (samples_of above family) (formed_kind st.format st.treatment family above owned) (sampled st.format st.treatment family above owned)
-    (sound_samples st above family fit) (runs_of st earlier family fit free) have_above in
+    (sound_samples st above family fit) (together_samples st above family fit) have_above in
     let readings : AreFormedReadings st.format st.treatment (kind_of lines family) family unit (readings_of st (kind_of lines family) family unit (samples_of lines family)) =
     subst (λ (k : Kind). AreFormedReadings st.format st.treatment k family unit (readings_of st k family unit (samples_of lines family))) (sym kind_is)
     (subst (λ (l : List Sample). AreFormedReadings st.format st.treatment (kind_of above family) family unit (readings_of st (kind_of above family) family unit l)) (sym samples_are) rs) in

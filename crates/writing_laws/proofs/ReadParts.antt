@@ -7,7 +7,7 @@ use Rattle.std.proofs.lemmas.Bool.{or_left, or_right}
 use Rattle.std.proofs.lemmas.Option.{same_Some}
 use Rattle.std.proofs.Math.Seq.{drop-append_seam}
 use Rattle.label_sets.specs.declared.kind.Kind.{Kind}
-use Rattle.label_sets.specs.declared.kind.Kind.TheVariants.{Counter, Gauge, Histogram, GaugeHistogram, StateSet, Info, Summary, Unknown}
+use Rattle.label_sets.specs.declared.kind.Kind.TheVariants.{Histogram, GaugeHistogram, Summary}
 use Rattle.label_sets.specs.declared.label.Label.{Label}
 use Rattle.label_sets.specs.declared.label_set.LabelSet.{LabelSet}
 use Rattle.label_sets.specs.Labels.{without_label}
@@ -58,21 +58,13 @@ pub kept_reading : (st : Setting) (kind : Kind) (family : List ℕ) (s : Sample)
 kept_reading st Histogram family s h = kept_without st.treatment (codes "le") (kept_labels st.treatment s.labels) (kept_whole st.treatment s h)
 kept_reading st GaugeHistogram family s h = kept_without st.treatment (codes "le") (kept_labels st.treatment s.labels) (kept_whole st.treatment s h)
 kept_reading st Summary family s h = kept_without st.treatment (codes "quantile") (kept_labels st.treatment s.labels) (kept_whole st.treatment s h)
-kept_reading st StateSet family s h = kept_whole st.treatment s h
-kept_reading st Counter family s h = kept_whole st.treatment s h
-kept_reading st Gauge family s h = kept_whole st.treatment s h
-kept_reading st Info family s h = kept_whole st.treatment s h
-kept_reading st Unknown family s h = kept_whole st.treatment s h
+kept_reading st _ family s h = kept_whole st.treatment s h
 
 pub no_place_in : (st : Setting) (kind : Kind) (family : List ℕ) (s : Sample) → NoPlace kind (reading_labels st kind family s)
 no_place_in st Histogram family s = without_lacks (codes "le") (kept_labels st.treatment s.labels)
 no_place_in st GaugeHistogram family s = without_lacks (codes "le") (kept_labels st.treatment s.labels)
 no_place_in st Summary family s = without_lacks (codes "quantile") (kept_labels st.treatment s.labels)
-no_place_in st StateSet family s = tt
-no_place_in st Counter family s = tt
-no_place_in st Gauge family s = tt
-no_place_in st Info family s = tt
-no_place_in st Unknown family s = tt
+no_place_in st _ family s = tt
 
 -- ---- samples of a reading
 

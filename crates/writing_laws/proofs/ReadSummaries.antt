@@ -8,6 +8,7 @@ use Rattle.label_sets.specs.declared.kind.Kind.{Kind}
 use Rattle.label_sets.specs.declared.kind.Kind.TheVariants.{Counter, Gauge, Histogram, GaugeHistogram, StateSet, Info, Summary, Unknown}
 use Rattle.label_sets.specs.declared.label_set.LabelSet.{LabelSet}
 use Rattle.label_sets.specs.Labels.{has_name}
+use Rattle.label_sets.proofs.Laws.{all-weaker}
 use Rattle.exact_decimal.specs.declared.number.Number.{Number}
 use Rattle.exact_decimal.specs.declared.number.Number.TheVariants.{Finite, Up, Down, NotANumber}
 use Rattle.exact_decimal.specs.Decimals.{IsNormal}
@@ -26,7 +27,7 @@ use Rattle.page_model.specs.Readings.{value_with, either_value, buckets_of, quan
 use Rattle.sample_groups.proofs.Laws.{RiseToUp}
 use Rattle.family_rules.proofs.Laws.{IsValueOf}
 use Rattle.open_writing.specs.Forms.{IsFormedNumber, is_plain_value, is_one_place, is_some_summary, is_u64_option, IsFormedValue}
-use Rattle.writing_laws.proofs.Turned.{all-weaker, Pairs}
+use Rattle.writing_laws.proofs.Turned.{Pairs}
 use Rattle.writing_laws.proofs.FairParts.{NoPlace}
 use Rattle.writing_laws.proofs.ReadParts.{IsPart, found_value, value_there, some_suffix}
 use Rattle.writing_laws.proofs.ReadValues.{label_number, has_number, one_more, free_quantile, whole_fits, formed_sum, plain_formed, counter_value, info_value, state_value, histogram_formed}
@@ -48,9 +49,7 @@ module _ (st : Setting) (family : List ℕ) (labels : LabelSet) where
 
   placed_formed : (n value : Number) (qs : List Quantile) → IsFormedNumber n → IsFormedNumber value → length labels + 1 ≤ label_limit st.treatment → AllByRecursion IsReadQuantile qs → AllByRecursion IsReadQuantile (cons_option (placed_quantile n value) qs)
   placed_formed (Finite d) value qs h k room ih = (record { at = h; value = k; room = room }, ih)
-  placed_formed Up value qs h k room ih = ih
-  placed_formed Down value qs h k room ih = ih
-  placed_formed NotANumber value qs h k room ih = ih
+  placed_formed _ value qs h k room ih = ih
 
   pub read_quantiles : (own : List Sample) → AllByRecursion (IsPart st Summary family labels) own → AllByRecursion IsReadQuantile (quantiles_of family own)
   unfolding quantiles_of

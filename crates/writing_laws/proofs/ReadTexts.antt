@@ -11,8 +11,9 @@ use Rattle.std.proofs.lemmas.List.{length-append, length-reverse, get_or-reverse
 use Rattle.std.proofs.lemmas.List.Folds.{list_all-append}
 use Rattle.std.proofs.lemmas.List.Sums.{prefix_len_passes, suffix_len-le-length}
 use Rattle.std.proofs.lemmas.Str.{IsUtf8-take, IsUtf8-nil, IsCharBoundary-before_ascii, is_utf8-from_IsUtf8}
+use Rattle.writing_laws.proofs.LineBytes.{metric_chars, label_chars, all_more}
 use Rattle.label_sets.specs.declared.label.Label.{Label}
-use Rattle.label_sets.specs.Names.{is_metric_name, is_metric_start, is_metric_char, is_label_name, is_label_start, is_label_char, is_blank}
+use Rattle.label_sets.specs.Names.{is_metric_name, is_metric_char, is_label_name, is_label_char, is_blank}
 use Rattle.label_sets.specs.Escapes.{help_escape, quote_escape, unescaped}
 use Rattle.line_scan.proofs.Laws.{utf8_tail, utf8_rest, utf8_shorter, blank_small, blanks_ascii, utf8_behind, utf8_unescaped, help_ascii, quote_ascii}
 use Rattle.page_model.specs.Written.{WrittenSample}
@@ -26,10 +27,6 @@ use Rattle.open_writing.specs.Forms.{is_text_label}
 abbrev is_low : ℕ → Bool
 is_low c = nat_lt c 128
 
-low_more : (p : ℕ → Bool) → ((c : ℕ) → p c ≡ true → is_low c ≡ true) → (cs : List ℕ) → list_all p cs ≡ true → list_all is_low cs ≡ true
-low_more p more [] h = refl
-low_more p more (c ∷ cs) h = let both = and_parts (p c) (list_all p cs) h in and_from (is_low c) (list_all is_low cs) (more c both.0) (low_more p more cs both.1)
-
 low_append : (a b : List ℕ) → list_all is_low a ≡ true → list_all is_low b ≡ true → list_all is_low (a ++ b) ≡ true
 low_append a b h k = list_all-append is_low a b ∙ and_from (list_all is_low a) (list_all is_low b) h k
 
@@ -42,29 +39,14 @@ low_label c h = grind (arith, nat_tests)
 low_blank : (c : ℕ) → is_blank c ≡ true → is_low c ≡ true
 low_blank c h = grind (arith, nat_tests)
 
--- the first character of a metric name is one of those of a name
-pub metric_chars : (name : List ℕ) → is_metric_name name ≡ true → list_all is_metric_char name ≡ true
-metric_chars [] h = absurd cc
-metric_chars (c ∷ cs) h =
-    let both = and_parts (is_metric_start c) (list_all is_metric_char cs) h in
-    let first : is_metric_char c ≡ true = grind (arith, nat_tests) in
-    and_from (is_metric_char c) (list_all is_metric_char cs) first both.1
-
-pub label_chars : (name : List ℕ) → is_label_name name ≡ true → list_all is_label_char name ≡ true
-label_chars [] h = absurd cc
-label_chars (c ∷ cs) h =
-    let both = and_parts (is_label_start c) (list_all is_label_char cs) h in
-    let first : is_label_char c ≡ true = grind (arith, nat_tests) in
-    and_from (is_label_char c) (list_all is_label_char cs) first both.1
-
 low_metric_name : (name : List ℕ) → is_metric_name name ≡ true → list_all is_low name ≡ true
-low_metric_name name h = low_more is_metric_char low_metric name (metric_chars name h)
+low_metric_name name h = all_more is_metric_char is_low low_metric name (metric_chars name h)
 
 low_label_name : (name : List ℕ) → is_label_name name ≡ true → list_all is_low name ≡ true
-low_label_name name h = low_more is_label_char low_label name (label_chars name h)
+low_label_name name h = all_more is_label_char is_low low_label name (label_chars name h)
 
 low_blanks : (cs : List ℕ) → AreBlanks cs → list_all is_low cs ≡ true
-low_blanks cs h = low_more is_blank low_blank cs h
+low_blanks cs h = all_more is_blank is_low low_blank cs h
 
 -- behind ASCII characters
 utf8_past : (front rest : List ℕ) → list_all is_low front ≡ true → IsUtf8 (front ++ rest) → IsUtf8 rest

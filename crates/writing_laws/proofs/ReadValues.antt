@@ -8,12 +8,13 @@ use Rattle.std.proofs.lemmas.Bool.{and_from, or_parts, not-false}
 use Rattle.std.proofs.lemmas.Option.{same_Some}
 use Rattle.std.proofs.lemmas.List.Elements.{All-from_recursion}
 use Rattle.label_sets.specs.declared.kind.Kind.{Kind}
-use Rattle.label_sets.specs.declared.kind.Kind.TheVariants.{Counter, Gauge, Histogram, GaugeHistogram, StateSet, Info, Summary, Unknown}
+use Rattle.label_sets.specs.declared.kind.Kind.TheVariants.{Counter, Histogram, GaugeHistogram, StateSet, Info, Summary}
 use Rattle.label_sets.specs.declared.label_set.LabelSet.{LabelSet}
 use Rattle.label_sets.specs.Lists.{some_passes}
 use Rattle.label_sets.specs.Labels.{has_name, label_value, without_label}
+use Rattle.label_sets.proofs.Laws.{all-weaker}
 use Rattle.exact_decimal.specs.declared.number.Number.{Number}
-use Rattle.exact_decimal.specs.declared.number.Number.TheVariants.{Finite, Up, Down, NotANumber}
+use Rattle.exact_decimal.specs.declared.number.Number.TheVariants.{Finite, NotANumber}
 use Rattle.exact_decimal.specs.Numbers.{number, number_of}
 use Rattle.exact_decimal.specs.Order.{less, same, whole, is_finite, is_not_a_number, is_exact, floor_of}
 use Rattle.page_model.specs.declared.format.Format.{Format}
@@ -31,7 +32,6 @@ use Rattle.page_model.specs.Rules.{is_open_metrics, is_histogram, has_suffix, is
 use Rattle.page_model.specs.Readings.{value_with, either_value, bucket_of, buckets_of, sum_of, counter_suffix, reading_labels}
 use Rattle.sample_groups.proofs.Laws.{AreRising, RiseToUp}
 use Rattle.open_writing.specs.Forms.{IsFormedNumber, IsFormedOption, is_taken_name, is_plain_value, is_u64, is_next_bucket, rise_to_infinity, is_u64_option, IsFormedValue, has_created_time, IsFormedTime}
-use Rattle.writing_laws.proofs.Turned.{all-weaker}
 use Rattle.writing_laws.proofs.ReadLabels.{kept_has, length_kept, length_taken}
 use Rattle.writing_laws.proofs.ReadItems.{IsFormedSample, read_number}
 use Rattle.writing_laws.proofs.ReadParts.{IsPart, found_value, allowed_suffix}
@@ -42,19 +42,9 @@ created_kind : (f : Format) (kind : Kind) → list_any (bytes_eq (codes "_create
 created_kind OpenMetrics Counter e = (refl, refl)
 created_kind OpenMetrics Histogram e = (refl, refl)
 created_kind OpenMetrics Summary e = (refl, refl)
-created_kind OpenMetrics Gauge e = absurd (let h : false ≡ true = e in cc)
-created_kind OpenMetrics GaugeHistogram e = absurd (let h : false ≡ true = e in cc)
-created_kind OpenMetrics StateSet e = absurd (let h : false ≡ true = e in cc)
-created_kind OpenMetrics Info e = absurd (let h : false ≡ true = e in cc)
-created_kind OpenMetrics Unknown e = absurd (let h : false ≡ true = e in cc)
+created_kind OpenMetrics _ e = absurd (let h : false ≡ true = e in cc)
 created_kind Text Counter e = absurd (let h : false ≡ true = e in cc)
-created_kind Text Histogram e = absurd (let h : false ≡ true = e in cc)
-created_kind Text Summary e = absurd (let h : false ≡ true = e in cc)
-created_kind Text Gauge e = absurd (let h : false ≡ true = e in cc)
-created_kind Text GaugeHistogram e = absurd (let h : false ≡ true = e in cc)
-created_kind Text StateSet e = absurd (let h : false ≡ true = e in cc)
-created_kind Text Info e = absurd (let h : false ≡ true = e in cc)
-created_kind Text Unknown e = absurd (let h : false ≡ true = e in cc)
+created_kind Text _ e = absurd (let h : false ≡ true = e in cc)
 
 both_then : (a b c : Bool) → (a && b && not c) ≡ false → a ≡ true → b ≡ true → c ≡ true
 both_then true true true e f g = refl
@@ -165,15 +155,13 @@ module _ (st : Setting) (family : List ℕ) (labels : LabelSet) where
 
   pub whole_fits : (n : Number) → is_u64_option (whole n) ≡ true
   unfolding whole
-  whole_fits Up = refl
-  whole_fits Down = refl
-  whole_fits NotANumber = refl
   whole_fits (Finite d) = go (not d.negative && is_exact d.digits d.up d.down) (nat_lt (floor_of d.digits d.up d.down) (2 ^ 64)) refl
     where
       go : (a b : Bool) → nat_lt (floor_of d.digits d.up d.down) (2 ^ 64) ≡ b → is_u64_option (cond a (cond b (Some (floor_of d.digits d.up d.down)) None) None) ≡ true
       go true true e = e
       go true false e = refl
       go false b e = refl
+  whole_fits _ = refl
 
   count_fits : (o : Option ℕ) → is_u64_option o ≡ true → is_u64 (unwrap_or o 0) ≡ true
   count_fits None h = refl
@@ -189,22 +177,12 @@ module _ (st : Setting) (family : List ℕ) (labels : LabelSet) where
   unfolding has_bad_threshold
   bucket_bound Histogram s k placed e = not-false (is_bound (threshold s)) (rw e at placed)
   bucket_bound GaugeHistogram s k placed e = not-false (is_bound (threshold s)) (rw e at placed)
-  bucket_bound Counter s k placed e = absurd cc
-  bucket_bound Gauge s k placed e = absurd cc
-  bucket_bound StateSet s k placed e = absurd cc
-  bucket_bound Info s k placed e = absurd cc
-  bucket_bound Summary s k placed e = absurd cc
-  bucket_bound Unknown s k placed e = absurd cc
+  bucket_bound _ s k placed e = absurd cc
 
   histogram_labels : (kind : Kind) (s : Sample) → is_histogram kind ≡ true → reading_labels st kind family s ≡ labels → without_label (codes "le") (kept_labels st.treatment s.labels) ≡ labels
   histogram_labels Histogram s k of = of
   histogram_labels GaugeHistogram s k of = of
-  histogram_labels Counter s k of = absurd cc
-  histogram_labels Gauge s k of = absurd cc
-  histogram_labels StateSet s k of = absurd cc
-  histogram_labels Info s k of = absurd cc
-  histogram_labels Summary s k of = absurd cc
-  histogram_labels Unknown s k of = absurd cc
+  histogram_labels _ s k of = absurd cc
 
   read_bucket : (kind : Kind) (s : Sample) → is_histogram kind ≡ true → IsPart st kind family labels s → is_bucket family s ≡ true → IsReadBucket (bucket_of s)
   read_bucket kind s k part e = record {

@@ -1,9 +1,9 @@
 -- The readings of a family's samples, where the samples of each reading stand together.
-use Rattle.std.proofs.Common.{◌≡◌, ℕ, Bool, true, false, not, cond, List, [], ◌∷◌, ◌++◌, map, filter, filter_map, Option, Some, refl, sym, ap, subst, ◌∙◌, append_assoc}
+use Rattle.std.proofs.Common.{◌≡◌, ℕ, Bool, true, false, not, List, [], ◌∷◌, ◌++◌, map, filter, filter_map, Option, Some, refl, sym, ap, subst, ◌∙◌, append_assoc}
 use Rattle.std.specs.Prelude.{⊤}
 use Rattle.std.proofs.lemmas.List.{append-nil}
 use Rattle.std.proofs.lemmas.List.Elements.{filter-append}
-use Rattle.writing_laws.proofs.Turned.{map-append}
+use Rattle.writing_laws.proofs.Turned.{map-append, filter-twice}
 use Rattle.std.specs.List.{flat_map, AllByRecursion, cons_option}
 use Rattle.label_sets.specs.declared.kind.Kind.{Kind}
 use Rattle.label_sets.specs.declared.label_set.LabelSet.{LabelSet}
@@ -71,22 +71,13 @@ module _ (st : Setting) (kind : Kind) (family : List ℕ) where
 
   -- ---- the labels of readings
 
-  twice : (l : LabelSet) (ms : List LabelSet) → filter (λ m. not (label_sets_eq l m)) (filter (λ m. not (label_sets_eq l m)) ms) ≡ filter (λ m. not (label_sets_eq l m)) ms
-  twice l [] = refl
-  twice l (m ∷ ms) = by (label_sets_eq l m) refl (twice l ms)
-    where
-      by : (b : Bool) → label_sets_eq l m ≡ b → filter (λ n. not (label_sets_eq l n)) (filter (λ n. not (label_sets_eq l n)) ms) ≡ filter (λ n. not (label_sets_eq l n)) ms
-          → filter (λ n. not (label_sets_eq l n)) (cond (not b) (m ∷ filter (λ n. not (label_sets_eq l n)) ms) (filter (λ n. not (label_sets_eq l n)) ms)) ≡ cond (not b) (m ∷ filter (λ n. not (label_sets_eq l n)) ms) (filter (λ n. not (label_sets_eq l n)) ms)
-      by true e ih = ih
-      by false e ih = rw e (ap (λ ns. m ∷ ns) ih)
-
   one_set : (l : LabelSet) (first : Sample) (others : List Sample) (rest : List LabelSet) → AllByRecursion (λ s. labels_of s ≡ l) (first ∷ others)
       → first_of_each label_sets_eq (map labels_of (first ∷ others) ++ rest) ≡ l ∷ filter (λ m. not (label_sets_eq l m)) (first_of_each label_sets_eq rest)
   one_set l first [] rest h = ap (λ m. m ∷ filter (λ n. not (label_sets_eq m n)) (first_of_each label_sets_eq rest)) h.0
   one_set l first (s ∷ others) rest h =
       ap (λ ns. labels_of first ∷ filter (λ n. not (label_sets_eq (labels_of first) n)) ns) (one_set l s others rest h.1)
       ∙ ap (λ m. m ∷ filter (λ n. not (label_sets_eq m n)) (l ∷ filter (λ n. not (label_sets_eq l n)) (first_of_each label_sets_eq rest))) h.0
-      ∙ ap (λ ns. l ∷ ns) (rw (itself l) (twice l (first_of_each label_sets_eq rest)))
+      ∙ ap (λ ns. l ∷ ns) (rw (itself l) (filter-twice (λ m. not (label_sets_eq l m)) (first_of_each label_sets_eq rest)))
 
   apart_kept : (l : LabelSet) (ps : List Part) → Apart l ps → filter (λ m. not (label_sets_eq l m)) (map (λ (p : Part). p.labels) ps) ≡ map (λ (p : Part). p.labels) ps
   apart_kept l [] a = refl

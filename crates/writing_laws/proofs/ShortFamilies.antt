@@ -1,18 +1,18 @@
 -- Each line that is written of a page of a target has at most twice as many bytes as a line of it may have, and 2,048 more.
-use Rattle.std.proofs.Common.{◌≡◌, ℕ, ◌+◌, ◌*◌, ◌≤◌, Bool, true, false, cond, not, ◌||◌, List, [], ◌∷◌, ◌++◌, map, filter_map, reverse, length, codes, Option, Some, None, option_map, option_and_then, refl, sym, ap, subst, arith, inl}
+use Rattle.std.proofs.Common.{◌≡◌, ℕ, ◌+◌, ◌*◌, ◌≤◌, Bool, true, false, cond, not, ◌||◌, List, [], ◌∷◌, ◌++◌, map, filter_map, reverse, length, codes, Some, None, refl, sym, ap, subst, arith, inl, IfSome}
 use Rattle.std.specs.Prelude.{⊤, unwrap_or, nat_lt}
-use Rattle.std.specs.List.{list_any, fold, flat_map, cons_option, AllByRecursion}
-use Rattle.std.specs.Option.{option_or, option_map_or}
+use Rattle.std.specs.List.{list_any, fold, flat_map, AllByRecursion}
 use Rattle.std.specs.Str.{bytes_eq}
 use Rattle.std.specs.Cmp.Lexicographic.{bytes_decides}
 use Rattle.std.proofs.lemmas.Bool.{false_from_ne_true, not-false}
 use Rattle.std.proofs.lemmas.Bool.Decides.{nat_tests}
 use Rattle.std.proofs.lemmas.List.Elements.{All-from_recursion, recursion_from_All}
 use Rattle.label_sets.specs.declared.kind.Kind.{Kind}
-use Rattle.label_sets.specs.declared.kind.Kind.TheVariants.{Counter, Gauge, Histogram, GaugeHistogram, StateSet, Info, Summary, Unknown}
+use Rattle.label_sets.specs.declared.kind.Kind.TheVariants.{Counter, Histogram, GaugeHistogram, Summary}
 use Rattle.label_sets.specs.declared.label_set.LabelSet.{LabelSet}
 use Rattle.label_sets.specs.Lists.{first_of_each, first_some}
 use Rattle.label_sets.specs.Labels.{label_sets_eq}
+use Rattle.label_sets.proofs.Laws.{all-append, all-weaker, all-reverse}
 use Rattle.page_model.specs.declared.format.Format.{Format}
 use Rattle.page_model.specs.declared.format.Treatment.{Treatment}
 use Rattle.page_model.specs.declared.format.Treatment.TheVariants as treatments
@@ -22,27 +22,26 @@ use Rattle.page_model.specs.declared.item.Sample.{Sample}
 use Rattle.page_model.specs.declared.page.Reading.{Reading}
 use Rattle.page_model.specs.declared.page.Family.{Family}
 use Rattle.page_model.specs.declared.page.Page.{Page}
-use Rattle.page_model.specs.declared.rule.Rule.{Rule}
 use Rattle.page_model.specs.declared.rule.Rule.TheVariants as rules
 use Rattle.page_model.specs.OpenItems.{kind_word}
 use Rattle.page_model.specs.Written.{Written, Setting, line_limit, label_limit, item_of}
 use Rattle.page_model.specs.Items.{sample_of_line, help_of_line, unit_of_line}
 use Rattle.page_model.specs.Suffixes.{suffixes, is_sample_name}
-use Rattle.page_model.specs.Owners.{Owned, is_of, kind_of, sample_owner, owner_of, with_owner, owned_lines, sample_in, samples_of, kept_labels}
+use Rattle.page_model.specs.Owners.{Owned, is_of, kind_of, sample_owner, owner_of, with_owner, owned_lines, samples_of, kept_labels}
 use Rattle.page_model.specs.Rules.{has_wrong_suffix}
-use Rattle.page_model.specs.Faults.{Line, line_breaks, line_rules, own_fault, item_fault, line_fault, with_line, fault_from}
+use Rattle.page_model.specs.Faults.{Line, line_breaks, line_rules, own_fault, with_line, fault_from}
 use Rattle.page_model.specs.Readings.{reading_labels, reading_of, readings_of, help_in, unit_in, family_of, families_of, page_of}
-use Rattle.page_model.specs.Pages.{Spells, SaysWhatItSpells, AreLines, AreFaultless, items_of, IsPageOf}
+use Rattle.page_model.specs.Pages.{Spells, AreLines, AreFaultless, items_of, IsPageOf}
 use Rattle.page_model.proofs.Laws.{none_found, kind_of_page}
 use Rattle.sample_groups.specs.Sound.{AreSound}
-use Rattle.family_rules.proofs.Laws.{fit_lines, sound_samples, reversed_samples}
+use Rattle.family_rules.proofs.Laws.{fit_lines, sound_samples, reversed_samples, free_lines}
 use Rattle.open_writing.specs.Writing.{reading_samples, family_samples, item_unless_empty, family_items, page_items, escaped, sample_text, item_text}
 use Rattle.open_writing.specs.Forms.{label_sets_of, IsFormedReading, IsFormedFamily}
 use Rattle.writing_laws.specs.WritingLaws.{most_scraped_line, WritesShortLines}
-use Rattle.writing_laws.proofs.Turned.{all-append, all-map, all-weaker, all-flat}
+use Rattle.writing_laws.proofs.Turned.{all-map, all-flat}
 use Rattle.writing_laws.proofs.ThinnerPages.{some_all, thin_lines}
-use Rattle.writing_laws.proofs.ReadItems.{IsFormedSample, IsFormedItem, IsFormedOwned, formed_lines, free_lines, formed_owned, none_of, none_mapped}
-use Rattle.writing_laws.proofs.ReadFamilies.{all-reverse, sampled}
+use Rattle.writing_laws.proofs.ReadItems.{IsFormedSample, IsFormedItem, IsFormedOwned, formed_lines, formed_owned, said_lines}
+use Rattle.writing_laws.proofs.ReadFamilies.{sampled, first_holds, samples_hold}
 use Rattle.writing_laws.proofs.ReadParts.{kept_reading}
 use Rattle.writing_laws.proofs.ReadPages.{firsts_some, some_labels, page_formed}
 use Rattle.writing_laws.proofs.ShortLines.{labels_size, IsShortItem, short_written, two, four}
@@ -59,17 +58,7 @@ short_line st l w says spelled none =
 
 short_lines : (ls : List Line) (pieces : List (List ℕ)) (st : Setting) (earlier : List Item) (n : ℕ) (clean : Bool) → AreLines st.format pieces ls → fault_from st earlier n ls clean ≡ None
     → AllByRecursion (IsShortItem (line_limit st.treatment)) earlier → AllByRecursion (IsShortItem (line_limit st.treatment)) (fold (λ above l. with_line st.format l above) earlier ls)
-unfolding fault_from line_fault
-short_lines [] pieces st earlier n clean are none h = h
-short_lines (l ∷ ls) [] st earlier n clean are none h = absurd are
-short_lines (l ∷ ls) (piece ∷ pieces) st earlier n clean are none h =
-    let both = none_of (option_map (λ (rule : Rule). (n, rule)) (line_fault st earlier l)) (fault_from st (with_line st.format l earlier) (n + 1) ls clean) none in
-    let own = none_of (own_fault st l) (option_and_then (λ w. item_fault st earlier (item_of st.format w)) l.says) (none_mapped (λ (rule : Rule). (n, rule)) (line_fault st earlier l) both.0) in
-    short_lines ls pieces st (with_line st.format l earlier) (n + 1) clean are.2 both.1 (by l.says refl own.0)
-  where
-    by : (says : Option Written) → l.says ≡ says → own_fault st l ≡ None → AllByRecursion (IsShortItem (line_limit st.treatment)) (option_map_or (λ w. item_of st.format w ∷ earlier) says earlier)
-    by None e own = h
-    by (Some w) e own = (short_line st l w e (subst (λ b. Spells st.format b w) (sym are.0) (subst (SaysWhatItSpells st.format piece) e are.1)) own, h)
+short_lines ls pieces st = said_lines st (IsShortItem (line_limit st.treatment)) (short_line st) ls pieces
 
 -- ---- owned lines
 
@@ -111,55 +100,44 @@ short_owned most f (i ∷ is) h = by i h.0 (short_owned most f is h.1)
 
 -- ---- families
 
+-- what an item of a family says is short
+record SaysShortly (most : ℕ) (family : List ℕ) (item : Item) : Type 0 where
+  pub help : IfSome (help_of_line item) (λ text. length family + length text ≤ most)
+  pub unit : IfSome (unit_of_line item) (λ text. length family + length text ≤ most)
+  pub sample : IfSome (sample_of_line item) (λ s. length s.name + labels_size s.labels ≤ most)
+
+said_shortly : (most : ℕ) (family : List ℕ) (item : Item) → IsShortOf most family item → SaysShortly most family item
+said_shortly most family (items.Help name text) g = record { help = g; unit = tt; sample = tt }
+said_shortly most family (items.Unit name unit) g = record { help = tt; unit = g; sample = tt }
+said_shortly most family (items.Sample s) g = record { help = tt; unit = tt; sample = g }
+said_shortly most family _ g = record { help = tt; unit = tt; sample = tt }
+
 module _ (most : ℕ) (family : List ℕ) (named : length family ≤ most) where
+  none_short : length family + 0 ≤ most
+  none_short = omega (arith, named)
+
+  -- so it is of each line of the family
+  each_line : (P : Item → Type 0) → ((item : Item) → SaysShortly most family item → P item) → (lines : List Owned) → AllByRecursion (IsShortOwned most) lines → AllByRecursion (λ o. is_of family o ≡ true → P o.item) lines
+  each_line P of lines h =
+      all-weaker (IsShortOwned most) (λ o. is_of family o ≡ true → P o.item)
+      (λ o g e. of o.item (said_shortly most family o.item (subst (λ n. IsShortOf most n o.item) ((bytes_decides o.family family).0 e) g.1))) lines h
+
   short_help : (lines : List Owned) → AllByRecursion (IsShortOwned most) lines → length family + length (unwrap_or (first_some (help_in family) lines) []) ≤ most
-  short_help [] h = omega (arith, named)
-  short_help (o ∷ lines) h = by (is_of family o) refl o.item h.0.1 (short_help lines h.1)
-    where
-      by : (b : Bool) → is_of family o ≡ b → (item : Item) → IsShortOf most o.family item → length family + length (unwrap_or (first_some (help_in family) lines) []) ≤ most
-          → length family + length (unwrap_or (option_or (cond b (help_of_line item) None) (first_some (help_in family) lines)) []) ≤ most
-      by false e item g ih = ih
-      by true e (items.Help name text) g ih = subst (λ n. length n + length text ≤ most) ((bytes_decides o.family family).0 e) g
-      by true e items.Blank g ih = ih
-      by true e items.Comment g ih = ih
-      by true e items.Eof g ih = ih
-      by true e (items.KindOf name kind) g ih = ih
-      by true e (items.Unit name unit) g ih = ih
-      by true e (items.Sample s) g ih = ih
+  short_help lines h =
+      first_holds help_of_line family (λ text. length family + length text ≤ most) [] none_short lines
+      (each_line (λ item. IfSome (help_of_line item) (λ text. length family + length text ≤ most)) (λ item said. said.help) lines h)
 
   short_unit : (lines : List Owned) → AllByRecursion (IsShortOwned most) lines → length family + length (unwrap_or (first_some (unit_in family) lines) []) ≤ most
-  short_unit [] h = omega (arith, named)
-  short_unit (o ∷ lines) h = by (is_of family o) refl o.item h.0.1 (short_unit lines h.1)
-    where
-      by : (b : Bool) → is_of family o ≡ b → (item : Item) → IsShortOf most o.family item → length family + length (unwrap_or (first_some (unit_in family) lines) []) ≤ most
-          → length family + length (unwrap_or (option_or (cond b (unit_of_line item) None) (first_some (unit_in family) lines)) []) ≤ most
-      by false e item g ih = ih
-      by true e (items.Unit name unit) g ih = subst (λ n. length n + length unit ≤ most) ((bytes_decides o.family family).0 e) g
-      by true e items.Blank g ih = ih
-      by true e items.Comment g ih = ih
-      by true e items.Eof g ih = ih
-      by true e (items.KindOf name kind) g ih = ih
-      by true e (items.Help name text) g ih = ih
-      by true e (items.Sample s) g ih = ih
+  short_unit lines h =
+      first_holds unit_of_line family (λ text. length family + length text ≤ most) [] none_short lines
+      (each_line (λ item. IfSome (unit_of_line item) (λ text. length family + length text ≤ most)) (λ item said. said.unit) lines h)
 
   -- a sample line's name and labels
   abbrev IsShortSample : Sample → Type 0
   IsShortSample s = length s.name + labels_size s.labels ≤ most
 
   short_samples : (lines : List Owned) → AllByRecursion (IsShortOwned most) lines → AllByRecursion IsShortSample (samples_of lines family)
-  unfolding samples_of
-  short_samples [] h = tt
-  short_samples (o ∷ lines) h = by (is_of family o) o.item h.0.1 (short_samples lines h.1)
-    where
-      by : (b : Bool) (item : Item) → IsShortOf most o.family item → AllByRecursion IsShortSample (filter_map (sample_in family) lines) → AllByRecursion IsShortSample (cons_option (cond b (sample_of_line item) None) (filter_map (sample_in family) lines))
-      by false item g ih = ih
-      by true (items.Sample s) g ih = (g, ih)
-      by true items.Blank g ih = ih
-      by true items.Comment g ih = ih
-      by true items.Eof g ih = ih
-      by true (items.KindOf name kind) g ih = ih
-      by true (items.Help name text) g ih = ih
-      by true (items.Unit name unit) g ih = ih
+  short_samples lines h = samples_hold family IsShortSample lines (each_line (λ item. IfSome (sample_of_line item) IsShortSample) (λ item said. said.sample) lines h)
 
 -- ---- readings
 
@@ -180,11 +158,7 @@ labels_within : (st : Setting) (kind : Kind) (family : List ℕ) (s : Sample) �
 labels_within st Histogram family s = without_weight (codes "le") (kept_labels st.treatment s.labels)
 labels_within st GaugeHistogram family s = without_weight (codes "le") (kept_labels st.treatment s.labels)
 labels_within st Summary family s = without_weight (codes "quantile") (kept_labels st.treatment s.labels)
-labels_within st StateSet family s = omega arith
-labels_within st Counter family s = omega arith
-labels_within st Gauge family s = omega arith
-labels_within st Info family s = omega arith
-labels_within st Unknown family s = omega arith
+labels_within st _ family s = omega arith
 
 short_labels : (st : Setting) (kind : Kind) (family : List ℕ) (most : ℕ) → label_limit st.treatment ≡ 64 → (ss : List Sample) → AllByRecursion (IsFormedSample st.treatment) ss → AllByRecursion (λ (s : Sample). length s.name + labels_size s.labels ≤ most) ss → AreSound st kind family ss
     → AllByRecursion (λ (s : Sample). HasShortLabels most family (reading_labels st kind family s)) ss
@@ -248,15 +222,9 @@ short_family st earlier scraped formed short free family named =
 
 -- ---- what is written of a family
 
-kind_length : (kind : Kind) → length (kind_word kind) ≤ 14
+pub kind_length : (kind : Kind) → length (kind_word kind) ≤ 14
 kind_length Counter = omega arith
-kind_length Gauge = omega arith
-kind_length Histogram = omega arith
-kind_length GaugeHistogram = omega arith
-kind_length StateSet = omega arith
-kind_length Info = omega arith
-kind_length Summary = omega arith
-kind_length Unknown = omega arith
+kind_length _ = omega arith
 
 -- a line of so many bytes at most
 abbrev IsShortLine : ℕ → Item → Type 0

@@ -133,17 +133,17 @@ middle_size text ls (inr s) =
 
 -- ---- label sets
 
-total_inserted : (l : Label) (ls : List Label) → labels_size (label_inserted l ls) ≡ label_size l + labels_size ls
-total_inserted l [] = refl
-total_inserted l (m ∷ ms) = go (name_before l.name m.name) (total_inserted l ms)
+pub total_inserted : (f : Label → ℕ) (l : Label) (ls : List Label) → total f (label_inserted l ls) ≡ f l + total f ls
+total_inserted f l [] = refl
+total_inserted f l (m ∷ ms) = go (name_before l.name m.name) (total_inserted f l ms)
   where
-    go : (b : Bool) → labels_size (label_inserted l ms) ≡ label_size l + labels_size ms → labels_size (cond b (l ∷ m ∷ ms) (m ∷ label_inserted l ms)) ≡ label_size l + (label_size m + labels_size ms)
+    go : (b : Bool) → total f (label_inserted l ms) ≡ f l + total f ms → total f (cond b (l ∷ m ∷ ms) (m ∷ label_inserted l ms)) ≡ f l + (f m + total f ms)
     go true ih = refl
     go false ih = omega (arith, ih)
 
-total_sorted : (ls : List Label) → labels_size (labels_sorted ls) ≡ labels_size ls
-total_sorted [] = refl
-total_sorted (l ∷ ls) = total_inserted l (labels_sorted ls) ∙ ap (λ n. label_size l + n) (total_sorted ls)
+pub total_sorted : (f : Label → ℕ) (ls : List Label) → total f (labels_sorted ls) ≡ total f ls
+total_sorted f [] = refl
+total_sorted f (l ∷ ls) = total_inserted f l (labels_sorted ls) ∙ ap (λ n. f l + n) (total_sorted f ls)
 
 pub total_filtered : {A : Type 0} (f : A → ℕ) (p : A → Bool) (xs : List A) → total f (filter p xs) ≤ total f xs
 total_filtered f p [] = omega arith
@@ -154,7 +154,7 @@ total_filtered f p (x ∷ xs) = go (p x) (total_filtered f p xs)
     go false ih = omega (arith, ih)
 
 set_size : (ls : List Label) → labels_size (label_set ls) ≤ labels_size ls
-set_size ls = let sorted = total_sorted (filter has_value ls) in let kept = total_filtered label_size has_value ls in omega (arith, sorted, kept)
+set_size ls = let sorted = total_sorted label_size (filter has_value ls) in let kept = total_filtered label_size has_value ls in omega (arith, sorted, kept)
 
 -- ---- items
 

@@ -9,15 +9,15 @@ use Rattle.std.proofs.lemmas.List.{length-append}
 use Rattle.std.proofs.lemmas.List.Elements.{recursion_from_All}
 use Rattle.std.proofs.lemmas.List.Sorted.{IsPermutation-refl}
 use Rattle.label_sets.specs.declared.kind.Kind.{Kind}
-use Rattle.label_sets.specs.declared.kind.Kind.TheVariants.{Counter, Gauge, Histogram, GaugeHistogram, StateSet, Info, Summary, Unknown}
+use Rattle.label_sets.specs.declared.kind.Kind.TheVariants.{Counter, GaugeHistogram, Info}
 use Rattle.label_sets.specs.declared.label.Label.{Label}
 use Rattle.label_sets.specs.declared.label_set.LabelSet.{LabelSet}
-use Rattle.label_sets.specs.Labels.{name_before, label_inserted, labels_sorted, has_name, without_label, exported_name, label_renamed}
+use Rattle.label_sets.specs.Labels.{has_name, without_label, exported_name, label_renamed}
 use Rattle.label_sets.specs.Sets.{IsLabelSet}
 use Rattle.label_sets.specs.Building.{same_name}
-use Rattle.label_sets.proofs.Laws.{distinct_before}
+use Rattle.label_sets.proofs.Laws.{distinct_before, all-append, all-weaker, length-inserted}
 use Rattle.exact_decimal.specs.declared.number.Number.{Number}
-use Rattle.exact_decimal.specs.declared.number.Number.TheVariants.{Finite, Up, Down, NotANumber}
+use Rattle.exact_decimal.specs.declared.number.Number.TheVariants.{Finite}
 use Rattle.exact_decimal.specs.Numbers.{number_of}
 use Rattle.exact_decimal.specs.Literals.{number_text}
 use Rattle.exact_decimal.proofs.Laws.{length-decimal_text}
@@ -35,13 +35,11 @@ use Rattle.page_model.specs.Owners.{kept_labels}
 use Rattle.page_model.specs.Readings.{key_name}
 use Rattle.open_writing.specs.Writing.{bare_sample, number_sample, with_number_label, bucket_sample, quantile_sample, count_suffix, sum_suffix, observations, total_samples, value_samples, reading_samples, escaped_char, escaped, open_label_text, more_labels_text, labels_text, sample_text}
 use Rattle.open_writing.specs.Forms.{IsFormedNumber, IsFormedOption, is_u64_option, IsFormedValue, IsFormedTime, IsFormedReading}
-use Rattle.writing_laws.proofs.Turned.{all-append, all-weaker}
 use Rattle.writing_laws.proofs.BlocksBack.{turned}
 use Rattle.writing_laws.proofs.FairParts.{counted}
 use Rattle.writing_laws.proofs.Fair.{IsFairBucket, fair_of, few_observations}
 use Rattle.writing_laws.proofs.FewLines.{total, nothing_else}
-use Rattle.writing_laws.proofs.ReadLabels.{length-inserted}
-use Rattle.writing_laws.proofs.ShortLines.{labels_size, total_filtered, two, three}
+use Rattle.writing_laws.proofs.ShortLines.{labels_size, total_filtered, two, three, total_inserted, total_sorted}
 
 -- ---- the bytes that a label may take
 
@@ -51,18 +49,6 @@ label_weight l = length l.name + 2 * length l.value
 
 abbrev pub labels_weight : List Label → ℕ
 labels_weight ls = total label_weight ls
-
-weight_inserted : (l : Label) (ls : List Label) → labels_weight (label_inserted l ls) ≡ label_weight l + labels_weight ls
-weight_inserted l [] = refl
-weight_inserted l (m ∷ ms) = go (name_before l.name m.name) (weight_inserted l ms)
-  where
-    go : (b : Bool) → labels_weight (label_inserted l ms) ≡ label_weight l + labels_weight ms → labels_weight (cond b (l ∷ m ∷ ms) (m ∷ label_inserted l ms)) ≡ label_weight l + (label_weight m + labels_weight ms)
-    go true ih = refl
-    go false ih = omega (arith, ih)
-
-weight_sorted : (ls : List Label) → labels_weight (labels_sorted ls) ≡ labels_weight ls
-weight_sorted [] = refl
-weight_sorted (l ∷ ls) = weight_inserted l (labels_sorted ls) ∙ ap (λ n. label_weight l + n) (weight_sorted ls)
 
 weight_size : (ls : List Label) → labels_weight ls ≤ 2 * labels_size ls
 weight_size [] = omega arith
@@ -123,7 +109,7 @@ grown_once k name (l ∷ ls) d = go (bytes_eq l.name name) refl (grown_once k na
 pub kept_weight : (t : Treatment) (ls : LabelSet) → IsLabelSet ls → length ls ≤ 64 → labels_weight (kept_labels t ls) ≤ 2 * labels_size ls + 1152
 kept_weight treatments.Written ls set few = let own = weight_size ls in omega (arith, own)
 kept_weight treatments.Scraped ls set few =
-    let sorted = weight_sorted (map (label_renamed ls) ls) in
+    let sorted = total_sorted label_weight (map (label_renamed ls) ls) in
     let grown = renamed_weights ls ls in
     let distinct = distinct_before ls ls (IsPermutation-refl ls) set.ascending in
     let job = grown_once (9 * length ls) (codes "job") ls distinct in
@@ -139,9 +125,7 @@ without_weight name ls = total_filtered label_weight (λ (l : Label). not (bytes
 number_length : (n : Number) → IsFormedNumber n → length (number_text n) ≤ 45
 unfolding number_text
 number_length (Finite d) h = length-decimal_text d h
-number_length Up h = omega arith
-number_length Down h = omega arith
-number_length NotANumber h = omega arith
+number_length _ h = omega arith
 
 pub escaped_length : (text : List ℕ) → length (escaped text) ≤ 2 * length text
 unfolding escaped
@@ -218,7 +202,7 @@ module _ (family : List ℕ) (labels : LabelSet) where
   -- one with a number among its labels
   small_placed : (name : List ℕ) (n value : Number) (own : List ℕ) → length name ≤ 8 → IsFormedNumber n → length own ≤ length family + 8 → IsFormedNumber value → IsSmall family labels (bare_sample own (with_number_label name n labels) value)
   small_placed name n value own short formed named h =
-      let weight = weight_inserted (record { name = name; value = number_text n }) labels in
+      let weight = total_inserted label_weight (record { name = name; value = number_text n }) labels in
       let more = length-inserted (record { name = name; value = number_text n }) labels in
       let literal = number_length n formed in
       record { value = h; name = named; weight = omega (arith, weight, literal, short); count = omega (arith, more) }
@@ -232,23 +216,11 @@ module _ (family : List ℕ) (labels : LabelSet) where
 
   count_short : (kind : Kind) → length (count_suffix kind) ≤ 8
   count_short GaugeHistogram = omega arith
-  count_short Counter = omega arith
-  count_short Gauge = omega arith
-  count_short Histogram = omega arith
-  count_short StateSet = omega arith
-  count_short Info = omega arith
-  count_short Summary = omega arith
-  count_short Unknown = omega arith
+  count_short _ = omega arith
 
   sum_short : (kind : Kind) → length (sum_suffix kind) ≤ 8
   sum_short GaugeHistogram = omega arith
-  sum_short Counter = omega arith
-  sum_short Gauge = omega arith
-  sum_short Histogram = omega arith
-  sum_short StateSet = omega arith
-  sum_short Info = omega arith
-  sum_short Summary = omega arith
-  sum_short Unknown = omega arith
+  sum_short _ = omega arith
 
   small_totals : (kind : Kind) (bs : List Bucket) (sum : Option Number) → observations bs < 2 ^ 64 → IsFormedOption sum → AllByRecursion (IsSmall family labels) (total_samples kind family labels bs sum)
   small_totals kind bs None few h = tt
@@ -265,12 +237,7 @@ module _ (family : List ℕ) (labels : LabelSet) where
   key_short : (kind : Kind) → length (key_name OpenMetrics kind family) ≤ length family + 8
   key_short Counter = let parts = two family (codes "_total") in let suffix : length (codes "_total") ≡ 6 = refl in omega (arith, parts, suffix)
   key_short Info = let parts = two family (codes "_info") in let suffix : length (codes "_info") ≡ 5 = refl in omega (arith, parts, suffix)
-  key_short Gauge = omega arith
-  key_short Histogram = omega arith
-  key_short GaugeHistogram = omega arith
-  key_short StateSet = omega arith
-  key_short Summary = omega arith
-  key_short Unknown = omega arith
+  key_short _ = omega arith
 
   small_value : (f : Format) (t : Treatment) (kind : Kind) (v : Value) → IsFormedValue f t kind family labels v → AllByRecursion (IsSmall family labels) (value_samples kind family labels v)
   unfolding value_samples

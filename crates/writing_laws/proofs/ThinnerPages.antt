@@ -3,7 +3,6 @@ use Rattle.std.proofs.Common.{◌≡◌, ℕ, ◌≤◌, Bool, true, false, not,
 use Rattle.std.specs.Prelude.{IsTrue}
 use Rattle.std.specs.List.{list_any, list_all, flat_map, AllByRecursion, IsDistinct}
 use Rattle.std.specs.Str.{bytes_eq}
-use Rattle.std.proofs.Math.Numerals.{one-add}
 use Rattle.std.proofs.lemmas.Bool.{and_parts, and_from, not-true}
 use Rattle.std.proofs.lemmas.List.Elements.{All-from_recursion, recursion_from_All}
 use Rattle.label_sets.specs.declared.kind.Kind.{Kind}
@@ -23,6 +22,7 @@ use Rattle.page_model.specs.declared.page.Family.{Family}
 use Rattle.page_model.specs.Written.{label_limit, line_limit}
 use Rattle.page_model.specs.Readings.{key_name}
 use Rattle.label_sets.specs.Sets.{IsLabelSet}
+use Rattle.label_sets.proofs.Laws.{all-append, all-front, all-behind, rest-passed, rest-stopped, rest-none}
 use Rattle.page_model.specs.Owners.{group_of}
 use Rattle.page_model.specs.Pages.{AreSomeOf, IsThinnerReading, IsThinnerFamily, AreThinnerFamilies}
 use Rattle.open_writing.specs.Writing.{number_sample, value_samples, reading_samples, item_unless_empty, family_samples, family_items, page_items, item_text}
@@ -30,7 +30,7 @@ use Rattle.open_writing.specs.FamilyKeys.{family_key, clash}
 use Rattle.open_writing.specs.Forms.{IsFormedValue, IsFormedTime, is_text_label, is_own_label, IsFormedReading, IsFormedFamily, label_sets_of, stand_together}
 use Rattle.open_writing.specs.OpenForms.{IsBareReading}
 use Rattle.writing_laws.specs.WritingLaws.{ThinnerAreWritable, FewerAreWritable}
-use Rattle.writing_laws.proofs.Turned.{all-append, all-front, all-behind, map-append}
+use Rattle.writing_laws.proofs.Turned.{map-append}
 
 -- ---- what some of a list keep
 
@@ -79,20 +79,6 @@ none_left p (x ∷ xs) (y ∷ ys) (inr s) e = go (p x) e (none_left p xs (y ∷ 
     go true k ih = absurd (let g : true ≡ false = k in cc)
     go false k ih = ih k
 
-pub rest_passed : {A : Type 0} (p : A → Bool) (x : A) (xs : List A) → p x ≡ true → rest_while p (x ∷ xs) ≡ rest_while p xs
-rest_passed p x xs e = rw (e, one-add) refl
-
-pub rest_stopped : {A : Type 0} (p : A → Bool) (x : A) (xs : List A) → p x ≡ false → rest_while p (x ∷ xs) ≡ x ∷ xs
-rest_stopped p x xs e = rw e refl
-
-pub none_in_rest : {A : Type 0} (p : A → Bool) (xs : List A) → list_any p xs ≡ false → list_any p (rest_while p xs) ≡ false
-none_in_rest p [] e = refl
-none_in_rest p (x ∷ xs) e = go (p x) refl e
-  where
-    go : (b : Bool) → p x ≡ b → (b || list_any p xs) ≡ false → list_any p (rest_while p (x ∷ xs)) ≡ false
-    go true f k = absurd (let g : true ≡ false = k in cc)
-    go false f k = ap (list_any p) (rest_stopped p x xs f) ∙ rw f k
-
 -- where none passes behind the front that does, none does so among some of them
 rest_left : {A : Type 0} (p : A → Bool) (xs ys : List A) → AreSomeOf (λ a b. b ≡ a) xs ys → list_any p (rest_while p xs) ≡ false → list_any p (rest_while p ys) ≡ false
 rest_left p [] [] s e = refl
@@ -101,13 +87,13 @@ rest_left p (x ∷ xs) [] s e = refl
 rest_left p (x ∷ xs) (y ∷ ys) (inl s) e = go (p x) refl (rest_left p xs ys s.1)
   where
     go : (b : Bool) → p x ≡ b → (list_any p (rest_while p xs) ≡ false → list_any p (rest_while p ys) ≡ false) → list_any p (rest_while p (y ∷ ys)) ≡ false
-    go true f ih = ap (list_any p) (rest_passed p y ys (ap p s.0 ∙ f)) ∙ ih (ap (list_any p) (sym (rest_passed p x xs f)) ∙ e)
-    go false f ih = none_in_rest p (y ∷ ys) (none_left p (x ∷ xs) (y ∷ ys) (inl s) (ap (list_any p) (sym (rest_stopped p x xs f)) ∙ e))
+    go true f ih = ap (list_any p) (rest-passed p y ys (ap p s.0 ∙ f)) ∙ ih (ap (list_any p) (sym (rest-passed p x xs f)) ∙ e)
+    go false f ih = rest-none p (y ∷ ys) (none_left p (x ∷ xs) (y ∷ ys) (inl s) (ap (list_any p) (sym (rest-stopped p x xs f)) ∙ e))
 rest_left p (x ∷ xs) (y ∷ ys) (inr s) e = go (p x) refl (rest_left p xs (y ∷ ys) s)
   where
     go : (b : Bool) → p x ≡ b → (list_any p (rest_while p xs) ≡ false → list_any p (rest_while p (y ∷ ys)) ≡ false) → list_any p (rest_while p (y ∷ ys)) ≡ false
-    go true f ih = ih (ap (list_any p) (sym (rest_passed p x xs f)) ∙ e)
-    go false f ih = none_in_rest p (y ∷ ys) (none_left p (x ∷ xs) (y ∷ ys) (inr s) (ap (list_any p) (sym (rest_stopped p x xs f)) ∙ e))
+    go true f ih = ih (ap (list_any p) (sym (rest-passed p x xs f)) ∙ e)
+    go false f ih = rest-none p (y ∷ ys) (none_left p (x ∷ xs) (y ∷ ys) (inr s) (ap (list_any p) (sym (rest-stopped p x xs f)) ∙ e))
 
 pub some_together : (gs hs : List LabelSet) → AreSomeOf (λ a b. b ≡ a) gs hs → stand_together gs ≡ true → stand_together hs ≡ true
 unfolding stand_together

@@ -2,7 +2,7 @@
 use Rattle.std.proofs.Common.{◌≡◌, Bool, true, false, not, ◌||◌, List, [], ◌∷◌, map, refl, sym, ap, subst, ◌∙◌, inl, inr, ◌⊎◌}
 use Rattle.std.specs.Prelude.{⊤}
 use Rattle.std.specs.List.{list_any, flat_map, AllByRecursion}
-use Rattle.std.proofs.lemmas.Bool.{and_parts, not-true}
+use Rattle.std.proofs.lemmas.Bool.{and_parts, not-true, or_parts}
 use Rattle.label_sets.specs.declared.label_set.LabelSet.{LabelSet}
 use Rattle.label_sets.specs.Lists.{rest_while}
 use Rattle.label_sets.specs.Labels.{label_sets_eq}
@@ -20,11 +20,7 @@ either : (b : Bool) → (b ≡ true) ⊎ (b ≡ false)
 either true = inl refl
 either false = inr refl
 
-parts_of : (a b : Bool) → (a || b) ≡ false → (a ≡ false) × (b ≡ false)
-parts_of false b e = (refl, e)
-parts_of true b e = absurd cc
-
-same_set : (a b : LabelSet) → label_sets_eq a b ≡ true → a ≡ b
+pub same_set : (a b : LabelSet) → label_sets_eq a b ≡ true → a ≡ b
 same_set a b e = (label_sets_decide a b).0 e
 
 -- a group that isn't at the front of those to come is among what is left
@@ -48,7 +44,7 @@ nearest_done n g gs h = go (either (label_sets_eq n g))
     go (inl e) = inl (same_set n g e)
     go (inr e) =
         let k : (label_sets_eq n g || list_any (label_sets_eq n) gs) ≡ false = ap (list_any (label_sets_eq n)) (sym (rest_other n g gs e)) ∙ h in
-        inr (parts_of (label_sets_eq n g) (list_any (label_sets_eq n) gs) k).1
+        inr (or_parts (label_sets_eq n g) (list_any (label_sets_eq n) gs) k).1
 
 -- the others, behind one more
 others_done : (n g : LabelSet) (rest gs : List LabelSet) → AllByRecursion (IsDone n (g ∷ gs)) rest → IsDone g gs n → AllByRecursion (IsDone g gs) rest
@@ -57,7 +53,7 @@ others_done n g (a ∷ rest) gs h d = (one h.0, others_done n g rest gs h.1 d)
   where
     one : IsDone n (g ∷ gs) a → IsDone g gs a
     one (inl e) = subst (IsDone g gs) (sym e) d
-    one (inr e) = inr (parts_of (label_sets_eq a g) (list_any (label_sets_eq a) gs) e).1
+    one (inr e) = inr (or_parts (label_sets_eq a g) (list_any (label_sets_eq a) gs) e).1
 
 -- none of the others is one that is not the nearest
 not_among : (n g : LabelSet) (rest gs : List LabelSet) → AllByRecursion (IsDone n (g ∷ gs)) rest → label_sets_eq n g ≡ false → list_any (λ m. label_sets_eq m g) rest ≡ false
@@ -66,7 +62,7 @@ not_among n g (a ∷ rest) gs h e = or_none (label_sets_eq a g) _ (one h.0) (not
   where
     one : IsDone n (g ∷ gs) a → label_sets_eq a g ≡ false
     one (inl f) = ap (λ x. label_sets_eq x g) f ∙ e
-    one (inr f) = (parts_of (label_sets_eq a g) (list_any (label_sets_eq a) gs) f).0
+    one (inr f) = (or_parts (label_sets_eq a g) (list_any (label_sets_eq a) gs) f).0
 
 behind_others : (n : LabelSet) (rest gs : List LabelSet) → IsPast n rest gs → stand_together gs ≡ true → Each NotBack (n ∷ rest) gs
 unfolding stand_together
@@ -111,7 +107,7 @@ run_all h above g gs back all = (subst (NotBack above) (sym all.0) back, subst (
 turned_run : (h : LabelSet) (above gs : List LabelSet) → AllByRecursion (λ g. g ≡ h) gs → (g : LabelSet) → list_any (λ m. label_sets_eq m g) (h ∷ above) ≡ false → list_any (λ m. label_sets_eq m g) (turn gs (h ∷ above)) ≡ false
 turned_run h above [] all g e = e
 turned_run h above (x ∷ gs) all g e =
-    let both = parts_of (label_sets_eq h g) (list_any (λ m. label_sets_eq m g) above) e in
+    let both = or_parts (label_sets_eq h g) (list_any (λ m. label_sets_eq m g) above) e in
     subst (λ y. list_any (λ m. label_sets_eq m g) (turn gs (y ∷ h ∷ above)) ≡ false) (sym all.0) (turned_run h (h ∷ above) gs all.1 g (or_none (label_sets_eq h g) _ both.0 e))
 
 -- the nearest behind the part is of its group
@@ -128,7 +124,7 @@ tied_more h parts elements x gs tied all =
     let start : turn (x ∷ gs) elements ≡ turn gs (h ∷ elements) = ap (λ y. turn gs (y ∷ elements)) all.0 in
     let front = front_of h elements gs all.1 in
     let absent : (g : LabelSet) → list_any (λ m. label_sets_eq m g) (h ∷ parts) ≡ false → list_any (λ m. label_sets_eq m g) (turn gs (h ∷ elements)) ≡ false
-    = λ g e. let both = parts_of (label_sets_eq h g) (list_any (λ m. label_sets_eq m g) parts) e in
+    = λ g e. let both = or_parts (label_sets_eq h g) (list_any (λ m. label_sets_eq m g) parts) e in
     turned_run h elements gs all.1 g (or_none (label_sets_eq h g) _ both.0 (tied.none g both.1)) in
     record {
       first = λ g back. subst (λ t. NotBack t g) (sym start) (subst (λ t. NotBack t g) (sym front.is) (begins g front.others (absent g) front.is back));
@@ -144,7 +140,7 @@ tied_more h parts elements x gs tied all =
         go (inl f) = inl f
         go (inr f) =
             let k : (label_sets_eq h g || list_any (λ m. label_sets_eq m g) others) ≡ false = ap (list_any (λ m. label_sets_eq m g)) (sym is) ∙ absent (or_none (label_sets_eq h g) _ f e) in
-            inr (parts_of (label_sets_eq h g) _ k).1
+            inr (or_parts (label_sets_eq h g) _ k).1
 
 -- the groups of a part's elements, of which there is one at least
 pub record IsRun {A : Type 0} (group : A → LabelSet) (h : LabelSet) (xs : List A) : Type 0 where

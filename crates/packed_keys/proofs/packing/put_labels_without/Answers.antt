@@ -1,10 +1,11 @@
 use Rattle.std.proofs.Common.{take, sym, ap, subst, ◌∙◌, arith, not, true, false, List, ℕ, [], ◌∷◌, ◌++◌, ◌≡◌, ◌+◌, length}
 use Rattle.std.specs.Str.{bytes_eq}
 use Rattle.std.proofs.lemmas.List.{take_more, take_all}
+use Rattle.std.proofs.lemmas.Bool.{not-false}
 use Rattle.label_sets.specs.declared.label.Label.{Label}
 use Rattle.label_sets.specs.Labels.{without_label}
 use Rattle.label_sets.proofs.Laws.{IsLabelSet-without}
-use Rattle.packed_keys.proofs.Put.{AreAdded, none_added, one_added, set_added, one_kept, one_left_out, not_true, not_false}
+use Rattle.packed_keys.proofs.Put.{AreAdded, none_added, one_added, set_added, one_kept, one_left_out, not_true}
 use Rattle.packed_keys.proofs.packing.put_labels_without.Goals as goal
 use Rattle.packed_keys.proofs.packing.put_labels_without.Goals.{then-ne+in_ok-put_label, else-ne}
 
@@ -23,7 +24,7 @@ loop-label-preserved c =
     elim c.if-ne.branch [
       | then-ne+in_ok-put_label w ↦ (let other : bytes_eq l.name c.args.name.now ≡ false = not_true (bytes_eq l.name c.args.name.now) (sym test ∙ w.if-ne.true) in
           rw (w.out-is, more, kept other) (one_added start c.loop-label.out.items w.put_label.new.out.items (without_label c.args.name.now front) l c.loop-label.invariant w.in_ok-put_label.ensures.added w.in_ok-put_label.ensures.text))
-      | else-ne w ↦ (let same : bytes_eq l.name c.args.name.now ≡ true = not_false (bytes_eq l.name c.args.name.now) (sym test ∙ w.if-ne.false) in
+      | else-ne w ↦ (let same : bytes_eq l.name c.args.name.now ≡ true = not-false (bytes_eq l.name c.args.name.now) (sym test ∙ w.if-ne.false) in
           rw (w.out-is, more, one_left_out c.args.name.now front l same) c.loop-label.invariant)
     ]
 
