@@ -3,6 +3,7 @@ use Rattle.std.proofs.Common.{◌≡◌, ℕ, suc, ◌+◌, Bool, false, List, [
 use Rattle.std.specs.Prelude.{slice_get, ⊤, codes, All}
 use Rattle.std.specs.Option.{option_or}
 use Rattle.std.specs.List.{AllZip, AllByRecursion}
+use Rattle.std.proofs.lemmas.Bool.{or_parts}
 use Rattle.httparse.proofs.OnLiterals.{httparse_on_literals}
 use Rattle.page_model.specs.declared.event.Event.{Event}
 use Rattle.bridge_ports.specs.declared.memory_world.Shelved.{Shelved}
@@ -30,7 +31,6 @@ use Rattle.target_table.specs.Tables.{HasAllVisits, IsTrackAt, AreTracks}
 use Rattle.run_report.specs.declared.target_end.TargetEnd.{TargetEnd}
 use Rattle.run_report.specs.Ends.{track_end, some_halted}
 use Rattle.run_report.specs.Reports.{report_text}
-use Rattle.plain_words.proofs.Laws.{or_parts}
 use Rattle.replay_script.specs.declared.header.Header.{Header}
 use Rattle.replay_script.specs.declared.script.ScriptTarget.{ScriptTarget}
 use Rattle.replay_script.specs.declared.script.Script.{Script}

@@ -177,10 +177,6 @@ nothing_part : (p : Printed) (text : List ℕ) → IsNothing p → GivesPart p t
 nothing_part (Whole t) text none e = e ∙ none
 nothing_part _ text none e = absurd none
 
-nothing_text : (p : Printed) (text : List ℕ) → IsNothing p → Gives p text → text ≡ []
-nothing_text (Whole t) text none e = e ∙ none
-nothing_text _ text none e = absurd none
-
 -- of nothing no front is written that leaves something
 no_front_of : (p : Printed) (text : List ℕ) (before after : Option (List ℕ)) → IsNothing p → GivesPart p text → WroteFront before after text → ⊥
 no_front_of p text before after none gives front = no_front before after text front (nothing_part p text none gives)
@@ -209,10 +205,6 @@ ended_status status p before after result (printed text gives written) = (status
 ended_status status p before after result (stopped text gives front) = (statuses.WriteFailed, refl)
 ended_status status p before after result (wanting text gives written other) = (statuses.WantOfMemory, refl)
 
-not_told : (code : ℕ) → IsTold code → IsUntold code → ⊥
-not_told code told (inl read) = told.0 read
-not_told code told (inr memory) = told.2 memory
-
 -- the status with this code
 abbrev status_with : ℕ → Status
 status_with code =
@@ -226,11 +218,6 @@ status_back _ = refl
 -- statuses with one code are one
 same_code : (s t : Status) → code_of s ≡ code_of t → s ≡ t
 same_code s t e = sym (status_back s) ∙ ap status_with e ∙ status_back t
-
--- a text that the answer gives
-gives_some : (words : List (List ℕ)) (left : Option (List ℕ)) (status : Status) (p : Printed) (text : List ℕ) → IsPrintedFor words left status p → IsTold (code_of status) → Gives p text
-    → HasAnswer (IsAnswer words) left (code_of status) text
-gives_some words left status p text for told gives = for.gives told text gives
 
 -- the whole answer was written
 pub ended_answered : (words : List (List ℕ)) (left : Option (List ℕ)) (status : Status) (p : Printed) (before after : Option (List ℕ)) (result : ℕ) → IsPrintedFor words left status p

@@ -32,9 +32,9 @@ use Rattle.bridge_cli.specs.declared.replaying.Cut.{Cut}
 use Rattle.bridge_cli.specs.declared.replaying.Cut.TheVariants as cuts
 use Rattle.bridge_cli.specs.Limits.{most_rounds}
 use Rattle.bridge_cli.specs.Replays.{script_tracking, reply_talk, IsReplyEvent, IsEventAt, AreEvents, body_after, bodies_of, IsTextOfSome, IsTextOf, AreTexts, joined_texts, IsReplay, IsReplayOfSome}
-use Rattle.bridge_ports.proofs.Laws.{appends_none, appends_twice, front_behind}
+use Rattle.bridge_ports.proofs.Laws.{appends_twice, front_behind}
 use Rattle.otlp_tree.specs.declared.tree.Request.{Request}
-use Rattle.bridge_cli.specs.Printed.{MakesTree, PrintsNext, CutsTarget, CutsBodies, StandsForAll, PrintedSome, PrintedTargets}
+use Rattle.bridge_cli.specs.Printed.{MakesTree, PrintsNext, CutsTarget, CutsBodies, PrintedSome, PrintedTargets}
 use Rattle.bridge_ports.specs.Writing.{WroteFront}
 
 -- ---- one text
@@ -170,10 +170,6 @@ at_place [] i x inside e = absurd (omega arith)
 at_place (y ∷ ys) zero x inside e = ap Some (sym e)
 at_place (y ∷ ys) (suc i) x inside e = at_place ys i x (omega (arith, inside)) e
 
--- nothing was printed of a target
-pub printed_none : (h : Header) (t : ScriptTarget) (state : Following) (held : Option (List ℕ)) → StandsFor t.target (script_tracking h) state [] → PrintedSome h t 0 state held held
-printed_none h t state held stands = record { events = []; are = tt; count = refl; stands = stands; written = appends_none held }
-
 -- the event behind those that were printed
 next_event : (h : Header) (t : ScriptTarget) (at : ℕ) (state : Following) (a b : Option (List ℕ)) (r : MemoryReply) (e : Event) → (was : PrintedSome h t at state a b) → slice_get t.scrapes at ≡ Some r → IsReplyEvent h r e
     → IsEventAt h t.scrapes (length was.events) e
@@ -189,16 +185,6 @@ printed_more h t at old new a b c r e was stands is state more = record {
   stands = state;
   written = appends_twice a b c (bodies_of h t.target was.events) (body_after h t.target was.events e) was.written more;
 }
-
--- all bodies of a target were printed
-pub printed_all : (h : Header) (t : ScriptTarget) (at : ℕ) (state : Following) (a b : Option (List ℕ)) → PrintedSome h t at state a b → at ≡ length t.scrapes
-    → (text : List ℕ) × IsTextOf h t text × Appends a b text
-printed_all h t at state a b was all =
-    (bodies_of h t.target was.events, record { events = was.events; are = was.are; all = was.count ∙ all; says = refl }, was.written)
-
--- the state behind all bodies
-pub stands_for_all : (h : Header) (t : ScriptTarget) (at : ℕ) (state : Following) (a b : Option (List ℕ)) → PrintedSome h t at state a b → at ≡ length t.scrapes → StandsForAll h t state
-stands_for_all h t at state a b was all = record { events = was.events; are = was.are; all = was.count ∙ all; stands = was.stands }
 
 -- a front of the next body was written
 pub printed_front : (h : Header) (t : ScriptTarget) (at : ℕ) (state : Following) (a b c : Option (List ℕ)) (r : MemoryReply) (e : Event) → (was : PrintedSome h t at state a b) → slice_get t.scrapes at ≡ Some r
@@ -220,9 +206,6 @@ printed_stop h t at state a b c was none =
 
 -- ---- one target more
 
-pub targets_none : (s : Script) (held : Option (List ℕ)) → PrintedTargets s 0 held held
-targets_none s held = record { texts = []; are = tt; count = refl; written = appends_none held }
-
 pub targets_more : (s : Script) (at : ℕ) (a b c : Option (List ℕ)) (t : ScriptTarget) (text : List ℕ) → PrintedTargets s at a b → slice_get s.targets at ≡ Some t → IsTextOf s.header t text → Appends b c text
     → PrintedTargets s (at + 1) a c
 targets_more s at a b c t text was stands is more = record {
@@ -231,9 +214,6 @@ targets_more s at a b c t text was stands is more = record {
   count = omega (arith, was.count);
   written = appends_twice a b c (joined_texts was.texts) text was.written more;
 }
-
-pub targets_all : (s : Script) (at : ℕ) (a b : Option (List ℕ)) → PrintedTargets s at a b → at ≡ length s.targets → (text : List ℕ) × IsReplay s text × Appends a b text
-targets_all s at a b was all = (joined_texts was.texts, record { texts = was.texts; are = was.are; all = was.count ∙ all; says = refl }, was.written)
 
 -- the text of all events is that of some
 pub some_text : (h : Header) (t : ScriptTarget) (text : List ℕ) → IsTextOf h t text → IsTextOfSome h t text

@@ -97,11 +97,6 @@ shelf_with (p ∷ ps) w = shelf_with ps (with_shelved_pair p.scrape p.post w) �
     by None = refl
     by (Some pairs) = refl
 
--- nothing else of a world changed
-pub rest_with : (ws : List Shelved) (w : WorldState) → with_shelved ws w ≡ record w { shelf = (with_shelved ws w).shelf }
-rest_with [] w = refl
-rest_with (p ∷ ps) w = rest_with ps (with_shelved_pair p.scrape p.post w)
-
 -- the wires of a script's run, each of whose targets was visited through, were handed in
 pub script_shelved : (keeps : Bool) (s : Script) (ends : List TargetEnd) (wires : List Shelved) (before after : WorldState) → IsRightScript s → IsScriptRun keeps s ends wires → AreVisitedThrough s.header.rounds ends → after ≡ with_shelved wires before
     → keeps ≡ is_some before.shelf → IsShelfOf s before.shelf after.shelf

@@ -1,5 +1,5 @@
 -- What targets show behind a script's events: that it is one, that it may be gathered, and how it is printed.
-use Rattle.std.proofs.Common.{◌≡◌, ℕ, zero, suc, ◌+◌, ◌≤◌, Bool, true, false, ◌&&◌, bytes_eq, List, [], ◌∷◌, ◌++◌, length, map, take, Option, Some, Result, Ok, refl, sym, ap, subst, ◌∙◌, inl, inr, arith, append-nil}
+use Rattle.std.proofs.Common.{◌≡◌, ℕ, zero, suc, ◌+◌, ◌≤◌, Bool, true, false, ◌&&◌, bytes_eq, List, [], ◌∷◌, ◌++◌, length, map, take, Option, Some, Ok, refl, sym, ap, subst, ◌∙◌, inl, inr, arith, append-nil}
 use Rattle.std.specs.Prelude.{slice_get}
 use Rattle.std.specs.Io.KnownBytes.{Appends}
 use Rattle.std.specs.List.{IsDistinct, AllByRecursion}
@@ -36,7 +36,7 @@ use Rattle.plain_words.proofs.Laws.{in_range}
 use Rattle.bridge_cli.specs.declared.replaying.Cut.{Cut}
 use Rattle.bridge_cli.specs.declared.replaying.Cut.TheVariants as cuts
 use Rattle.bridge_cli.specs.Replays.{script_tracking, reply_talk, AreEvents, AreTexts, joined_texts, IsReplay, IsReplayOfSome, IsLastShown, AreLastShown, IsReplayPage, IsReplayWith}
-use Rattle.bridge_cli.specs.Printed.{CutCause, CutsBodies, CutsText, CutsScript, PrintsScript, StandsForAll, ShowsLast, ShowsOneMore}
+use Rattle.bridge_cli.specs.Printed.{CutsText, CutsScript, PrintsScript, StandsForAll, ShowsLast, ShowsOneMore}
 use Rattle.scrape_client.proofs.Laws.{few_samples}
 use Rattle.bridge_cli.proofs.ReplayLaws.{events_once, replay_once, outcome_holds, some_text}
 
@@ -206,12 +206,3 @@ page_cut page s shown a b c cut asked some are bodies text = subst (λ p. CutsSc
 -- no page was asked for
 pub no_page_behind : {T : Type 0} (page : Bool) (s : Script) (a b : Option (List ℕ)) (done : T) → page ≡ false → PrintedAll s a b → PrintsScript page s a b (Ok done)
 no_page_behind page s a b done asked bodies = subst (λ p. PrintsScript p s a b (Ok done)) (sym asked) bodies
-
--- printing the bodies was cut off
-pub bodies_cut : (page : Bool) (s : Script) (a b : Option (List ℕ)) (cut : Cut) → CutsBodies s a b cut → CutsScript page s a b cut
-bodies_cut page s a b cuts.Write is = (is.0, inl is.1, is.2)
-bodies_cut page s a b cuts.Memory is = (is.0, inl is.1, is.2)
-
--- writes that failed behind others that did not
-pub cause_behind : {T : Type 0} (before mid now : ℕ) (r : Result T Cut) → mid ≡ before → CutCause mid now r → CutCause before now r
-cause_behind before mid now r same cause = subst (λ n. CutCause n now r) same cause

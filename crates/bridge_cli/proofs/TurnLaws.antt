@@ -19,7 +19,6 @@ use Rattle.series_table.specs.HttpTalks.{talking}
 use Rattle.series_table.specs.Talking.{Followed}
 use Rattle.series_table.specs.Emission.{tracking_of, IsEventOf}
 use Rattle.series_table.specs.Records.{Kept, IsBodyOf, IsDone, IsFree, IsTrack, talks_of}
-use Rattle.series_table.specs.declared.counts.Counts.{Counts}
 use Rattle.target_table.specs.Tables.{HasAllVisits, AreTracks}
 use Rattle.run_report.specs.Ends.{track_end}
 use Rattle.replay_script.specs.declared.header.Header.{Header}
@@ -28,13 +27,14 @@ use Rattle.replay_script.specs.declared.script.Script.{Script}
 use Rattle.replay_script.specs.RightScripts.{IsRightTarget}
 use Rattle.replay_script.specs.WirePlans.{scrape_plan}
 use Rattle.bridge_cli.specs.Replays.{IsReplyEvent, IsLastShown, body_after, script_tracking}
-use Rattle.bridge_cli.specs.Rounds.{script_followed, script_targets, IsUnvisited, IsAtRound, IsVisitedAt, AreWiresOf, AreVisitedThrough, AreVisitedWires}
-use Rattle.bridge_cli.specs.Printed.{PrintedSome, PrintsText, PrintsNext}
+use Rattle.bridge_cli.specs.Rounds.{script_followed, script_targets, IsAtRound, IsVisitedAt, AreWiresOf, AreVisitedThrough, AreVisitedWires}
+use Rattle.bridge_cli.specs.Printed.{PrintsText, PrintsNext}
 use Rattle.bridge_cli.specs.declared.replaying.Cut.{Cut}
 use Rattle.bridge_cli.specs.declared.replaying.Cut.TheVariants as cuts
-use Rattle.bridge_cli.proofs.ReplayLaws.{printed_none, tree_body}
+use Rattle.bridge_cli.proofs.ReplayLaws.{tree_body}
 use Rattle.bridge_cli.proofs.TalkLaws.{scrape_told, track_told}
 use Rattle.bridge_cli.proofs.VisitLaws.{all_of, behind, next_track}
+use Rattle.label_sets.proofs.Laws.{all-append}
 
 -- ---- one visit
 
@@ -113,25 +113,6 @@ visit_more keeps h t place at old new body under is done =
 
 -- ---- a target
 
--- no round of a track that was not visited was made
-pub under_way : (keeps : Bool) (h : Header) (t : ScriptTarget) (place : ℕ) (k : Kept) → IsUnvisited place (script_followed keeps h t) k → IsAtRound keeps h t place 0 k
-under_way keeps h t place k new = record { followed = new.at.followed; scrape_place = new.at.scrape_place; post_place = new.at.post_place; goes_on = new.goes_on; visits = new.unvisited; talks = []; told = new.silent; many = refl }
-
-no_events : (events : List Event) (n : ℕ) → n ≡ length events → n ≡ 0 → events ≡ []
-no_events [] n is none = refl
-no_events (e ∷ events) n is none = absurd (omega (arith, is, none))
-
--- its state stands for no event
-stands_for_none : (f : Followed) (place : ℕ) (k : Kept) → IsUnvisited place f k → StandsFor f.target (tracking_of f) k.following []
-stands_for_none f place k new =
-    let r = new.at.track.history in
-    let none : r.events ≡ [] = no_events r.events k.counts.visits (ap (λ (c : Counts). c.visits) r.counts) new.unvisited in
-    subst (λ (g : Followed). Stands g k.following []) new.at.followed (subst (λ events. Stands k.followed k.following events) none (r.stands new.goes_on))
-
--- nothing was printed of it
-pub unvisited_printed : (keeps : Bool) (h : Header) (t : ScriptTarget) (place : ℕ) (k : Kept) (held : Option (List ℕ)) → IsUnvisited place (script_followed keeps h t) k → PrintedSome h t 0 k.following held held
-unvisited_printed keeps h t place k held new = printed_none h t k.following held (stands_for_none (script_followed keeps h t) place k new)
-
 -- the wires of a track that was visited for each round
 pub visited_at : (keeps : Bool) (h : Header) (t : ScriptTarget) (place : ℕ) (k : Kept) (w : Shelved) → IsAtRound keeps h t place h.rounds k → IsTrack talking k → AreWiresOf k w → IsVisitedAt keeps h t place w
 visited_at keeps h t place k w under track wires = record {
@@ -163,19 +144,12 @@ pub record VisitedFirst (keeps : Bool) (s : Script) (at : ℕ) (wires : List She
   pub visited : AllByRecursion (λ (k : Kept). (k.counts.visits ≡ s.header.rounds) × (k.halted ≡ false)) tracks
   pub wires_are : AllZip AreWiresOf tracks wires
 
-pub visited_none : (keeps : Bool) (s : Script) → VisitedFirst keeps s 0 []
-visited_none keeps s = record { tracks = []; are = tt; visited = tt; wires_are = tt }
-
-all_more : {A : Type 0} (P : A → Type 0) (xs : List A) (x : A) → AllByRecursion P xs → P x → AllByRecursion P (xs ++ x ∷ [])
-all_more P [] x all is = (is, tt)
-all_more P (y ∷ ys) x all is = (all.0, all_more P ys x all.1 is)
-
 -- one target more was visited
 pub visited_more : (keeps : Bool) (s : Script) (at : ℕ) (t : ScriptTarget) (wires : List Shelved) (w : Shelved) → at < length s.targets → t ≡ get_or s.targets at t → VisitedFirst keeps s at wires → IsVisitedAt keeps s.header t at w → VisitedFirst keeps s (at + 1) (wires ++ w ∷ [])
 visited_more keeps s at t wires w inside is was one = record {
   tracks = was.tracks ++ one.track ∷ [];
   are = next_track keeps s.header s.targets at t was.tracks one.track inside is was.are one.at;
-  visited = all_more (λ (k : Kept). (k.counts.visits ≡ s.header.rounds) × (k.halted ≡ false)) was.tracks one.track was.visited (one.visits, one.goes_on);
+  visited = all-append (λ (k : Kept). (k.counts.visits ≡ s.header.rounds) × (k.halted ≡ false)) was.tracks (one.track ∷ []) was.visited ((one.visits, one.goes_on), tt);
   wires_are = behind was.tracks wires one.track w was.wires_are one.wires_are;
 }
 

@@ -161,11 +161,6 @@ wires_more all was left k w taken more before was_is more_is is ws are =
     let same : ws ++ reverse more ≡ (ws ++ w ∷ []) ++ reverse taken = ap (λ vs. ws ++ vs) turned ∙ sym (append_assoc ws (w ∷ []) (reverse taken)) in
     subst (AllZip AreWiresOf all) (sym same) (before (ws ++ w ∷ []) next)
 
--- a list without elements
-pub nothing_left : {A : Type 0} (xs : List A) → length xs ≡ 0 → xs ≡ []
-nothing_left [] none = refl
-nothing_left (x ∷ xs) none = absurd (omega (arith, none))
-
 -- where none are left, the wires are those that were taken out
 pub wires_all : (all left : List Kept) (taken : List Shelved) → ((ws : List Shelved) → AllZip AreWiresOf left ws → AllZip AreWiresOf all (ws ++ reverse taken)) → left ≡ [] → AllZip AreWiresOf all (reverse taken)
 wires_all all left taken before none = before [] (subst (λ ks. AllZip AreWiresOf ks []) (sym none) tt)

@@ -3,7 +3,7 @@ use Rattle.std.proofs.Common.{◌≡◌, ◌≢◌, ◌==◌, if◌then◌else�
 use Rattle.std.specs.Prelude.{IfSome, IsTrue}
 use Rattle.std.specs.List.{AllByRecursion, IsDistinct}
 use Rattle.std.specs.Option.{option_or}
-use Rattle.std.proofs.lemmas.Bool.{true≢false, ltb-false, not-false, and_parts}
+use Rattle.std.proofs.lemmas.Bool.{true≢false, ltb-false, not-false, and_parts, or_parts}
 use Rattle.std.proofs.lemmas.Bool.Decides.{nat_tests}
 use Rattle.std.proofs.lemmas.List.Folds.{list_any-append}
 use Rattle.std.proofs.lemmas.Option.{none-some}
@@ -11,7 +11,7 @@ use Rattle.std.proofs.lemmas.Slice.Eq.{bytes_eq-Decides}
 use Rattle.label_sets.specs.Lists.{◌>>=◌, when_true, first_some, some_passes}
 use Rattle.label_sets.proofs.Laws.{option_or-none, option_map-none, when_true-none}
 use Rattle.plain_words.specs.Places.{place_in, is_port, is_visible_word}
-use Rattle.plain_words.proofs.Laws.{bind_some, when_some, or_parts}
+use Rattle.plain_words.proofs.Laws.{bind_some, when_some}
 use Rattle.plain_words.proofs.Laws.{place_spelled}
 use Rattle.bridge_ports.specs.declared.talk.Address as Addresses
 use Rattle.bridge_ports.specs.Targets.{Scraped}

@@ -4,9 +4,13 @@ use Rattle.std.proofs.Math.Nat.{mul-le-mul_right, pos_of_ne-zero}
 use Rattle.std.proofs.lemmas.Bool.Decides.{nat_tests}
 use Rattle.std.proofs.lemmas.Cmp.{nat_cmp_total}
 use Rattle.std.specs.Ordering.{nat_cmp, ordering_reverse}
-use Rattle.std.specs.declared.cmp.Ordering.TheVariants.{Less, Greater}
+use Rattle.std.specs.declared.cmp.Ordering.TheVariants.{Less, Equal, Greater}
 use Rattle.exact_decimal.specs.Decimals.{DecimalValue, size_beside, decimal_cmp, IsNormal}
 use Rattle.exact_decimal.proofs.Powers.{one_le_ten, times_zeros}
+
+-- numbers that compare as equal are one
+pub same_from_cmp : (x y : ℕ) → nat_cmp x y ≡ Equal → x ≡ y
+same_from_cmp x y p = grind (arith, nat_tests)
 
 -- a product above another comes from the greater factor
 lt_of_times : (x y k : ℕ) → x < y → 0 < k → x * k < y * k

@@ -2,13 +2,12 @@
 use Rattle.std.proofs.Common.{◌≡◌, ◌≢◌, ℕ, ◌+◌, ◌-◌, ◌*◌, ◌^◌, ◌<◌, ◌≤◌, Bool, true, false, cond, leb, List, [], ◌∷◌, ◌++◌, length, take, drop, get_or, refl, sym, ap, ◌∙◌, subst, inl, inr, arith, append_assoc}
 use Rattle.std.specs.List.{list_all, prefix_len}
 use Rattle.std.specs.Char.{is_ascii_digit, digit_value}
-use Rattle.std.specs.Str.Parse.{digits_value}
+use Rattle.std.specs.Str.Parse.{digits_value, AllDigits}
 use Rattle.std.proofs.Math.Numerals.{one-add}
 use Rattle.std.proofs.Math.Nat.{zero-mul}
-use Rattle.std.proofs.lemmas.Bool.{eqb-true, leb-true, ne_eqb, eq-eqb, and_parts, and_from, cases_eq}
+use Rattle.std.proofs.lemmas.Bool.{eqb-true, leb-true, ne_eqb, eq-eqb, and_parts, and_from, cases_eq, le-leb}
 use Rattle.std.proofs.lemmas.Bool.Decides.{nat_tests}
 use Rattle.std.proofs.lemmas.List.{reverse-append, take-append-drop, take_more, length-drop, take-append-le, take_all, length_push, append-nil, nil_from_length}
-use Rattle.std.proofs.lemmas.List.Sums.{suffix_len-le-length}
 use Rattle.std.proofs.lemmas.List.Folds.{list_all-append}
 use Rattle.std.proofs.lemmas.Int.Digits.{digits_value_push}
 use Rattle.exact_decimal.specs.Tokens.{is_zero_digit, without_leading_zeros, trailing_zeros, without_trailing_zeros, significant_digits}
@@ -23,6 +22,17 @@ digit_is c h =
     let low : 48 ≤ c = leb-true 48 c both.0 in
     let high : c ≤ 57 = leb-true c 57 both.1 in
     (low, high, grind (arith, nat_tests))
+
+pub digit_from : (c : ℕ) → digit_value c < 10 → is_ascii_digit c ≡ true
+digit_from c h =
+    let low : 48 ≤ c = grind (arith, nat_tests) in
+    let high : c ≤ 57 = grind (arith, nat_tests) in
+    and_from (leb 48 c) (leb c 57) (le-leb 48 c low) (le-leb c 57 high)
+
+-- digits in std's word are digits
+pub digits_from : (ds : List ℕ) → AllDigits 10 ds → AreDigits ds
+digits_from [] h = refl
+digits_from (d ∷ ds) h = and_from (is_ascii_digit d) (list_all is_ascii_digit ds) (digit_from d h.0) (digits_from ds h.1)
 
 -- ---- zeros at the front
 
@@ -80,10 +90,6 @@ trailing-zero ds d h = trailing-push ds d ∙ rw h (omega arith)
 
 trailing-other : (ds : List ℕ) (d : ℕ) → is_zero_digit d ≡ false → trailing_zeros (ds ++ d ∷ []) ≡ 0
 trailing-other ds d h = trailing-push ds d ∙ rw h refl
-
-trailing_le : (ds : List ℕ) → trailing_zeros ds ≤ length ds
-unfolding trailing_zeros
-trailing_le ds = suffix_len-le-length is_zero_digit ds
 
 -- a zero at the end is left out
 without_zero : (ds : List ℕ) (d : ℕ) → is_zero_digit d ≡ true → without_trailing_zeros (ds ++ d ∷ []) ≡ without_trailing_zeros ds

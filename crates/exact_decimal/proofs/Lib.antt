@@ -19,7 +19,6 @@ pub mod Texts
 pub mod OrderLaws
 pub mod LiteralLengths
 pub mod NumberOrder
-pub mod SameDecimals
 pub mod Shown
 pub mod ReadBack
 mod LiteralCases

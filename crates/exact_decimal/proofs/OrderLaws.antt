@@ -3,11 +3,11 @@ use Rattle.std.proofs.Common.{◌≡◌, ℕ, zero, suc, ◌+◌, ◌*◌, ◌^�
 use Rattle.std.proofs.lemmas.Bool.Decides.{nat_tests}
 use Rattle.std.proofs.lemmas.Cmp.{nat_cmp_total}
 use Rattle.std.specs.Cmp.{IsTotalOrder}
-use Rattle.std.specs.Ordering.{nat_cmp, ordering_reverse}
+use Rattle.std.specs.Ordering.{ordering_reverse}
 use Rattle.std.specs.declared.cmp.Ordering.TheVariants.{Less, Equal}
 use Rattle.exact_decimal.specs.Decimals.{DecimalValue, size_beside, signed_cmp, decimal_cmp}
 use Rattle.exact_decimal.proofs.Powers.{one_le_ten, times_zeros}
-use Rattle.exact_decimal.proofs.Comparing.{nat_cmp-times, nat_cmp-reverse}
+use Rattle.exact_decimal.proofs.Comparing.{nat_cmp-times, nat_cmp-reverse, same_from_cmp}
 
 -- ---- the order of sizes with signs
 
@@ -28,10 +28,6 @@ signed_trans true false true x y z p q = grind (arith, nat_tests)
 signed_trans false true false x y z p q = grind (arith, nat_tests)
 signed_trans false true true x y z p q = grind (arith, nat_tests)
 signed_trans false false true x y z p q = grind (arith, nat_tests)
-
--- numbers that compare as equal are one
-same_from_cmp : (x y : ℕ) → nat_cmp x y ≡ Equal → x ≡ y
-same_from_cmp x y p = grind (arith, nat_tests)
 
 -- sizes with different signs are equal where both are 0
 zero_from_below : (x y : ℕ) → signed_cmp true x false y ≡ Equal → (x ≡ 0) × (y ≡ 0)

@@ -1,5 +1,5 @@
 -- Powers of ten, and numbers that ten does not divide.
-use Rattle.std.proofs.Common.{◌≡◌, ◌≢◌, ℕ, suc, ◌+◌, ◌-◌, ◌*◌, ◌^◌, ◌%◌, ◌<◌, ◌≤◌, sym, ap, ◌∙◌, inl, inr, arith, lit<, lit≤}
+use Rattle.std.proofs.Common.{◌≡◌, ◌≢◌, ℕ, suc, ◌+◌, ◌-◌, ◌*◌, ◌^◌, ◌%◌, ◌<◌, ◌≤◌, sym, ap, ◌∙◌, inl, inr, arith, lit≤}
 use Rattle.std.proofs.Math.Nat.{pow-suc, one-le-pow, pow-le-pow_right, mul_assoc, mul-le-mul_right}
 use Rattle.std.proofs.lemmas.Nat.{pow-add}
 use Rattle.std.proofs.lemmas.Bool.{cases_order, cases_eq}
@@ -87,10 +87,4 @@ push_fits d n z p high small few =
     let below = high_push d n z p high small in
     let room : 10 ^ (p + z + 1) ≤ 10 ^ 38 = ten_up (p + z + 1) 38 few in
     let wide : 10 ^ 38 ≤ 2 ^ 128 = lit≤ tt in
-    omega arith
-
-pub ten_fits : (z : ℕ) → z ≤ 38 → 10 ^ z < 2 ^ 128
-ten_fits z few =
-    let room : 10 ^ z ≤ 10 ^ 38 = ten_up z 38 few in
-    let wide : 10 ^ 38 < 2 ^ 128 = lit< tt in
     omega arith

@@ -3,7 +3,6 @@ use Rattle.std.proofs.Common.{◌≡◌, ◌≢◌, ℕ, ◌+◌, ◌-◌, ◌*�
 use Rattle.std.proofs.lemmas.Bool.{cases_eq, and_from, and_parts, le-leb}
 use Rattle.std.proofs.lemmas.Bool.Decides.{nat_tests}
 use Rattle.std.proofs.lemmas.List.{append-nil}
-use Rattle.std.proofs.lemmas.Cmp.{nat_cmp_total, tied_itself}
 use Rattle.std.proofs.lemmas.Fmt.{decimal_is_IsNumeral_wide}
 use Rattle.std.specs.Char.{is_ascii_digit, digit_value}
 use Rattle.std.specs.Fmt.{decimal}
@@ -11,21 +10,21 @@ use Rattle.std.specs.List.{list_all, prefix_len}
 use Rattle.std.specs.Str.Parse.{digits_value, digits_value_after}
 use Rattle.std.specs.declared.cmp.Ordering.TheVariants.{Equal}
 use Rattle.exact_decimal.specs.declared.number.Number.TheVariants.{Finite}
-use Rattle.exact_decimal.specs.Decimals.{DecimalValue, IsNormal, size_beside, signed_cmp, decimal_cmp}
+use Rattle.exact_decimal.specs.Decimals.{DecimalValue, IsNormal, size_beside, decimal_cmp}
 use Rattle.exact_decimal.specs.Literals.{sign_text, size_text, decimal_text}
 use Rattle.exact_decimal.specs.Numbers.{number_read}
 use Rattle.exact_decimal.specs.Scans.{AreDigits, IsRun, pointed, pointless, behind_point, is_tail, tail_text}
 use Rattle.exact_decimal.specs.Tokens.{unsigned, has_minus, is_real, is_in_limits, decimal_of, one_form, is_within, multiplies_by, divides_by, whole_part, fraction_part, exponent_part, digits_part, power_up, power_down}
-use Rattle.exact_decimal.proofs.Kept.{Keeps-exists, are_digits_parts}
+use Rattle.exact_decimal.proofs.Kept.{Keeps-exists, are_digits_parts, digits_from}
 use Rattle.exact_decimal.proofs.OneForm.{IsInLimits, within, within_none, no_value, one_form_normal}
 use Rattle.exact_decimal.proofs.OrderLaws.{decimal_cmp_total}
 use Rattle.exact_decimal.proofs.Parts.{IsSplit, split}
 use Rattle.exact_decimal.proofs.Runs.{some_digits}
-use Rattle.exact_decimal.proofs.Shown.{IsPointed, no_point, point, IsPower, no_power, raised, lowered, decimal_shown, are_digits}
+use Rattle.exact_decimal.proofs.Shown.{IsPointed, no_point, point, IsPower, no_power, raised, lowered, decimal_shown}
 use Rattle.exact_decimal.proofs.Powers.{one_split, ten_up, times_low, times_high, times_zeros}
 use Rattle.exact_decimal.proofs.Tens.{times-le, below_from_powers}
 use Rattle.exact_decimal.proofs.Texts.{length-decimal_text}
-use Rattle.exact_decimal.proofs.Values.{one_form_denotes, normal_once}
+use Rattle.exact_decimal.proofs.Values.{one_form_denotes, normal_once, same_size}
 
 -- ---- the sign
 
@@ -62,7 +61,7 @@ record IsExponentText (n : ℕ) (text : List ℕ) : Type 0 where
 exponent_text_of : (n : ℕ) → n < 1000 → IsExponentText n (decimal n)
 exponent_text_of n small =
     let numeral = decimal_is_IsNumeral_wide n (omega arith) in
-    record { are = are_digits (decimal n) numeral.0.1; some = numeral.0.0; value = numeral.1 }
+    record { are = digits_from (decimal n) numeral.0.1; some = numeral.0.0; value = numeral.1 }
 
 -- digits have no sign in front
 unsigned_digits : (ds : List ℕ) → AreDigits ds → 0 < length ds → (unsigned ds ≡ ds) × (has_minus ds ≡ false)
@@ -170,11 +169,6 @@ shown_within d ds times over behind n are e =
           within ds times (over + behind) digits z p k limits
     ]
 
--- a sign and equal sizes are equal in the order
-same_cmp : (s : Bool) (x y : ℕ) → x ≡ y → signed_cmp s x s y ≡ Equal
-same_cmp true x y e = rw e (tied_itself nat_cmp_total y)
-same_cmp false x y e = rw e (tied_itself nat_cmp_total y)
-
 -- the one form of what is shown is the decimal
 shown_once : (d : DecimalValue) (ds : List ℕ) (times over behind : ℕ) → IsNormal d → AreDigits ds
     → digits_value 10 ds * 10 ^ (times + d.down) ≡ d.digits * 10 ^ (d.up + (over + behind)) → one_form d.negative ds times (over + behind) ≡ d
@@ -182,7 +176,7 @@ unfolding decimal_cmp
 shown_once d ds times over behind n are e =
     let w : DecimalValue = record { negative = d.negative; digits = digits_value 10 ds; up = times; down = over + behind } in
     let form : DecimalValue = one_form d.negative ds times (over + behind) in
-    let equal : decimal_cmp w d ≡ Equal = same_cmp d.negative (size_beside w d) (size_beside d w) e in
+    let equal : decimal_cmp w d ≡ Equal = same_size d.negative (size_beside w d) (size_beside d w) e in
     normal_once form d (one_form_normal d.negative ds times (over + behind) are (shown_within d ds times over behind n are e)) n
     (decimal_cmp_total.congr form w d (one_form_denotes d.negative ds times (over + behind) are) ∙ equal)
 

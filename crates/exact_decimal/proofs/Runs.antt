@@ -1,12 +1,11 @@
 -- Digits at the front of a list, one after the other.
-use Rattle.std.proofs.Common.{◌≡◌, ℕ, ◌+◌, ◌-◌, ◌*◌, ◌<◌, ◌≤◌, min, true, false, not, List, [], ◌∷◌, ◌++◌, length, take, drop, get_or, refl, sym, ap, ◌∙◌, arith}
-use Rattle.std.specs.List.{list_all, prefix_len}
+use Rattle.std.proofs.Common.{◌≡◌, ℕ, ◌+◌, ◌-◌, ◌*◌, ◌<◌, ◌≤◌, min, true, false, not, List, [], ◌∷◌, ◌++◌, length, take, get_or, refl, sym, ap, ◌∙◌, arith}
+use Rattle.std.specs.List.{list_all}
 use Rattle.std.specs.Char.{is_ascii_digit, digit_value}
 use Rattle.std.specs.Str.{bytes_eq}
 use Rattle.std.specs.Str.Parse.{digits_value, digits_value_after}
 use Rattle.std.proofs.lemmas.Bool.{and_from, and_right}
-use Rattle.std.proofs.lemmas.List.{take_more, drop_all, take_all}
-use Rattle.std.proofs.lemmas.List.Sums.{prefix_len-drop_no}
+use Rattle.std.proofs.lemmas.List.{take_more, take_all}
 use Rattle.std.proofs.lemmas.List.Folds.{list_all_more, list_all_at}
 use Rattle.exact_decimal.specs.Tokens.{is_digits}
 use Rattle.exact_decimal.specs.Scans.{AreDigits, IsCapped}
@@ -35,12 +34,6 @@ module _ (bs : List ℕ) (n : ℕ) (within : n < length bs) where
   capped_more value d h = let e = value_more 0 d in omega arith
 
 -- ---- the end of the digits
-
-pub stops_here : (bs : List ℕ) (n : ℕ) → n < length bs → is_ascii_digit (get_or bs n 0) ≡ false → prefix_len is_ascii_digit (drop n bs) ≡ 0
-stops_here bs n h d = prefix_len-drop_no is_ascii_digit bs n 0 h d
-
-pub stops_at_end : (bs : List ℕ) (n : ℕ) → length bs ≤ n → prefix_len is_ascii_digit (drop n bs) ≡ 0
-stops_at_end bs n h = ap (prefix_len is_ascii_digit) (drop_all n bs h)
 
 pub not_digits : (bs : List ℕ) (n : ℕ) → n < length bs → is_ascii_digit (get_or bs n 0) ≡ false → is_digits bs ≡ false
 unfolding is_digits

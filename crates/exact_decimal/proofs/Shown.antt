@@ -1,42 +1,22 @@
 -- What a literal shows: its parts, and that their value is the decimal's.
 use Rattle.std.proofs.Common.{◌≡◌, ℕ, zero, suc, ◌+◌, ◌-◌, ◌*◌, ◌^◌, ◌<◌, ◌≤◌, true, false, cond, inl, inr, List, [], ◌∷◌, ◌++◌, length, take, drop, refl, sym, ◌∙◌, subst, arith, length-append, length-drop, append_assoc}
 use Rattle.std.proofs.lemmas.Bool.{cases_lt}
-use Rattle.std.proofs.lemmas.Bool.Decides.{nat_tests, leb_tells}
+use Rattle.std.proofs.lemmas.Bool.Decides.{leb_tells}
 use Rattle.std.proofs.lemmas.Grind.{common_steps}
 use Rattle.std.proofs.lemmas.List.{length-replicate, take-append-drop, append-nil}
 use Rattle.std.proofs.lemmas.Fmt.{decimal_is_IsNumeral_wide}
 use Rattle.std.proofs.lemmas.Int.Digits.{digits_value_push}
-use Rattle.std.specs.Char.{is_ascii_digit, digit_value}
-use Rattle.std.specs.Int.{IsInRange}
-use Rattle.std.proofs.lemmas.List.Folds.{list_all-append}
-use Rattle.std.proofs.lemmas.Str.Parse.{digit_from_value}
 use Rattle.std.specs.Fmt.{decimal}
-use Rattle.std.specs.List.{list_all}
-use Rattle.std.specs.Str.Parse.{digits_value, AllDigits}
+use Rattle.std.specs.Str.Parse.{digits_value}
 use Rattle.exact_decimal.specs.Decimals.{DecimalValue, IsNormal}
 use Rattle.exact_decimal.specs.Literals.{zeros, pointed, plain_text, difference_text, exponent_text, is_plain, size_text}
 use Rattle.exact_decimal.proofs.Powers.{times_zeros}
 use Rattle.exact_decimal.proofs.Tens.{times-suc}
 use Rattle.exact_decimal.proofs.Texts.{pointed_whole, pointed_within, IsShort, short_normal}
+use Rattle.exact_decimal.proofs.Kept.{are_digits_both, digits_from}
+use Rattle.exact_decimal.specs.Scans.{AreDigits}
 
 -- ---- digits and zeros
-
--- each byte is a digit
-abbrev pub AreDigits : List ℕ → Type 0
-AreDigits ds = list_all is_ascii_digit ds ≡ true
-
--- a digit in std's word is one in ours
-digit_is : (c : ℕ) → digit_value c < 10 → is_ascii_digit c ≡ true
-digit_is c h = let r : IsInRange 48 57 c = digit_from_value c h in grind (arith, nat_tests)
-
--- digits in std's word are digits
-pub are_digits : (ds : List ℕ) → AllDigits 10 ds → AreDigits ds
-are_digits [] h = refl
-are_digits (c ∷ cs) h = rw (digit_is c h.0) (are_digits cs h.1)
-
--- digits behind digits
-AreDigits-append : (xs ys : List ℕ) → AreDigits xs → AreDigits ys → AreDigits (xs ++ ys)
-AreDigits-append xs ys p q = rw (list_all-append is_ascii_digit xs ys, p, q) refl
 
 -- zeros are digits
 AreDigits-zeros : (k : ℕ) → AreDigits (zeros k)
@@ -155,7 +135,7 @@ plain_shown digits up down are some =
     let c : IsCut (pointed filled (length filled - down)) filled (length filled - (length filled - down)) = cut filled (length filled - down) (omega arith) (omega arith) in
     let e : length filled - (length filled - down) ≡ down = omega arith in
     let value : digits_value 10 filled ≡ digits_value 10 digits * 10 ^ up = value-zeros_before (down + 1 - length digits) (digits ++ zeros up) ∙ value-zeros_behind up digits in
-    let ds : AreDigits filled = AreDigits-append front (digits ++ zeros up) (AreDigits-zeros (down + 1 - length digits)) (AreDigits-append digits (zeros up) are (AreDigits-zeros up)) in
+    let ds : AreDigits filled = are_digits_both front (digits ++ zeros up) (AreDigits-zeros (down + 1 - length digits)) (are_digits_both digits (zeros up) are (AreDigits-zeros up)) in
     let sums : digits_value 10 filled * 10 ^ (0 + down) ≡ digits_value 10 digits * 10 ^ (up + (0 + down)) = rw value (times_zeros (digits_value 10 digits) up (0 + down)) in
     let shown : Shows (pointed filled (length filled - down) ++ []) (digits_value 10 digits) up down = shows_cut _ filled [] (digits_value 10 digits) up down 0 0 down (rw e at c) no_power ds sums in
     rw append-nil at shown
@@ -199,5 +179,5 @@ pub decimal_shown : (d : DecimalValue) → IsNormal d → Shows (size_text (deci
 decimal_shown d n =
     let numeral = decimal_is_IsNumeral_wide d.digits (omega (arith, n.few)) in
     let value : digits_value 10 (decimal d.digits) ≡ d.digits = numeral.1 in
-    let shown : Shows (size_text (decimal d.digits) d.up d.down) (digits_value 10 (decimal d.digits)) d.up d.down = size_shown (decimal d.digits) d.up d.down (are_digits _ numeral.0.1) (short_normal d n) in
+    let shown : Shows (size_text (decimal d.digits) d.up d.down) (digits_value 10 (decimal d.digits)) d.up d.down = size_shown (decimal d.digits) d.up d.down (digits_from _ numeral.0.1) (short_normal d n) in
     let P : ℕ → Type 0 = λ m. Shows (size_text (decimal d.digits) d.up d.down) m d.up d.down in subst P value shown

@@ -1,9 +1,9 @@
 -- One form for each value, and the value of each form.
-use Rattle.std.proofs.Common.{◌≡◌, ◌≢◌, ℕ, ◌+◌, ◌-◌, ◌*◌, ◌^◌, ◌<◌, Bool, true, false, cond, ◌&&◌, eqb, ltb, ◌⊎◌, List, refl, sym, ap, ◌∙◌, subst, inl, inr, arith}
+use Rattle.std.proofs.Common.{◌≡◌, ◌≢◌, ℕ, ◌+◌, ◌-◌, ◌*◌, ◌^◌, ◌<◌, Bool, true, false, cond, ◌&&◌, eqb, ◌⊎◌, List, refl, sym, ap, ◌∙◌, subst, inl, inr, arith}
 use Rattle.std.specs.Str.Parse.{digits_value}
 use Rattle.std.specs.Ordering.{nat_cmp}
 use Rattle.std.specs.declared.cmp.Ordering.TheVariants.{Less, Equal, Greater}
-use Rattle.std.proofs.Math.Nat.{zero-mul, mul-zero, eq_of_mul-eq-mul_left, eq_of_mul-eq-mul_right}
+use Rattle.std.proofs.Math.Nat.{zero-mul, eq_of_mul-eq-mul_right}
 use Rattle.std.proofs.lemmas.Bool.{eqb-true, eq-eqb, le-ltb, cases_eq, and_parts}
 use Rattle.exact_decimal.specs.Decimals.{DecimalValue, IsNormal, size_beside, signed_cmp, decimal_cmp, SameValue}
 use Rattle.exact_decimal.specs.Tokens.{one_form}
@@ -11,17 +11,11 @@ use Rattle.exact_decimal.specs.Scans.{AreDigits}
 use Rattle.exact_decimal.proofs.Powers.{one_le_ten, times_zeros, one_split}
 use Rattle.exact_decimal.proofs.Kept.{Keeps-exists}
 use Rattle.exact_decimal.proofs.OneForm.{form_of, form_of_none, no_value}
+use Rattle.exact_decimal.proofs.Tens.{one_zero}
+use Rattle.exact_decimal.proofs.Comparing.{same_from_cmp}
 
 same_number : (x y : ℕ) → x ≡ y → nat_cmp x y ≡ Equal
 same_number x y e = rw (le-ltb x y (omega arith), eq-eqb x y e) refl
-
-cmp_equal : (x y : ℕ) → nat_cmp x y ≡ Equal → x ≡ y
-cmp_equal x y h = go (ltb x y) (eqb x y) refl refl h
-  where
-    go : (b c : Bool) → ltb x y ≡ b → eqb x y ≡ c → cond b Less (cond c Equal Greater) ≡ Equal → x ≡ y
-    go true c e f k = absurd cc
-    go false true e f k = eqb-true x y f
-    go false false e f k = absurd cc
 
 pub same_size : (s : Bool) (x y : ℕ) → x ≡ y → signed_cmp s x s y ≡ Equal
 same_size true x y e = same_number y x (sym e)
@@ -35,8 +29,8 @@ both_zero false true x y e f = rw (e, f) refl
 
 -- equal numbers have one size, and one sign unless they are zero
 equal_sizes : (s t : Bool) (x y : ℕ) → signed_cmp s x t y ≡ Equal → (x ≡ y) × ((s ≡ t) ⊎ (x ≡ 0))
-equal_sizes true true x y h = (sym (cmp_equal y x h), inl refl)
-equal_sizes false false x y h = (cmp_equal x y h, inl refl)
+equal_sizes true true x y h = (sym (same_from_cmp y x h), inl refl)
+equal_sizes false false x y h = (same_from_cmp x y h, inl refl)
 equal_sizes true false x y h = go (eqb x 0 && eqb y 0) refl h
   where
     go : (b : Bool) → (eqb x 0 && eqb y 0) ≡ b → cond b Equal Less ≡ Equal → (x ≡ y) × ((true ≡ false) ⊎ (x ≡ 0))
@@ -73,20 +67,14 @@ one_form_denotes negative ds up down h =
 
 -- ---- two normal decimals of one value are one
 
-zero_factor : (u d : ℕ) → u * d ≡ 0 → (u ≡ 0) ⊎ (d ≡ 0)
-zero_factor u d h = elim (cases_eq u 0) [
-  | inl e ↦ inl e
-  | inr e ↦ inr (eq_of_mul-eq-mul_left u (omega arith) d 0 (h ∙ sym (mul-zero u)))
-]
-
 -- one of both powers is 0 on each side, so their difference gives both
 same_powers : (u d v e : ℕ) → u * d ≡ 0 → v * e ≡ 0 → u + e ≡ v + d → (u ≡ v) × (d ≡ e)
-same_powers u d v e g h k = elim (zero_factor u d g) [
-  | inl p ↦ elim (zero_factor v e h) [
+same_powers u d v e g h k = elim (one_zero u d g) [
+  | inl p ↦ elim (one_zero v e h) [
     | inl q ↦ (omega arith, omega arith)
     | inr q ↦ (omega arith, omega arith)
   ]
-  | inr p ↦ elim (zero_factor v e h) [
+  | inr p ↦ elim (one_zero v e h) [
     | inl q ↦ (omega arith, omega arith)
     | inr q ↦ (omega arith, omega arith)
   ]

@@ -1,17 +1,14 @@
 -- Whole numbers below 2 ^ 64, and their digits.
-use Rattle.std.proofs.Common.{◌≡◌, ◌≢◌, ℕ, ◌+◌, ◌*◌, ◌/◌, ◌^◌, ◌%◌, ◌<◌, ◌≤◌, Bool, true, leb, List, [], ◌∷◌, Ok, refl, sym, ap, ◌∙◌, arith, lit≤}
+use Rattle.std.proofs.Common.{◌≡◌, ◌≢◌, ℕ, ◌+◌, ◌*◌, ◌/◌, ◌^◌, ◌%◌, ◌<◌, ◌≤◌, Bool, List, Ok, sym, ap, ◌∙◌, arith, lit≤}
 use Rattle.std.specs.Fmt.{decimal}
-use Rattle.std.specs.List.{list_all}
-use Rattle.std.specs.Char.{is_ascii_digit, digit_value}
-use Rattle.std.specs.Str.Parse.{digits_value, AllDigits}
-use Rattle.std.proofs.lemmas.Bool.{and_from, le-leb}
-use Rattle.std.proofs.lemmas.Bool.Decides.{nat_tests}
+use Rattle.std.specs.Str.Parse.{digits_value}
 use Rattle.std.proofs.lemmas.Fmt.{decimal_is_IsNumeral}
 use Rattle.exact_decimal.specs.declared.number.Number.TheVariants.{Finite}
 use Rattle.exact_decimal.specs.Decimals.{IsNormal}
 use Rattle.exact_decimal.specs.Scans.{AreDigits, within_limits}
 use Rattle.exact_decimal.proofs.Powers.{times_zeros}
 use Rattle.exact_decimal.proofs.OneForm.{form, normal, limited, short_keeps}
+use Rattle.exact_decimal.proofs.Kept.{digits_from}
 
 -- ---- zeros at the end are divided off
 
@@ -22,16 +19,6 @@ tenth n z v h e =
     ap (λ x. n / 10 * 10 ^ x) (sym one) ∙ sym (times_zeros (n / 10) 1 z) ∙ ap (λ x. x * 10 ^ z) (sym whole) ∙ h
 
 -- ---- the digits of a whole number
-
-digit_from : (c : ℕ) → digit_value c < 10 → is_ascii_digit c ≡ true
-digit_from c h =
-    let low : 48 ≤ c = grind (arith, nat_tests) in
-    let high : c ≤ 57 = grind (arith, nat_tests) in
-    and_from (leb 48 c) (leb c 57) (le-leb 48 c low) (le-leb c 57 high)
-
-digits_from : (ds : List ℕ) → AllDigits 10 ds → AreDigits ds
-digits_from [] h = refl
-digits_from (d ∷ ds) h = and_from (is_ascii_digit d) (list_all is_ascii_digit ds) (digit_from d h.0) (digits_from ds h.1)
 
 pub decimal_digits : (n : ℕ) → n < 2 ^ 64 → AreDigits (decimal n)
 decimal_digits n h = digits_from (decimal n) (decimal_is_IsNumeral n h).0.1

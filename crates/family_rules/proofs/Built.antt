@@ -35,13 +35,14 @@ use Rattle.family_rules.specs.Steps.{with_left, end_stop}
 use Rattle.family_rules.specs.Made.{page_at, plain_reading, readings_at, readings_in, family_at, families_at}
 use Rattle.page_model.specs.declared.page.Value.TheVariants as values
 use Rattle.family_rules.proofs.Plain.{single_suffix, suffix_is, no_created, plain_name, ungrouped_counter}
-use Rattle.family_rules.proofs.Lists.{bytes_same, label_sets_swap, reverse-cons, first_of_each-snoc, pairs, lookup-map, insert_entry-last}
+use Rattle.family_rules.proofs.Lists.{bytes_same, label_sets_swap, first_of_each-snoc, pairs, lookup-map, insert_entry-last}
 use Rattle.family_rules.proofs.Standing.{left_at_end}
 use Rattle.std.specs.Map.{lookup}
 use Rattle.std.proofs.lemmas.Bool.{or_parts}
 use Rattle.family_rules.proofs.Faults.{fit_lines, sound_samples, AreFit}
 use Rattle.family_rules.proofs.Once.{help_sort, kind_sort, unit_sort, said_once}
 use Rattle.family_rules.proofs.Kept.{fresh, families_of-reverse, samples_of-reverse, reversed_samples, own_samples, none_of_other, no_samples}
+use mathlib.Core.List.{reverse-cons}
 
 -- ---- lists
 

@@ -2,6 +2,7 @@
 use Rattle.std.proofs.Common.{◌≡◌, ℕ, Bool, true, false, not, ◌&&◌, List, [], ◌∷◌, Option, Some, None, refl, sym, ap, subst, ◌∙◌, inl, inr}
 use Rattle.std.specs.Str.{bytes_eq}
 use Rattle.std.specs.Cmp.Lexicographic.{bytes_decides}
+use Rattle.std.proofs.lemmas.Bool.{false_from_ne_true}
 use Rattle.label_sets.specs.Lists.{some_passes}
 use Rattle.label_sets.proofs.Laws.{bytes_eq-swap}
 use Rattle.page_model.specs.declared.item.Item.{Item}
@@ -13,10 +14,6 @@ use Rattle.page_model.specs.Rules.{is_incomplete, leaves_incomplete}
 use Rattle.page_model.specs.Faults.{owned_breaks, item_breaks, item_rules, item_fault, end_breaks, end_rules, end_fault}
 use Rattle.page_model.specs.Pages.{AreFaultless}
 use Rattle.page_model.proofs.Laws.{none_found}
-
-not_true : (b : Bool) → (b ≡ true → ⊥) → b ≡ false
-not_true true f = absurd (f refl)
-not_true false f = refl
 
 -- ---- a line that leaves no histogram incomplete
 
@@ -32,7 +29,7 @@ leaves_none : (st : Setting) (earlier : List Item) (item : Item) (family : List 
     → leaves_incomplete st (owned_lines st.format earlier) (Some family) ≡ false
 unfolding item_fault
 leaves_none st earlier item family none e =
-    not_true (leaves_incomplete st (owned_lines st.format earlier) (Some family))
+    false_from_ne_true (leaves_incomplete st (owned_lines st.format earlier) (Some family))
     (λ h. none_found (item_breaks st earlier item) item_rules none rules.Incomplete (inr (inr (inr (inr (inr (inr (inr (inr (inr (inr (inl refl))))))))))) (incomplete_by_owner st earlier item family e ∙ h))
 
 -- ---- families that were left
@@ -95,4 +92,4 @@ pub all_complete : (st : Setting) (earlier : List Item) (clean : Bool) → AreFa
 unfolding end_fault end_breaks
 all_complete st earlier clean free none family =
     left_last st (owned_lines st.format earlier) family (left_complete st earlier free)
-    (not_true (leaves_incomplete st (owned_lines st.format earlier) None) (λ h. none_found (end_breaks st earlier clean) end_rules none rules.Incomplete (inr (inr (inl refl))) h))
+    (false_from_ne_true (leaves_incomplete st (owned_lines st.format earlier) None) (λ h. none_found (end_breaks st earlier clean) end_rules none rules.Incomplete (inr (inr (inl refl))) h))

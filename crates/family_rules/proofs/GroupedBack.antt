@@ -4,6 +4,7 @@ use Rattle.std.specs.Prelude.{nat_lt}
 use Rattle.std.specs.List.{list_any}
 use Rattle.std.proofs.lemmas.List.{map-append}
 use Rattle.std.proofs.lemmas.Bool.Decides.{nat_tests}
+use Rattle.std.proofs.Math.Bool.{or-false}
 use Rattle.label_sets.specs.declared.kind.Kind.{Kind}
 use Rattle.label_sets.specs.declared.kind.Kind.TheVariants.{Counter, StateSet}
 use Rattle.label_sets.specs.declared.label_set.LabelSet.{LabelSet}
@@ -19,8 +20,9 @@ use Rattle.sample_groups.specs.declared.part.Part.{Part}
 use Rattle.sample_groups.specs.Groups.{Gathered, groups_from, group_from, parts_in, is_overtaken}
 use Rattle.sample_groups.specs.Parts.{is_grouped, entry_of}
 use Rattle.family_rules.specs.GroupRuns.{is_alone, has_own_runs}
-use Rattle.family_rules.proofs.Lists.{or_false, label_sets_swap, any_firsts, reverse-cons, first_of_each-snoc}
+use Rattle.family_rules.proofs.Lists.{label_sets_swap, any_firsts, first_of_each-snoc}
 use Rattle.family_rules.proofs.Faults.{AreTogether}
+use mathlib.Core.List.{reverse-cons}
 
 -- ---- label sets with others behind them
 
@@ -151,7 +153,7 @@ never_back st K F (n ∷ samples) s e = ap (λ b. b && not (in_one_group st K F 
 
 -- the groups that are kept, or those of the readings, tell of each kind but of those whose samples are alone
 pub back_by_kind : (f : Format) (K : Kind) (back : Bool) → (is_open_metrics f ≡ false → back ≡ false) → ((has_own_runs K && back) || (is_grouped f K && back)) ≡ (not (is_alone K) && back)
-back_by_kind f StateSet back h = or_false back
+back_by_kind f StateSet back h = or-false back
 back_by_kind f Counter back h = by (is_open_metrics f) h
   where
     by : (o : Bool) → (o ≡ false → back ≡ false) → (o && back) ≡ back

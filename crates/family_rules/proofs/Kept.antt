@@ -8,6 +8,7 @@ use Rattle.std.specs.Cmp.Lexicographic.{bytes_decides}
 use Rattle.std.proofs.lemmas.List.{append-nil, map-append}
 use Rattle.std.proofs.lemmas.List.Elements.{filter_map-append}
 use Rattle.std.proofs.lemmas.List.Folds.{list_any-append}
+use Rattle.std.proofs.Math.Bool.{or-false}
 use Rattle.label_sets.specs.declared.kind.Kind.{Kind}
 use Rattle.label_sets.specs.declared.label_set.LabelSet.{LabelSet}
 use Rattle.label_sets.specs.Lists.{first_of_each}
@@ -28,15 +29,16 @@ use Rattle.family_rules.specs.declared.family.Descriptor.{Descriptor}
 use Rattle.family_rules.specs.declared.family.Descriptor.TheVariants as sorts
 use Rattle.family_rules.specs.Checking.{groups_so_far, so_far, no_lines, left_before, has_samples}
 use Rattle.family_rules.specs.Steps.{has, line_of, family_with}
-use Rattle.family_rules.proofs.Lists.{or_false, or_comm, bytes_same, reverse-cons, first_of_each-snoc}
+use Rattle.family_rules.proofs.Lists.{or_comm, bytes_same, first_of_each-snoc}
 use Rattle.family_rules.proofs.Faults.{AreFit}
+use mathlib.Core.List.{reverse-cons}
 
 -- ---- which families were left
 
 -- the families that were left and the nearest one are those of the lines
 pub known_lines : (q F : List ℕ) (above : List Owned) → (list_any (bytes_eq q) (left_before F above) || bytes_eq F q) ≡ (bytes_eq F q || list_any (is_of q) above)
 unfolding left_before
-known_lines q F [] = sym (or_false (bytes_eq F q))
+known_lines q F [] = sym (or-false (bytes_eq F q))
 known_lines q F (n ∷ above) = by (bytes_eq n.family F) refl
     (known_lines q n.family above)
   where

@@ -1,6 +1,6 @@
 -- Laws on lists: one element more at the end, and look-ups in a list of pairs that is made from names.
-use Rattle.std.proofs.Common.{◌≡◌, ℕ, Bool, true, false, cond, not, ◌&&◌, ◌||◌, List, [], ◌∷◌, ◌++◌, map, filter, Option, Some, None, refl, sym, ap, ◌∙◌, reverse}
-use Rattle.std.proofs.lemmas.List.{append-nil, reverse-append}
+use Rattle.std.proofs.Common.{◌≡◌, ℕ, Bool, true, false, cond, not, ◌&&◌, ◌||◌, List, [], ◌∷◌, ◌++◌, map, filter, Option, Some, None, refl, sym, ap, ◌∙◌}
+use Rattle.std.proofs.lemmas.List.{append-nil}
 use Rattle.std.proofs.lemmas.List.Elements.{filter-append}
 use Rattle.std.specs.List.{list_any}
 use Rattle.std.specs.Option.{option_or}
@@ -14,10 +14,6 @@ use Rattle.label_sets.specs.Lists.{first_of_each, first_some}
 use Rattle.label_sets.proofs.Laws.{bytes_eq-swap}
 
 -- ---- tests
-
-pub or_false : (a : Bool) → (a || false) ≡ a
-or_false true = refl
-or_false false = refl
 
 pub or_comm : (a b : Bool) → (a || b) ≡ (b || a)
 or_comm true true = refl
@@ -42,9 +38,6 @@ label_sets_swap (x ∷ xs) (y ∷ ys) = ap (λ b. (b && bytes_eq x.value y.value
     ∙ ap (λ b. (bytes_eq y.name x.name && bytes_eq y.value x.value) && b) (label_sets_swap xs ys)
 
 -- ---- one element more at the end
-
-pub reverse-cons : {A : Type 0} (x : A) (xs : List A) → reverse (x ∷ xs) ≡ reverse xs ++ x ∷ []
-reverse-cons x xs = reverse-append (x ∷ []) xs
 
 pub first_of_each-snoc : {A : Type 0} (eq : A → A → Bool) (xs : List A) (y : A)
     → first_of_each eq (xs ++ y ∷ []) ≡ cond (list_any (λ x. eq x y) xs) (first_of_each eq xs) (first_of_each eq xs ++ y ∷ [])

@@ -1,31 +1,22 @@
 -- The loops that build readings and families.
-use Rattle.std.proofs.Common.{◌≡◌, ◌≤◌, ◌+◌, ℕ, zero, suc, arith, Bool, true, cond, List, [], ◌∷◌, ◌++◌, drop, length, Option, Some, None, refl, sym, ap, ◌∙◌}
-use Rattle.std.specs.Prelude.{◌&&◌, ◌||◌, not, slice_get}
+use Rattle.std.proofs.Common.{◌≡◌, ◌+◌, ℕ, zero, suc, arith, Bool, true, cond, List, [], ◌∷◌, ◌++◌, drop, length, Option, Some, None, refl, sym, ap, ◌∙◌}
+use Rattle.std.specs.Prelude.{◌||◌, slice_get}
 use Rattle.std.specs.List.{list_any, zip}
 use Rattle.std.specs.Vec.Iter.{into_iter_items, into_iter_steps}
 use Rattle.std.specs.declared.vec.IntoIter.{IntoIter}
 use Rattle.std.specs.declared.alloc.Global.{Global}
-use Rattle.std.proofs.lemmas.List.{append-nil, append_assoc, drop_all, drop-drop}
+use Rattle.std.proofs.lemmas.List.{append-nil, append_assoc, drop-drop, nil_from_length}
 use Rattle.family_rules.specs.LeftFamilies.{named}
 use Rattle.label_sets.specs.declared.kind.Kind.{Kind}
 use Rattle.page_model.specs.declared.format.Format.{Format}
 use Rattle.page_model.specs.declared.page.Family.{Family}
 use Rattle.page_model.specs.declared.page.Reading.{Reading}
 use Rattle.family_rules.specs.declared.family.FamilySoFar.{FamilySoFar}
-use Rattle.label_sets.specs.declared.label_set.LabelSet.{LabelSet}
-use Rattle.label_sets.specs.Labels.{label_sets_eq}
 use Rattle.exact_decimal.specs.declared.number.Number.{Number}
 use Rattle.packed_keys.specs.declared.sample_key.SampleKey.{SampleKey}
 use Rattle.packed_keys.specs.Packing.{sample_key_eq}
-use Rattle.family_rules.specs.KeyedValues.{is_key_of, passed_from, ComesNext}
+use Rattle.family_rules.specs.KeyedValues.{is_key_of, ComesNext}
 use Rattle.family_rules.specs.Made.{plain_reading, readings_at, family_at, families_at}
-
-pub no_length : {A : Type 0} (xs : List A) → length xs ≡ 0 → xs ≡ []
-no_length [] h = refl
-no_length (x ∷ xs) h = absurd (omega arith)
-
-pub readings_end : (rs rest whole : List Reading) → rest ≡ [] → rs ++ rest ≡ whole → rs ≡ whole
-readings_end rs rest whole none h = sym (append-nil rs) ∙ ap (λ l. rs ++ l) (sym none) ∙ h
 
 -- one family more
 pub families_step : (format : Format) (it next : List (List ℕ × FamilySoFar)) (name : List ℕ) (known : FamilySoFar) (keys rest : List (SampleKey × Number)) (f : Family) (fs new whole : List Family)
@@ -54,10 +45,6 @@ next_named [] at name v values h = absurd (let e : None ≡ Some name = h in cc)
 next_named (n ∷ ns) zero name v values h = let same : n ≡ name = let e : Some n ≡ Some name = h in cc in λ i. (same i, v) ∷ named ns values
 next_named (n ∷ ns) (suc at) name v values h = next_named ns at name v values h
 
--- no name is left
-pub no_names : {V : Type 0} (names : List (List ℕ)) (at : ℕ) (values : List V) → length names ≤ at → named (drop at names) values ≡ []
-no_names names at values h = ap (λ ns. named ns values) (drop_all at names h)
-
 pub none_left : {A : Type 0} (o : Option A) (old new : List A) → o ≡ None → ComesNext o old new → old ≡ []
 none_left None old new e h = h.0
 none_left (Some x) old new e h = absurd (let f : Some x ≡ None = e in cc)
@@ -69,8 +56,8 @@ one_left (Some y) x old new e h = let same : y ≡ x = let f : Some y ≡ Some x
 -- one item more is passed over
 pub passed_one : {A : Type 0} (s t : IntoIter A Global) (o : Option A) (n : ℕ) (whole : List A) → into_iter_steps s o t → into_iter_items s ≡ drop n whole → into_iter_items t ≡ drop (n + 1) whole
 passed_one s t None n whole step h =
-    let before : into_iter_items s ≡ [] = no_length (into_iter_items s) (omega (arith, s.rest.ok, step.0)) in
-    let after : into_iter_items t ≡ [] = no_length (into_iter_items t) (omega (arith, t.rest.ok, step.1)) in
+    let before : into_iter_items s ≡ [] = nil_from_length (into_iter_items s) (omega (arith, s.rest.ok, step.0)) in
+    let after : into_iter_items t ≡ [] = nil_from_length (into_iter_items t) (omega (arith, t.rest.ok, step.1)) in
     after ∙ (sym (ap (drop 1) before) ∙ (ap (drop 1) h ∙ drop-drop 1 n whole))
 passed_one s t (Some x) n whole step h = sym (ap (drop 1) step.0) ∙ (ap (drop 1) h ∙ drop-drop 1 n whole)
 
@@ -79,11 +66,6 @@ pub zip-none : {K V : Type 0} (ks : List K) (vs : List V) → vs ≡ [] → zip 
 zip-none [] vs h = refl
 zip-none (k ∷ ks) [] h = refl
 zip-none (k ∷ ks) (v ∷ vs) h = absurd (let f : v ∷ vs ≡ [] = h in cc)
-
--- no keys leave no pairs
-pub zip-keyless : {K V : Type 0} (ks : List K) (vs : List V) → ks ≡ [] → zip ks vs ≡ []
-zip-keyless [] vs h = refl
-zip-keyless (k ∷ ks) vs h = absurd (let f : k ∷ ks ≡ [] = h in cc)
 
 -- what is passed over in both lists is passed over in the pairs
 pub zip-drop : {K V : Type 0} (n : ℕ) (ks : List K) (vs : List V) → zip (drop n ks) (drop n vs) ≡ drop n (zip ks vs)
@@ -124,18 +106,6 @@ readings_step kind unit n m it next key value rs new whole count items new_is h 
 pub rest_step : {A : Type 0} (n m : ℕ) (it next whole : List A) (x : A) → n ≡ suc m → it ≡ x ∷ next → drop n it ≡ whole → drop m next ≡ whole
 rest_step n m it next whole x count items h = sym (λ i. drop (count i) (items i)) ∙ h
 
-pub no_samples_left : (kind : Kind) (unit : List ℕ) (n : ℕ) → readings_at kind unit n [] ≡ []
-no_samples_left kind unit zero = refl
-no_samples_left kind unit (suc n) = refl
-
-pub nothing_dropped : {A : Type 0} (n : ℕ) (xs : List A) → xs ≡ [] → drop n xs ≡ xs
-nothing_dropped zero xs h = refl
-nothing_dropped (suc n) [] h = refl
-nothing_dropped (suc n) (x ∷ xs) h = absurd (let f : x ∷ xs ≡ [] = h in cc)
-
-pub none_dropped : {A : Type 0} (n : ℕ) (it next whole : List A) → it ≡ [] → next ≡ [] → drop n it ≡ whole → next ≡ whole
-none_dropped n it next whole none after h = after ∙ sym none ∙ sym (nothing_dropped n it none) ∙ h
-
 -- a sample that was added stands behind the others
 pub sample_more : (key : SampleKey) (value : Number) (ks new : List SampleKey) (vs more : List Number) (now : List (SampleKey × Number)) (added : Bool)
     → zip ks vs ≡ now → length vs ≡ length ks → added ≡ true → new ≡ cond added (ks ++ key ∷ []) ks → more ≡ vs ++ value ∷ []
@@ -144,20 +114,7 @@ sample_more key value ks new vs more now added view each h keys values =
     let new_is : new ≡ ks ++ key ∷ [] = keys ∙ ap (λ b. cond b (ks ++ key ∷ []) ks) h in
     (λ i. zip (new_is i) (values i)) ∙ zip-more ks vs key value each ∙ ap (λ l. l ++ (key, value) ∷ []) view
 
--- one sample more was passed by
-pub passed_step : (labels : LabelSet) (any last b : Bool) (it next : List (SampleKey × Number)) (key : SampleKey) (value : Number) (whole : Bool)
-    → it ≡ (key, value) ∷ next → b ≡ label_sets_eq key.labels labels → passed_from labels any last it ≡ whole → passed_from labels (any || b) b next ≡ whole
-passed_step labels any last b it next key value whole items same h =
-    (λ i. passed_from labels (any || same i) (same i) next) ∙ sym (ap (passed_from labels any last) items) ∙ h
-
-pub passed_end : (labels : LabelSet) (any last : Bool) (it : List (SampleKey × Number)) (whole : Bool) → it ≡ [] → passed_from labels any last it ≡ whole → (any && not last) ≡ whole
-passed_end labels any last it whole none h = sym (ap (passed_from labels any last) none) ∙ h
-
--- the key and the value that come next make the next pair
-pub next_pair : {K V : Type 0} (k : K) (v : V) (ks kn : List K) (vs vn : List V) (now : List (K × V)) → zip ks vs ≡ now → ks ≡ k ∷ kn → vs ≡ v ∷ vn → now ≡ (k, v) ∷ zip kn vn
-next_pair k v ks kn vs vn now view keys values = sym view ∙ (λ i. zip (keys i) (values i))
-
 -- no values come any more
 pub values_done : {A : Type 0} (s t : IntoIter A Global) (o : Option A) → o ≡ None → into_iter_steps s o t → (into_iter_items s ≡ []) × (into_iter_items t ≡ [])
-values_done s t None e step = (no_length (into_iter_items s) (omega (arith, s.rest.ok, step.0)), no_length (into_iter_items t) (omega (arith, t.rest.ok, step.1)))
+values_done s t None e step = (nil_from_length (into_iter_items s) (omega (arith, s.rest.ok, step.0)), nil_from_length (into_iter_items t) (omega (arith, t.rest.ok, step.1)))
 values_done s t (Some x) e step = absurd (let f : Some x ≡ None = e in cc)

@@ -23,7 +23,6 @@ use Rattle.sample_groups.specs.Groups.{Gathered, known_group, or_empty, put_grou
 use Rattle.sample_groups.specs.LastSeen.{EndsWith}
 use Rattle.sample_groups.proofs.Laws.{first_fits}
 use Rattle.family_rules.specs.declared.family.Current.{Current}
-use Rattle.family_rules.specs.declared.group_keys.GroupKeys.{GroupKeys}
 use Rattle.family_rules.specs.declared.group_keys.GroupKeys.TheVariants as told
 use Rattle.family_rules.specs.GroupRuns.{group_key}
 use Rattle.family_rules.specs.KeyedValues.{is_key_of}
@@ -31,20 +30,6 @@ use Rattle.family_rules.specs.GroupKeys.{IsNewGroup, NameTells, TellTrue}
 use Rattle.family_rules.specs.Checking.{Checking}
 use Rattle.family_rules.specs.Steps.{current_with}
 use Rattle.family_rules.specs.Samples.{family_with_sample, current_samples, runs_with, with_sample, with_part_in, with_part_at, with_key, own_samples, seen_rule, sample_stop, order_stop, is_overtaken_in, is_back_in_groups, is_told_back, key_stop}
-
--- ---- what is so of no family, of one without groups, and of one with the same groups
-
-pub none_tells : (keys : GroupKeys) (seen : List (SampleKey × Number)) → TellTrue keys None seen
-none_tells keys seen name t labels unseen = tt
-
-pub fresh_tells : (keys : GroupKeys) (k : Current) (seen : List (SampleKey × Number)) → k.family.groups ≡ [] → TellTrue keys (Some k) seen
-fresh_tells keys k seen e name t labels unseen = ap (λ g. known_group g labels) e
-
-pub unknown_tells : (current : Option Current) (seen : List (SampleKey × Number)) → TellTrue told.Unknown current seen
-unknown_tells current seen name t = absurd (let f : false ≡ true = t in cc)
-
-pub same_tells : (keys : GroupKeys) (k j : Current) (seen : List (SampleKey × Number)) → j.family.groups ≡ k.family.groups → TellTrue keys (Some k) seen → TellTrue keys (Some j) seen
-same_tells keys k j seen e old name t labels unseen = ap (λ g. known_group g labels) e ∙ old name t labels unseen
 
 -- ---- a sample more
 
@@ -93,10 +78,6 @@ zipped_keys (k ∷ keys) (v ∷ values) e = ap (λ (l : List SampleKey). k ∷ l
 pub more_tells : (name : List ℕ) (current : Option Current) (seen more : List (SampleKey × Number)) → NameTells name current seen → NameTells name (current_with family_with_sample current) (seen ++ more)
 more_tells name None seen more old labels unseen = tt
 more_tells name (Some k) seen more old labels unseen = old labels (key_in_front (group_key name labels) seen more unseen)
-
--- the group of a key that is new
-pub new_here : (key : SampleKey) (current : Option Current) (seen : List (SampleKey × Number)) → NameTells key.name current seen → is_key_of key seen ≡ false → IsNewGroup current key.labels
-new_here key current seen old unseen = old key.labels unseen
 
 pub still_new : (current : Option Current) (labels : LabelSet) → IsNewGroup current labels → IsNewGroup (current_with family_with_sample current) labels
 still_new None labels h = tt

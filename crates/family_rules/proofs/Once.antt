@@ -11,8 +11,9 @@ use Rattle.page_model.specs.Written.{Setting}
 use Rattle.page_model.specs.Items.{is_sample, kind_of_line, help_of_line, unit_of_line, are_one_sort, is_descriptor}
 use Rattle.page_model.specs.Owners.{Owned, is_of}
 use Rattle.page_model.specs.Rules.{is_late_descriptor}
-use Rattle.family_rules.proofs.Lists.{reverse-cons, first_some-append}
+use Rattle.family_rules.proofs.Lists.{first_some-append}
 use Rattle.family_rules.proofs.Faults.{AreFit}
+use mathlib.Core.List.{reverse-cons}
 
 -- lines that say something are descriptors of one sort
 abbrev pub IsOfOneSort : {A : Type 0} → (Item → Option A) → Type 0

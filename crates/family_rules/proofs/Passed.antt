@@ -3,6 +3,7 @@ use Rattle.std.proofs.Common.{◌≡◌, ◌+◌, ◌-◌, arith, ℕ, Bool, tru
 use Rattle.std.specs.List.{list_any, flat_map}
 use Rattle.std.proofs.lemmas.List.{map-append, drop_all, drop_at, length-map}
 use Rattle.std.proofs.lemmas.Bool.{or_parts}
+use Rattle.std.proofs.Math.Bool.{and-false}
 use Rattle.exact_decimal.specs.declared.number.Number.{Number}
 use Rattle.label_sets.specs.declared.kind.Kind.{Kind}
 use Rattle.label_sets.specs.declared.kind.Kind.TheVariants.{Gauge, Unknown, Info}
@@ -20,11 +21,11 @@ use Rattle.sample_groups.specs.Parts.{is_grouped}
 use Rattle.family_rules.specs.GroupRuns.{is_alone}
 use Rattle.family_rules.specs.KeyedValues.{samples_at_end, passed_from, is_passed}
 use Rattle.family_rules.specs.Checking.{keyed, seen_above, left_before}
-use Rattle.family_rules.proofs.Lists.{reverse-cons}
 use Rattle.family_rules.proofs.Faults.{AreFit, sound_samples}
 use Rattle.family_rules.proofs.Kept.{reversed_samples}
 use Rattle.family_rules.proofs.Plain.{single_suffix, plain_name}
 use Rattle.family_rules.proofs.Built.{kept, AreNamed, plain_names, no_same, seen_in, seen_before, together}
+use mathlib.Core.List.{reverse-cons}
 
 -- ---- samples at the end
 
@@ -68,10 +69,6 @@ grouped_left : (o a l : Bool) → (o && (not a && l)) ≡ (o && not a && l)
 grouped_left true a l = refl
 grouped_left false a l = refl
 
-never : (b : Bool) → (b && false) ≡ false
-never true = refl
-never false = refl
-
 group_alone : (k : Kind) (F : List ℕ) (labels : LabelSet) → is_alone k ≡ true → group_of k F labels ≡ labels
 group_alone Gauge F labels h = refl
 group_alone Unknown F labels h = refl
@@ -98,7 +95,7 @@ module _ (st : Setting) where
   module _ (k : Kind) (F : List ℕ) (s : Sample) (alone : is_alone k ≡ true) where
     interleaved_alone : (samples : List Sample) → is_interleaved st k F samples s ≡ (is_open_metrics st.format && is_passed (kept st s) (map (keyed st) (reverse samples)))
     unfolding is_interleaved
-    interleaved_alone [] = sym (never (is_open_metrics st.format))
+    interleaved_alone [] = sym (and-false (is_open_metrics st.format))
     interleaved_alone (n ∷ samples) =
         (λ i. is_open_metrics st.format && not (label_sets_eq (group_alone k F (kept st n) alone i) (group_alone k F (kept st s) alone i))
         && list_any (λ t. label_sets_eq (group_alone k F (kept st t) alone i) (group_alone k F (kept st s) alone i)) samples)
@@ -111,7 +108,7 @@ module _ (st : Setting) where
     none_interleaved (n ∷ samples) h =
         let others : list_any (λ t. label_sets_eq (kept st t) (kept st s)) samples ≡ false = (or_parts (label_sets_eq (kept st n) (kept st s)) (list_any (λ t. label_sets_eq (kept st t) (kept st s)) samples) h).1 in
         (λ i. is_open_metrics st.format && not (in_one_group st k F n s) && list_any (λ t. label_sets_eq (group_alone k F (kept st t) alone i) (group_alone k F (kept st s) alone i)) samples)
-        ∙ ap (λ b. is_open_metrics st.format && not (in_one_group st k F n s) && b) others ∙ never (is_open_metrics st.format && not (in_one_group st k F n s))
+        ∙ ap (λ b. is_open_metrics st.format && not (in_one_group st k F n s) && b) others ∙ and-false (is_open_metrics st.format && not (in_one_group st k F n s))
 
 -- a sample that goes back has a key that was seen
 pub back_seen : (st : Setting) (above : List Owned) (F : List ℕ) (s : Sample) → AreFit st above → has_wrong_suffix st (kind_of above F) F s ≡ false

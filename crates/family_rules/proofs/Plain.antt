@@ -3,6 +3,7 @@ use Rattle.std.proofs.Common.{◌≡◌, ℕ, Bool, true, false, cond, not, ◌&
 use Rattle.std.specs.Str.{bytes_eq}
 use Rattle.std.specs.Cmp.Lexicographic.{bytes_decides}
 use Rattle.std.proofs.lemmas.Bool.{not-false}
+use Rattle.std.proofs.Math.Bool.{or-false}
 use Rattle.exact_decimal.specs.Numbers.{number_of}
 use Rattle.exact_decimal.specs.Order.{less, is_finite, is_not_a_number}
 use Rattle.label_sets.specs.declared.kind.Kind.{Kind}
@@ -20,7 +21,6 @@ use Rattle.sample_groups.specs.Parts.{is_grouped, part_of}
 use Rattle.family_rules.specs.declared.family.Current.{Current}
 use Rattle.family_rules.specs.declared.family.FamilySoFar.{FamilySoFar}
 use Rattle.family_rules.specs.Samples.{is_bad_plain_value, told_part}
-use Rattle.family_rules.proofs.Lists.{or_false}
 
 -- the suffix of the samples of a kind without groups
 abbrev pub single_suffix : Kind → List ℕ
@@ -51,7 +51,7 @@ plain_suffix f _ F name h = absurd (let e : true ≡ false = h in cc)
 pub plain_name : (st : Setting) (k : Kind) (F : List ℕ) (s : Sample) → is_grouped st.format k ≡ false → has_wrong_suffix st k F s ≡ false → s.name ≡ F ++ single_suffix k
 unfolding has_wrong_suffix
 plain_name st k F s plain h =
-    let same : bytes_eq s.name (F ++ single_suffix k) ≡ true = sym (or_false (bytes_eq s.name (F ++ single_suffix k))) ∙ sym (plain_suffix st.format k F s.name plain) ∙ not-false (is_sample_name st.format k F s.name) h in
+    let same : bytes_eq s.name (F ++ single_suffix k) ≡ true = sym (or-false (bytes_eq s.name (F ++ single_suffix k))) ∙ sym (plain_suffix st.format k F s.name plain) ∙ not-false (is_sample_name st.format k F s.name) h in
     (bytes_decides s.name (F ++ single_suffix k)).0 same
 
 -- a format in which a counter has no groups

@@ -19,7 +19,8 @@ use Rattle.page_model.specs.Owners.{Owned, kind_of, samples_of}
 use Rattle.page_model.specs.Rules.{is_open_metrics, sample_group, in_one_group, is_interleaved}
 use Rattle.page_model.proofs.Laws.{label_sets_decide}
 use Rattle.family_rules.specs.GroupRuns.{Runs, no_runs, has_own_runs, has_runs, group_key, runs_from, runs_of, goes_back, with_group}
-use Rattle.family_rules.proofs.Lists.{bytes_same, label_sets_swap, any_firsts, reverse-cons, first_of_each-snoc}
+use Rattle.family_rules.proofs.Lists.{bytes_same, label_sets_swap, any_firsts, first_of_each-snoc}
+use mathlib.Core.List.{reverse-cons}
 
 -- ---- keys
 

@@ -4,6 +4,7 @@ use Rattle.std.specs.Prelude.{option_map}
 use Rattle.std.specs.Option.{option_to_list}
 use Rattle.std.specs.Str.{bytes_eq}
 use Rattle.std.proofs.lemmas.List.Folds.{list_any-append}
+use Rattle.std.proofs.Math.Bool.{or-false}
 use Rattle.label_sets.specs.Labels.{label_sets_eq}
 use Rattle.label_sets.specs.Lists.{some_passes}
 use Rattle.label_sets.proofs.Laws.{bytes_eq-swap}
@@ -17,7 +18,7 @@ use Rattle.packed_keys.specs.declared.sample_key.SampleKey.{SampleKey}
 use Rattle.packed_keys.specs.Packing.{sample_key_eq}
 use Rattle.family_rules.specs.KeyedValues.{is_key_of}
 use Rattle.family_rules.specs.Checking.{key_of, keyed, seen_above}
-use Rattle.family_rules.proofs.Lists.{or_false, or_comm, label_sets_swap}
+use Rattle.family_rules.proofs.Lists.{or_comm, label_sets_swap}
 
 key_same : (st : Setting) (s t : Sample) → sample_key_eq (key_of st s) (key_of st t) ≡ is_same_series st s t
 key_same st s t = ap (λ b. b && label_sets_eq (kept_labels st.treatment s.labels) (kept_labels st.treatment t.labels)) (bytes_eq-swap s.name t.name)
@@ -35,4 +36,4 @@ duplicate_seen st (o ∷ above) s =
   where
     by : (t : Option Sample) → is_key_of (key_of st s) (option_to_list (option_map (keyed st) t)) ≡ some_passes (is_same_series st s) t
     by None = refl
-    by (Some t) = or_false (sample_key_eq (key_of st s) (key_of st t)) ∙ key_same st s t
+    by (Some t) = or-false (sample_key_eq (key_of st s) (key_of st t)) ∙ key_same st s t

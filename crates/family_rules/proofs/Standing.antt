@@ -8,6 +8,7 @@ use Rattle.std.specs.Map.{lookup}
 use Rattle.std.specs.Cmp.Lexicographic.{bytes_decides}
 use Rattle.std.proofs.lemmas.List.{append-nil, map-append}
 use Rattle.std.proofs.lemmas.List.Sums.{sum_by-cons}
+use Rattle.std.proofs.Math.Bool.{or-false}
 use Rattle.indexmap.specs.IndexMap.{insert_entry}
 use Rattle.label_sets.specs.declared.kind.Kind.{Kind}
 use Rattle.label_sets.specs.declared.label_set.LabelSet.{LabelSet}
@@ -35,7 +36,7 @@ use Rattle.family_rules.specs.Steps.{has, line_of, unit_stop, family_with, with_
 use Rattle.family_rules.specs.Samples.{is_current_sample, family_with_sample, with_part_in, with_part_at, with_told, runs_with, entered_by, with_sample}
 use Rattle.family_rules.specs.GroupRuns.{no_runs, runs_of, nearest_runs}
 use Rattle.family_rules.proofs.RunLaws.{no_samples_no_runs, runs_sample}
-use Rattle.family_rules.proofs.Lists.{or_false, bytes_same, pairs, lookup-map, map-pairs, insert_entry-last}
+use Rattle.family_rules.proofs.Lists.{bytes_same, pairs, lookup-map, map-pairs, insert_entry-last}
 use Rattle.family_rules.proofs.Faults.{AreFit, fit_lines, sound_samples, none_above, left_fault, place_fault, unit_fault}
 use Rattle.family_rules.proofs.Units.{bad_unit_above}
 use Rattle.family_rules.proofs.Kept.{known_lines, fresh, reversed_samples, grown, is_one, so_far-other, so_far-descriptor, so_far-sample, so_far-none, no_samples, late_known}
@@ -59,7 +60,7 @@ module _ (st : Setting) where
       by false e =
           let known : (list_any (bytes_eq F) (left_before n.family above) || false) ≡ list_any (is_of F) above = rw e at (known_lines F n.family above) in
           lookup-map (so_far st (n ∷ above)) F (left_before n.family above)
-          ∙ ap (λ b. cond b (Some (so_far st (n ∷ above) F)) None) (sym (or_false (list_any (bytes_eq F) (left_before n.family above))) ∙ known)
+          ∙ ap (λ b. cond b (Some (so_far st (n ∷ above) F)) None) (sym (or-false (list_any (bytes_eq F) (left_before n.family above))) ∙ known)
 
   split_above : (above : List Owned) (F : List ℕ) (item : Item)
       → is_split above (record { family = F; item = item }) ≡ (not (is_current_family (current_family st above) F) && is_some (lookup (bytes_eq F) (left_pairs above)))
@@ -77,7 +78,7 @@ module _ (st : Setting) where
       by false e =
           let known : (list_any (bytes_eq F) (left_before n.family above) || false) ≡ list_any (is_of F) above = rw e at (known_lines F n.family above) in
           sym (ap is_some (lookup-map (so_far st (n ∷ above)) F (left_before n.family above)) ∙ some_cond (list_any (bytes_eq F) (left_before n.family above)) (so_far st (n ∷ above) F)
-          ∙ sym (or_false (list_any (bytes_eq F) (left_before n.family above))) ∙ known)
+          ∙ sym (or-false (list_any (bytes_eq F) (left_before n.family above))) ∙ known)
 
   late_above : (above : List Owned) (F : List ℕ) (d : Descriptor)
       → is_late_descriptor above (record { family = F; item = line_of F d }) ≡ is_late_in d (known_in (left_pairs above) (current_family st above) F)

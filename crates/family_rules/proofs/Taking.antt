@@ -29,10 +29,6 @@ pub on_ok : {T E : Type 0} (P Q : Type 0) (r : Result T E) → (P → Q) → OnO
 on_ok P Q (Ok x) f h = f h
 on_ok P Q (Err e) f h = tt
 
-pub if_ok : {T E : Type 0} (P Q : T → Type 0) (r : Result T E) → ((x : T) → P x → Q x) → IfOk r P → IfOk r Q
-if_ok P Q (Ok x) f h = f x h
-if_ok P Q (Err e) f h = tt
-
 pub if_ok_both : {T E : Type 0} (P Q R : T → Type 0) (r : Result T E) → ((x : T) → P x → Q x → R x) → IfOk r P → IfOk r Q → IfOk r R
 if_ok_both P Q R (Ok x) f h k = f x h k
 if_ok_both P Q R (Err e) f h k = tt
@@ -198,11 +194,6 @@ some_is (Some z) x y e h = let same : z ≡ x = let f : Some z ≡ Some x = e in
 -- a sample that was added stands behind the others
 pub put_new : {A : Type 0} (seen : List A) (x : A) (known : Bool) → known ≡ false → cond known seen (seen ++ x ∷ []) ≡ seen ++ x ∷ []
 put_new seen x known h = ap (λ b. cond b seen (seen ++ x ∷ [])) h
-
--- an answer that is a rule
-pub is_rule : (P : Option Rule → Type 0) (broken : Option Rule) → is_some broken ≡ true → ((rule : Rule) → broken ≡ Some rule → P (Some rule)) → P broken
-is_rule P None h more = absurd (let f : false ≡ true = h in cc)
-is_rule P (Some rule) h more = more rule refl
 
 -- an answer that is none
 pub is_no_rule : (broken : Option Rule) → is_some broken ≡ false → broken ≡ None

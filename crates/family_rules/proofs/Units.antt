@@ -4,6 +4,7 @@ use Rattle.std.specs.List.{list_any}
 use Rattle.std.specs.Option.{option_or}
 use Rattle.std.specs.Str.{bytes_eq}
 use Rattle.std.specs.Cmp.Lexicographic.{bytes_decides}
+use Rattle.std.proofs.Math.Bool.{or-false}
 use Rattle.label_sets.specs.Lists.{first_some, some_passes}
 use Rattle.page_model.specs.Written.{Setting}
 use Rattle.page_model.specs.Items.{unit_of_line}
@@ -14,7 +15,7 @@ use Rattle.family_rules.specs.declared.family.Descriptor.{Descriptor}
 use Rattle.family_rules.specs.declared.family.Descriptor.TheVariants as sorts
 use Rattle.family_rules.specs.Checking.{so_far}
 use Rattle.family_rules.specs.Steps.{line_of, is_bad_unit_in}
-use Rattle.family_rules.proofs.Lists.{or_false, bytes_same}
+use Rattle.family_rules.proofs.Lists.{bytes_same}
 use Rattle.family_rules.proofs.Faults.{AreFit, no_forbidden}
 use Rattle.family_rules.proofs.Once.{unit_sort, said_first}
 
@@ -30,7 +31,7 @@ given_unit st (o ∷ above) F fit = by (bytes_eq o.family F) (unit_of_line o.ite
     by true (Some unit) e says ih =
         let first : first_some (unit_in o.family) above ≡ None = said_first unit_of_line unit_sort above o (ap is_some says) fit.0.descriptor in
         let none : first_some (unit_in F) above ≡ None = subst (λ G. first_some (unit_in G) above ≡ None) ((bytes_decides o.family F).0 e) first in
-        ap (λ b. is_unit unit || b) (ih ∙ ap (some_passes is_unit) none) ∙ or_false (is_unit unit)
+        ap (λ b. is_unit unit || b) (ih ∙ ap (some_passes is_unit) none) ∙ or-false (is_unit unit)
 
 -- Unit, by what is known of the family
 pub bad_unit_above : (st : Setting) (above : List Owned) (F : List ℕ) (d : Descriptor) → AreFit st above

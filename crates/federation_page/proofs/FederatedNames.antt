@@ -5,7 +5,7 @@ use Rattle.std.specs.List.{ends_with, list_all}
 use Rattle.std.specs.Str.{bytes_eq}
 use Rattle.std.specs.Cmp.Lexicographic.{bytes_decides}
 use Rattle.std.proofs.lemmas.Bool.{and_parts, and_from}
-use Rattle.std.proofs.lemmas.List.{length-append}
+use Rattle.std.proofs.lemmas.List.{length-append, take_at}
 use Rattle.std.proofs.lemmas.Slice.Eq.{ends_is}
 use Rattle.std.proofs.lemmas.Bool.Decides.{Decides-eqb}
 use Rattle.label_sets.specs.declared.kind.Kind.{Kind}
@@ -22,11 +22,6 @@ use Rattle.federation_page.proofs.Ends.{front_is}
 
 -- ---- fronts
 
-take_front : (xs ys : List ℕ) → take (length xs) (xs ++ ys) ≡ xs
-take_front [] [] = refl
-take_front [] (y ∷ ys) = refl
-take_front (x ∷ xs) ys = ap (λ zs. x ∷ zs) (take_front xs ys)
-
 pub front_found : (end key front : List ℕ) → in_front_of end key ≡ Some front → (key ≡ front ++ end) × (bytes_eq front [] ≡ false)
 unfolding in_front_of
 front_found end key front h = go (ends_with ◌==◌ key end) (bytes_eq (take (length key - length end) key) []) refl refl h
@@ -41,7 +36,7 @@ front_found end key front h = go (ends_with ◌==◌ key end) (bytes_eq (take (l
 pub front_there : (end name : List ℕ) → bytes_eq name [] ≡ false → in_front_of end (name ++ end) ≡ Some name
 front_there end name some =
     let count : length (name ++ end) - length end ≡ length name = omega (arith, length-append name end) in
-    let front : take (length (name ++ end) - length end) (name ++ end) ≡ name = ap (λ n. take n (name ++ end)) count ∙ take_front name end in
+    let front : take (length (name ++ end) - length end) (name ++ end) ≡ name = take_at name end (length (name ++ end) - length end) (sym count) in
     sym (sym (ap (λ b. when_true (not b) name) some) ∙ front_is end (name ++ end) name (length end) refl (sym (ap (λ f. f ++ end) front)) (sym front))
 
 metric_some : (n : List ℕ) → is_metric_name n ≡ true → bytes_eq n [] ≡ false

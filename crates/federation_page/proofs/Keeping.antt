@@ -7,6 +7,8 @@ use Rattle.std.specs.Cmp.Lexicographic.{bytes_decides}
 use Rattle.std.proofs.lemmas.Bool.{or_parts, or_from}
 use Rattle.std.proofs.lemmas.List.{map-append}
 use Rattle.std.proofs.lemmas.List.Folds.{list_any-append}
+use Rattle.std.proofs.lemmas.Simd.{map-map}
+use Rattle.std.proofs.Math.Bool.{or-false, or_assoc}
 use Rattle.byte_table.proofs.Laws.{among}
 use Rattle.label_sets.specs.Keys.{kind_eq}
 use Rattle.label_sets.proofs.Laws.{any-map, bytes_eq-swap}
@@ -20,18 +22,9 @@ use Rattle.federation_page.specs.Conflicts.{joined_by, meets, with_candidate}
 use Rattle.federation_page.specs.Founding.{is_name_among, all_sample_names, AreFounders}
 use Rattle.federation_page.specs.declared.conflicts.Founders.{Founders}
 use Rattle.federation_page.proofs.Founders.{any_or, shared_turned}
-use Rattle.federation_page.proofs.Steps.{map_twice}
 use Rattle.federation_page.proofs.Groups.{distinct_joined}
 
 -- ---- lists
-
-or_grouped : (a b c : Bool) → ((a || b) || c) ≡ (a || (b || c))
-or_grouped true b c = refl
-or_grouped false b c = refl
-
-or_none : (a : Bool) → (a || false) ≡ a
-or_none true = refl
-or_none false = refl
 
 pub default_free : {A : Type 0} (xs : List A) (i : ℕ) (d e : A) → i < length xs → get_or xs i d ≡ get_or xs i e
 default_free [] i d e h = absurd (omega arith)
@@ -76,7 +69,7 @@ looked_up table name (Some at) m = sym (among table name at m)
 -- a name that was put in is among the names
 pub put_in : (old new : List (List ℕ)) (name : List ℕ) (found : Option ℕ) → MatchOption found (list_any (bytes_eq name) old ≡ false) (λ at. slice_get old at ≡ Some name)
     → MatchOption found (new ≡ old ++ name ∷ []) (λ at. new ≡ old) → (q : List ℕ) → is_name_among new q ≡ (is_name_among old q || bytes_eq q name)
-put_in old new name None m e q = ap (λ t. is_name_among t q) e ∙ list_any-append (bytes_eq q) old (name ∷ []) ∙ ap (λ b. is_name_among old q || b) (or_none (bytes_eq q name))
+put_in old new name None m e q = ap (λ t. is_name_among t q) e ∙ list_any-append (bytes_eq q) old (name ∷ []) ∙ ap (λ b. is_name_among old q || b) (or-false (bytes_eq q name))
 put_in old new name (Some at) m e q = ap (λ t. is_name_among t q) e ∙ go (bytes_eq q name) refl
   where
     other : (b : Bool) → b ≡ true → b ≡ (b || true)
@@ -87,7 +80,7 @@ put_in old new name (Some at) m e q = ap (λ t. is_name_among t q) e ∙ go (byt
         by false = refl
 
     go : (b : Bool) → bytes_eq q name ≡ b → is_name_among old q ≡ (is_name_among old q || b)
-    go false h = sym (or_none (is_name_among old q))
+    go false h = sym (or-false (is_name_among old q))
     go true h = other (is_name_among old q) (ap (is_name_among old) ((bytes_decides q name).0 h) ∙ among old name at m)
 
 -- a name that was not there is put behind the others
@@ -99,7 +92,7 @@ put_behind old new name (Some at) none m e = absurd (let there : is_name_among o
 -- ---- sample names
 
 pub sample_names_are : (ss : List Suffix) (k : FamilyKey) → map suffix_bytes ss ≡ suffixes OpenMetrics k.kind → map (λ s. k.name ++ suffix_bytes s) ss ≡ sample_names k
-sample_names_are ss k e = sym (map_twice (λ suffix. k.name ++ suffix) suffix_bytes ss) ∙ ap (map (λ suffix. k.name ++ suffix)) e
+sample_names_are ss k e = sym (map-map (λ suffix. k.name ++ suffix) suffix_bytes ss) ∙ ap (map (λ suffix. k.name ++ suffix)) e
 
 -- the name with this suffix is one of the table
 pub shares_here : (table : List (List ℕ)) (ss : List Suffix) (k : FamilyKey) (i : ℕ) (s : Suffix) (name : List ℕ) (found : Option ℕ) → map suffix_bytes ss ≡ suffixes OpenMetrics k.kind → i < length ss → s ≡ get_or ss i s
@@ -117,8 +110,8 @@ one_more start old new front ss i s name h e is step before q =
     let f : Suffix → List ℕ = λ s. front ++ suffix_bytes s in
     let count : suc i ≡ i + 1 = omega arith in
     let more : map f (take (i + 1) ss) ≡ map f (take i ss) ++ f s ∷ [] = ap (λ n. map f (take n ss)) (sym count) ∙ ap (map f) (take_here ss i s h e) ∙ map-append f (take i ss) (s ∷ []) in
-    step q ∙ ap (λ b. b || bytes_eq q name) (before q) ∙ or_grouped (is_name_among start q) (is_name_among (map f (take i ss)) q) (bytes_eq q name)
-    ∙ ap (λ b. is_name_among start q || b) (ap (λ n. is_name_among (map f (take i ss)) q || bytes_eq q n) is ∙ ap (λ b. is_name_among (map f (take i ss)) q || b) (sym (or_none (bytes_eq q (f s)))) ∙ sym (list_any-append (bytes_eq q) (map f (take i ss)) (f s ∷ [])) ∙ ap (λ ns. is_name_among ns q) (sym more))
+    step q ∙ ap (λ b. b || bytes_eq q name) (before q) ∙ or_assoc (is_name_among start q) (is_name_among (map f (take i ss)) q) (bytes_eq q name)
+    ∙ ap (λ b. is_name_among start q || b) (ap (λ n. is_name_among (map f (take i ss)) q || bytes_eq q n) is ∙ ap (λ b. is_name_among (map f (take i ss)) q || b) (sym (or-false (bytes_eq q (f s)))) ∙ sym (list_any-append (bytes_eq q) (map f (take i ss)) (f s ∷ [])) ∙ ap (λ ns. is_name_among ns q) (sym more))
 
 pub all_added : (start table : List (List ℕ)) (ss all : List Suffix) (k : FamilyKey) → all ≡ ss → map suffix_bytes ss ≡ suffixes OpenMetrics k.kind
     → ((q : List ℕ) → is_name_among table q ≡ (is_name_among start q || is_name_among (map (λ s. k.name ++ suffix_bytes s) all) q)) → (q : List ℕ) → is_name_among table q ≡ (is_name_among start q || is_name_among (sample_names k) q)
@@ -183,7 +176,7 @@ new_name fs k h = (or_parts (is_name_among (names_of fs) k.name) (list_any (is_n
 flat_more : (fs : List Family) (c : Family) (q : List ℕ) → is_name_among (all_sample_names (fs ++ c ∷ [])) q ≡ (is_name_among (all_sample_names fs) q || is_name_among (sample_names (family_key c)) q)
 flat_more fs c q =
     any_flat (bytes_eq q) (λ f. sample_names (family_key f)) (fs ++ c ∷ []) ∙ list_any-append (λ f. list_any (bytes_eq q) (sample_names (family_key f))) fs (c ∷ [])
-    ∙ ap (λ b. b || (is_name_among (sample_names (family_key c)) q || false)) (sym (any_flat (bytes_eq q) (λ f. sample_names (family_key f)) fs)) ∙ ap (λ b. is_name_among (all_sample_names fs) q || b) (or_none (is_name_among (sample_names (family_key c)) q))
+    ∙ ap (λ b. b || (is_name_among (sample_names (family_key c)) q || false)) (sym (any_flat (bytes_eq q) (λ f. sample_names (family_key f)) fs)) ∙ ap (λ b. is_name_among (all_sample_names fs) q || b) (or-false (is_name_among (sample_names (family_key c)) q))
 
 pub kept_founded : (f g : Founders) (c : Family) (found : Option ℕ) → AreFounders f → meets f.families.items (family_key c) ≡ false
     → MatchOption found (list_any (bytes_eq c.name) f.names ≡ false) (λ at. slice_get f.names at ≡ Some c.name) → MatchOption found (g.names ≡ f.names ++ c.name ∷ []) (λ at. g.names ≡ f.names)
@@ -211,7 +204,7 @@ keys_same c [] = refl
 keys_same c (f ∷ fs) = ap (λ k. k ∷ map family_key (map (joined_by c) fs)) (joined_key c f) ∙ ap (λ ks. family_key f ∷ ks) (keys_same c fs)
 
 names_from : (fs : List Family) → names_of fs ≡ map (λ (k : FamilyKey). k.name) (map family_key fs)
-names_from fs = sym (map_twice (λ (k : FamilyKey). k.name) family_key fs)
+names_from fs = sym (map-map (λ (k : FamilyKey). k.name) family_key fs)
 
 samples_from : (fs : List Family) → all_sample_names fs ≡ flat_map sample_names (map family_key fs)
 samples_from [] = refl

@@ -242,16 +242,13 @@ module _ (s : Shown) (job : IsTargetName 256 s.job) (instance : IsTargetName 262
   pub candidate_readings : (f g : Family) → IsSource form f → candidate_of s f ≡ Some g → AreOfTarget g.kind g.name g.unit s g.readings
   candidate_readings f g source e = let is = candidate_is s form f g source e in subst (λ (h : Family). AreOfTarget h.kind h.name h.unit s h.readings) (sym is.1) (readings_of_target s job instance form f source is.0)
 
-  heads : (fs : List Family) → AllByRecursion (IsSource form) fs → AllByRecursion IsHead (filter_map (candidate_of s) fs)
-  heads [] h = tt
-  heads (f ∷ fs) h = go (candidate_of s f) refl (heads fs h.1)
+  pub all_heads : (fs : List Family) → AllByRecursion (IsSource form) fs → AllByRecursion IsHead (filter_map (candidate_of s) fs)
+  all_heads [] h = tt
+  all_heads (f ∷ fs) h = go (candidate_of s f) refl (all_heads fs h.1)
     where
       go : (o : Option Family) → candidate_of s f ≡ o → AllByRecursion IsHead (filter_map (candidate_of s) fs) → AllByRecursion IsHead (cons_option o (filter_map (candidate_of s) fs))
       go None e ih = ih
       go (Some g) e ih = (candidate_head f g h.0 e, ih)
-
-  pub all_heads : (fs : List Family) → AllByRecursion (IsSource form) fs → AllByRecursion IsHead (filter_map (candidate_of s) fs)
-  all_heads fs h = heads fs h
 
   -- ---- one candidate of a target at most is one with a family
 

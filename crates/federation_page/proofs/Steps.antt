@@ -7,25 +7,20 @@ use Rattle.std.proofs.lemmas.Bool.{and_parts, or_parts}
 use Rattle.std.proofs.lemmas.List.{map-append, reverse-append}
 use Rattle.std.proofs.lemmas.List.Elements.{filter-append}
 use Rattle.std.proofs.lemmas.Grind.{flat_map-append}
+use Rattle.std.proofs.lemmas.Simd.{map-map}
 use Rattle.label_sets.specs.Keys.{kind_eq}
 use Rattle.label_sets.proofs.Laws.{kind_decides, any-reverse, any-map, filter-none}
 use Rattle.page_model.specs.declared.page.Family.{Family}
 use Rattle.open_writing.specs.FamilyKeys.{FamilyKey, family_key, share_sample_name, clash, is_one_family}
 use Rattle.federation_page.specs.Conflicts.{founders, joined_by, meets, with_candidate}
 use Rattle.federation_page.specs.Gathering.{with_readings_of}
+use mathlib.Core.List.{reverse-cons}
 
 -- ---- lists
-
-turned_more : {A : Type 0} (x : A) (xs : List A) → reverse (x ∷ xs) ≡ reverse xs ++ x ∷ []
-turned_more x xs = reverse-append (x ∷ []) xs
 
 map_same : {A B : Type 0} (f g : A → B) → ((x : A) → f x ≡ g x) → (xs : List A) → map f xs ≡ map g xs
 map_same f g same [] = refl
 map_same f g same (x ∷ xs) = ap (λ y. y ∷ map f xs) (same x) ∙ ap (λ ys. g x ∷ ys) (map_same f g same xs)
-
-pub map_twice : {A B C : Type 0} (g : B → C) (f : A → B) (xs : List A) → map g (map f xs) ≡ map (λ x. g (f x)) xs
-map_twice g f [] = refl
-map_twice g f (x ∷ xs) = ap (λ ys. g (f x) ∷ ys) (map_twice g f xs)
 
 -- ---- keys
 
@@ -131,10 +126,10 @@ module _ (cs : List Family) (c : Family) where
           → map (founded_of (cs ++ c ∷ [])) (reverse (cond b (founders family_key (reverse cs)) (c ∷ founders family_key (reverse cs)))) ≡ with_candidate (so_far cs) c
       go true e =
           map_same (founded_of (cs ++ c ∷ [])) (λ x. joined_by c (founded_of cs x)) more_readings (reverse (founders family_key (reverse cs)))
-          ∙ sym (map_twice (joined_by c) (founded_of cs) (reverse (founders family_key (reverse cs))))
+          ∙ sym (map-map (joined_by c) (founded_of cs) (reverse (founders family_key (reverse cs))))
           ∙ sym (ap (λ t. cond t (map (joined_by c) (so_far cs)) (so_far cs ++ c ∷ [])) (meets_same ∙ e))
       go false e =
-          ap (λ (xs : List Family). map (founded_of (cs ++ c ∷ [])) xs) (turned_more c (founders family_key (reverse cs)))
+          ap (λ (xs : List Family). map (founded_of (cs ++ c ∷ [])) xs) (reverse-cons c (founders family_key (reverse cs)))
           ∙ map-append (founded_of (cs ++ c ∷ [])) (reverse (founders family_key (reverse cs))) (c ∷ [])
           ∙ ap (λ ys. ys ++ founded_of (cs ++ c ∷ []) c ∷ []) (stay (reverse (founders family_key (reverse cs))) (any-reverse (λ f. clash (family_key f) (family_key c)) (founders family_key (reverse cs)) ∙ e))
           ∙ ap (λ y. so_far cs ++ y ∷ []) (own e)

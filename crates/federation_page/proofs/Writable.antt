@@ -6,10 +6,9 @@ use Rattle.std.proofs.lemmas.Bool.{or_from}
 use Rattle.std.proofs.lemmas.List.{map-append}
 use Rattle.std.proofs.lemmas.List.Elements.{All-from_recursion, recursion_from_All, filter-append}
 use Rattle.std.proofs.lemmas.Grind.{flat_map-append}
-use Rattle.label_sets.specs.declared.kind.Kind.TheVariants as kinds
 use Rattle.label_sets.specs.declared.label_set.LabelSet.{LabelSet}
 use Rattle.label_sets.specs.Labels.{label_sets_eq, name_before}
-use Rattle.label_sets.proofs.Laws.{sets_decide, all-append, all-front, all-behind, all-reverse}
+use Rattle.label_sets.proofs.Laws.{sets_decide, all-append, all-front, all-behind, all-reverse, all-weaker}
 use Rattle.page_model.specs.declared.format.Format.{Format}
 use Rattle.page_model.specs.declared.format.Format.TheVariants.{OpenMetrics}
 use Rattle.page_model.specs.declared.format.Treatment.TheVariants.{Scraped, Written}
@@ -37,10 +36,6 @@ use Rattle.federation_page.proofs.Founders.{gathered_apart, names_apart}
 use Rattle.federation_page.proofs.FederatedReadings.{most_target_bytes}
 use Rattle.federation_page.proofs.Groups.{together_joined, distinct_joined, targets_differ}
 use Rattle.federation_page.proofs.Parts.{IsShort, IsOfTarget, AreOfTarget, IsHead, IsSource, kept_family, all_heads, given}
-
-weaker : {A : Type 0} (P Q : A → Type 0) → ((x : A) → P x → Q x) → (xs : List A) → AllByRecursion P xs → AllByRecursion Q xs
-weaker P Q f [] h = tt
-weaker P Q f (x ∷ xs) h = (f x h.0, weaker P Q f xs h.1)
 
 -- ---- readings of several targets
 
@@ -77,7 +72,7 @@ module _ (x : Family) where
   given_elsewhere : (s : Shown) (ts : List Shown) → AllByRecursion (λ t. is_one_target s t ≡ false) ts → AllByRecursion IsGoodTarget ts → AllByRecursion (OfAnother s) (flat_map from_target ts)
   given_elsewhere s [] others good = tt
   given_elsewhere s (t ∷ ts) others good =
-      all-append (OfAnother s) (from_target t) (flat_map from_target ts) (weaker (Of t) (OfAnother s) (λ r h. (t, others.0, h)) (from_target t) (given_here t good.0).each) (given_elsewhere s ts others.1 good.1)
+      all-append (OfAnother s) (from_target t) (flat_map from_target ts) (all-weaker (Of t) (OfAnother s) (λ r h. (t, others.0, h)) (from_target t) (given_here t good.0).each) (given_elsewhere s ts others.1 good.1)
 
   groups_differ : (s : Shown) (r q : Reading) → Of s r → OfAnother s q → label_sets_eq (group r.key.labels) (group q.key.labels) ≡ false
   groups_differ s r q h k =
@@ -127,10 +122,10 @@ module _ (x : Family) where
       let mine : List Reading = from_target s in
       let theirs : List Reading = flat_map from_target ts in
       record {
-        formed = all-append (IsFormedReading OpenMetrics Written x.kind x.name x.unit) mine theirs (weaker (Of s) (IsFormedReading OpenMetrics Written x.kind x.name x.unit) (λ r h. h.formed) mine here.each) rest.formed;
-        bare = all-append IsBareReading mine theirs (weaker (Of s) IsBareReading (λ r h. h.bare) mine here.each) rest.bare;
+        formed = all-append (IsFormedReading OpenMetrics Written x.kind x.name x.unit) mine theirs (all-weaker (Of s) (IsFormedReading OpenMetrics Written x.kind x.name x.unit) (λ r h. h.formed) mine here.each) rest.formed;
+        bare = all-append IsBareReading mine theirs (all-weaker (Of s) IsBareReading (λ r h. h.bare) mine here.each) rest.bare;
         short = all-append (λ r. AllByRecursion (λ (t : Sample). length (sample_text t) ≤ most_scraped_line + most_target_bytes) (reading_samples x.kind x.name r)) mine theirs
-            (weaker (Of s) (λ r. AllByRecursion (λ (t : Sample). length (sample_text t) ≤ most_scraped_line + most_target_bytes) (reading_samples x.kind x.name r)) (λ r h. h.short) mine here.each) rest.short;
+            (all-weaker (Of s) (λ r. AllByRecursion (λ (t : Sample). length (sample_text t) ≤ most_scraped_line + most_target_bytes) (reading_samples x.kind x.name r)) (λ r h. h.short) mine here.each) rest.short;
         distinct = subst (IsDistinct label_sets_eq) (sym (map-append (λ (r : Reading). r.key.labels) mine theirs)) (distinct_joined label_sets_eq (label_sets_of mine) (label_sets_of theirs) here.distinct rest.distinct (no_sets s mine theirs here.each there));
         together = ap (λ ls. stand_together (map group ls)) (map-append (λ (r : Reading). r.key.labels) mine theirs) ∙ ap stand_together (map-append group (label_sets_of mine) (label_sets_of theirs))
             ∙ together_joined (map group (label_sets_of mine)) (map group (label_sets_of theirs)) here.together rest.together (no_groups s mine theirs here.each there);

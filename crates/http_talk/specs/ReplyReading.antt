@@ -16,7 +16,7 @@ use Rattle.httparse.specs.declared.spans.ResponseSpans.{ResponseSpans}
 use Rattle.http_talk.specs.HeadFeeding.{IsHeadAt}
 use Rattle.http_talk.specs.ChunkFeeding.{IsChunkPlace}
 use Rattle.http_talk.specs.Heads.{head_limit, unfinished, found, HeadIs, head_cause, format_of, framing_of, Framing, in_chunks, to_the_end, of_length}
-use Rattle.http_talk.specs.Chunks.{Chunks, no_chunks, with_bytes}
+use Rattle.http_talk.specs.Chunks.{no_chunks, with_bytes}
 use Rattle.http_talk.specs.Chunks as chunks
 use Rattle.http_talk.specs.Replies.{Judged, waits, goes_on, decided, refused, whole, IsJudged, HasVerdict, cause_of}
 

@@ -1,9 +1,9 @@
 -- Names at the front.
-use Rattle.std.proofs.Common.{◌≡◌, ℕ, ◌-◌, ◌≤◌, Bool, true, false, nat_eq, List, [], ◌∷◌, ◌++◌, length, take, drop, refl, sym, ap, subst, ◌∙◌, arith, IsUtf8}
+use Rattle.std.proofs.Common.{◌≡◌, ℕ, ◌-◌, ◌≤◌, Bool, true, false, nat_eq, List, [], ◌∷◌, ◌++◌, length, take, drop, sym, ap, subst, ◌∙◌, IsUtf8}
 use Rattle.std.specs.Prelude.{take_while}
 use Rattle.std.specs.List.{list_all, starts_with}
 use Rattle.std.specs.Cmp.Lexicographic.{bytes_decides}
-use Rattle.std.proofs.lemmas.List.{take-append-drop}
+use Rattle.std.proofs.lemmas.List.{take-append-drop, nil_from_length}
 use Rattle.label_sets.specs.Lists.{rest_while}
 use Rattle.page_model.proofs.Laws.{while_passes}
 use Rattle.line_scan.specs.declared.scan.Cut.{Cut}
@@ -11,14 +11,10 @@ use Rattle.line_scan.specs.Cuts.{IsNamed}
 use Rattle.line_scan.proofs.Utf8.{PassesAscii, utf8_front, utf8_rest, utf8_behind}
 use Rattle.line_scan.proofs.Quotes.{tail_slice}
 
-nothing : (cs : List ℕ) → length cs ≡ 0 → cs ≡ []
-nothing [] h = refl
-nothing (c ∷ cs) h = absurd (omega arith)
-
 -- the characters that stand at the front and may stand in a name, cut off
 module _ (is_name : List ℕ → Bool) (start test : ℕ → Bool) (bytes : List ℕ) (cut : Cut) (front : cut.front.now ≡ take_while test bytes) where
   pub cut-nothing : is_name [] ≡ false → length cut.front.now ≡ 0 → is_name (take_while test bytes) ≡ false
-  cut-nothing empty h = ap is_name (sym front ∙ nothing cut.front.now h) ∙ empty
+  cut-nothing empty h = ap is_name (sym front ∙ nil_from_length cut.front.now h) ∙ empty
 
   module _ (by_first : (c : ℕ) (cs : List ℕ) → list_all test (c ∷ cs) ≡ true → is_name (c ∷ cs) ≡ start c) (c : ℕ) (cs : List ℕ) (first : cut.front.now ≡ c ∷ cs) where
     pub cut-first : is_name (take_while test bytes) ≡ start c

@@ -1,5 +1,5 @@
 -- Which rule a line breaks by itself, in either format.
-use Rattle.std.proofs.Common.{◌≡◌, ℕ, ◌≤◌, Bool, true, false, nat_lt, List, length, Option, Some, None, Result, Ok, Err, refl, ◌∙◌, arith, IsUtf8, IfOk}
+use Rattle.std.proofs.Common.{◌≡◌, ℕ, ◌≤◌, Bool, true, false, nat_lt, List, length, Option, Some, None, refl, ◌∙◌, arith, IsUtf8}
 use Rattle.std.specs.Prelude.{find}
 use Rattle.std.specs.Str.{is_utf8}
 use Rattle.std.proofs.lemmas.Bool.Decides.{nat_tests}
@@ -47,8 +47,3 @@ module _ (f : Format) (t : Treatment) (line : List ℕ) (short : length line ≤
   pub line-read : (read : LineRead) → IsUtf8 line → Reads f t (written_of f line) read → IsRead f t line read
   line-read (reads.Item item) u h = (λ limit. line-says limit u ∙ h.0, h.1)
   line-read (reads.Refused rule) u h = λ limit. line-says limit u ∙ h
-
--- what follows of a value follows of a result
-pub if_ok : {A E : Type 0} (P Q : A → Type 0) (r : Result A E) → ((x : A) → P x → Q x) → IfOk r P → IfOk r Q
-if_ok P Q (Ok x) f h = f x h
-if_ok P Q (Err e) f h = h

@@ -7,7 +7,7 @@ use Rattle.std.proofs.lemmas.Grind.{common_steps}
 use Rattle.std.proofs.lemmas.List.{append-nil, drop-drop, drop_all, take_all, length-drop, length-take}
 use Rattle.std.proofs.Math.Seq.{take-add, drop-cons}
 use Rattle.label_sets.specs.Escapes.{is_quote, is_backslash, quoted_at, unescaped}
-use Rattle.line_scan.specs.Marks.{behind_front, step_over, escape_at, is_mark, HasNoMark, IsFirstMark, IsFirstOf}
+use Rattle.line_scan.specs.Marks.{behind_front, step_over, is_mark, HasNoMark, IsFirstMark}
 use Rattle.std.proofs.lemmas.List.Folds.{list_any_more, list_any_at}
 use Rattle.std.proofs.lemmas.Bool.{or_parts}
 use Rattle.memchr.specs.Find.{TakesFirst, is_byte2, places, places_from}
@@ -140,26 +140,6 @@ backslash_before bytes start at before within is =
 -- a mark that is no backslash
 pub mark_quote : (c : ℕ) → is_mark c ≡ true → c ≢ 92 → c ≡ 34
 mark_quote c h other = grind (arith, nat_tests)
-
--- an escape at the front
-pub escape_first : (escape : ℕ → Option ℕ) (written : List ℕ) (byte : ℕ) → escape_at escape written ≡ Some byte → IsFirstOf escape written byte 2
-escape_first escape [] byte e = absurd cc
-escape_first escape (c ∷ []) byte e = absurd cc
-escape_first escape (c ∷ d ∷ cs) byte e = go (is_backslash c) refl
-  where
-    go : (b : Bool) → is_backslash c ≡ b → IsFirstOf escape (c ∷ d ∷ cs) byte 2
-    go true is = let h = rw is at e in record { some = omega arith; taken = omega arith; stands = rw (is, h) refl }
-    go false is = let h = rw is at e in absurd cc
-
--- no escape at the front
-pub plain_first : (escape : ℕ → Option ℕ) (written : List ℕ) → 0 < length written → escape_at escape written ≡ None → IsFirstOf escape written (get_or written 0 0) 1
-plain_first escape [] some e = absurd (omega arith)
-plain_first escape (c ∷ []) some e = record { some = omega arith; taken = omega arith; stands = refl }
-plain_first escape (c ∷ d ∷ cs) some e = go (is_backslash c) refl
-  where
-    go : (b : Bool) → is_backslash c ≡ b → IsFirstOf escape (c ∷ d ∷ cs) c 1
-    go true is = let h = rw is at e in record { some = omega arith; taken = omega arith; stands = rw (is, h) refl }
-    go false is = record { some = omega arith; taken = omega arith; stands = rw is refl }
 
 -- a text without a backslash stands for itself
 pub no_escape : (escape : ℕ → Option ℕ) (written : List ℕ) → list_any is_backslash written ≡ false → unescaped escape written ≡ written

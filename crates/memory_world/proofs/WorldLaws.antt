@@ -1,16 +1,14 @@
 -- A world in memory: what its calls owe to the definitions of worlds.
-use Rattle.std.proofs.Common.{◌≡◌, ◌∙◌, ℕ, Bool, true, false, List, [], ◌∷◌, ◌++◌, map, reverse, Some, refl, sym, ap, subst}
+use Rattle.std.proofs.Common.{◌≡◌, ℕ, Bool, true, false, List, [], ◌∷◌, map, Some, refl, sym, ap, subst}
 use Rattle.std.specs.Prelude.{All, ◌≢◌, ◌==◌}
 use Rattle.std.proofs.lemmas.Bool.{eqb-true, eqb-false}
-use Rattle.std.proofs.lemmas.List.{map-append, reverse-append}
 use Rattle.std.proofs.lemmas.List.Elements.{All-nil, All-cons, All-head, All-tail}
-use Rattle.bridge_ports.specs.declared.memory_world.Shelved.{Shelved}
 use Rattle.bridge_ports.specs.declared.memory_world.MemoryPair.{MemoryPair}
 use Rattle.bridge_ports.specs.declared.memory_world.MemoryListen.{MemoryListen}
 use Rattle.bridge_ports.specs.Plans.{MemoryState}
 use Rattle.bridge_ports.specs.MemoryWorlds.{PairState, given_of, given_of_found}
 use Rattle.bridge_ports.specs.WorldMaking.{IsRightPair, IsRightListen}
-use Rattle.memory_world.specs.WorldParts.{pair_seen, found_pair, fresh_pair, IsFreshRight, listen_given, IsListenRight, shelved_given}
+use Rattle.memory_world.specs.WorldParts.{pair_seen, found_pair, fresh_pair, IsFreshRight, listen_given, IsListenRight}
 
 -- the addresses of each number are the same once a pair is back
 pub given_back : (old new : List PairState) (n : ℕ) (wires : MemoryState × MemoryState) → found_pair new n ≡ Some (pair_seen n (Some wires) (given_of old n))
@@ -22,10 +20,6 @@ given_back old new n wires found others m = by_test (m == n) refl
         let here : given_of new n ≡ given_of old n = ap given_of_found found in
         subst (λ k. given_of new k ≡ given_of old k) (sym (eqb-true m n e)) here
     by_test false e = ap given_of_found (others m (eqb-false m n e))
-
--- one more pair on the shelf is its first from the end
-pub shelf_more : (shelf : List Shelved) (s : Shelved) → reverse (map shelved_given (shelf ++ s ∷ [])) ≡ shelved_given s ∷ reverse (map shelved_given shelf)
-shelf_more shelf s = ap reverse (map-append shelved_given shelf (s ∷ [])) ∙ reverse-append (map shelved_given shelf) (shelved_given s ∷ [])
 
 all_unmapped : {A B : Type 0} (P : B → Type 0) (f : A → B) (xs : List A) → All P (map f xs) → All (λ x. P (f x)) xs
 all_unmapped P f [] all = All-nil (λ x. P (f x))

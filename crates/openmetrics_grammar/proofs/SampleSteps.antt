@@ -23,44 +23,9 @@ use Rattle.line_scan.specs.Cuts.{IsNamed}
 use Rattle.line_scan.specs.LineReading.{says_fault, Reads}
 use Rattle.openmetrics_grammar.specs.declared.exemplar.ExemplarRead.{ExemplarRead}
 use Rattle.openmetrics_grammar.specs.declared.sample.SampleRead.{SampleRead}
-use Rattle.openmetrics_grammar.specs.Samples.{IsExemplarOf, IsMaybeExemplarOf, IsMaybeExemplarIn, IsExemplarIn, IsSampleOf, exemplar_behind, maybe_in_range, has_bad_exemplar_labels, exemplar_made, no_exemplar, an_exemplar}
+use Rattle.openmetrics_grammar.specs.Samples.{IsMaybeExemplarOf, IsMaybeExemplarIn, IsExemplarIn, IsSampleOf, exemplar_behind, maybe_in_range, has_bad_exemplar_labels, exemplar_made, no_exemplar, an_exemplar}
 
 -- ---- an exemplar
-
-not_all : (left : List ℕ) (w : WrittenExemplar) → 0 < length left → when_true (bytes_eq left []) w ≡ None
-not_all [] w some = absurd (omega arith)
-not_all (c ∷ cs) w some = refl
-
-all_read : (left : List ℕ) (w : WrittenExemplar) → length left ≡ 0 → when_true (bytes_eq left []) w ≡ Some w
-all_read [] w none = refl
-all_read (c ∷ cs) w none = absurd (omega arith)
-
-pub exemplar-no_list : (cs : List ℕ) → None ≡ list_at cs → exemplar_behind cs ≡ None
-exemplar-no_list cs h = rw (← h) refl
-
-module _ (cs rest : List ℕ) (labels : List Label) (l : Some (labels, rest) ≡ list_at cs) where
-  pub exemplar-no_value : value_at rest ≡ None → exemplar_behind cs ≡ None
-  exemplar-no_value h = rw (← l, h) refl
-
-  module _ (value behind_value : List ℕ) (v : value_at rest ≡ Some (value, behind_value)) where
-    pub exemplar-no_stamp : stamp_at behind_value ≡ None → exemplar_behind cs ≡ None
-    exemplar-no_stamp h = rw (← l, v, h) refl
-
-    module _ (stamp : Option (List ℕ)) (left : List ℕ) (s : stamp_at behind_value ≡ Some (stamp, left)) where
-      pub exemplar-more : 0 < length left → exemplar_behind cs ≡ None
-      exemplar-more h = rw (← l, v, s) (not_all left (record { labels = labels; value = value; stamp = stamp }) h)
-
-      pub exemplar-found : length left ≡ 0 → exemplar_behind cs ≡ Some (record { labels = labels; value = value; stamp = stamp })
-      exemplar-found h = rw (← l, v, s) (all_read left (record { labels = labels; value = value; stamp = stamp }) h)
-
--- the numbers of an exemplar are in range where both of them are
-pub exemplar_range : (w : WrittenExemplar) (a b : Bool) → a ≡ not (token_out_of_range w.value) → b ≡ not (some_passes token_out_of_range w.stamp) → (a && b) ≡ not (exemplar_out_of_range OpenMetrics w)
-exemplar_range w a b e g = rw (e, g) (go (token_out_of_range w.value) w.stamp)
-  where
-    go : (x : Bool) (o : Option (List ℕ)) → (not x && not (some_passes token_out_of_range o)) ≡ not (x || some_passes (stamp_out_of_range OpenMetrics) o)
-    go true o = refl
-    go false None = refl
-    go false (Some token) = refl
 
 pub no_exemplar_at : (cs : List ℕ) → length cs ≡ 0 → IsMaybeExemplarIn (reading.exemplar_of cs) None
 unfolding reading.exemplar_of
@@ -181,53 +146,15 @@ sample_range w a b e x y i = rw (x, y, maybe_range w.exemplar e i) (go (token_ou
 
 -- ---- what is made of what is read
 
-pub made-no_exemplar : (t : Treatment) (w : Option WrittenExemplar) → IsMaybeExemplarOf w None → Some None ≡ exemplar_made t w
-made-no_exemplar t _ no_exemplar = refl
-
 same_stamp : (o : Option (List ℕ)) → option_map number o ≡ option_map (stamp_number OpenMetrics) o
 same_stamp None = refl
 same_stamp (Some token) = refl
-
--- what was read is of an exemplar that is there
-exemplar_there : (w : Option WrittenExemplar) (e : ExemplarRead) → IsMaybeExemplarOf w (Some e) → (x : WrittenExemplar) × (w ≡ Some x) × IsExemplarOf x e
-exemplar_there _ _ (an_exemplar x e i) = (x, refl, i)
-
-module _ (t : Treatment) (x : WrittenExemplar) where
-  bad_made : (b : Bool) → is_label_list t x.labels ≡ b → None ≡ when_true (is_label_list t x.labels) (label_set x.labels) → None ≡ exemplar_made t (Some x)
-  bad_made true is g = absurd (let k = rw is at g in cc)
-  bad_made false is g = rw is refl
-
-  good_made : (set : LabelSet) (b : Bool) → is_label_list t x.labels ≡ b → Some set ≡ when_true (is_label_list t x.labels) (label_set x.labels) → (is_label_list t x.labels ≡ true) × (set ≡ label_set x.labels)
-  good_made set true is g = (is, (let k = rw is at g in cc))
-  good_made set false is g = absurd (let k = rw is at g in cc)
-
-  made_good : is_label_list t x.labels ≡ true → exemplar_made t (Some x) ≡ Some (Some (exemplar_of OpenMetrics x))
-  made_good h = rw h refl
-
-same_exemplar : (x : WrittenExemplar) (e : ExemplarRead) → IsExemplarOf x e → (set : LabelSet) → set ≡ label_set x.labels
-    → ◌≡◌ {A = Exemplar} (record { labels = set; value = e.value; stamp = e.stamp }) (exemplar_of OpenMetrics x)
-same_exemplar x e i set same = rw (same, i.value, i.stamp, same_stamp x.stamp) refl
-
-module _ (t : Treatment) (w : Option WrittenExemplar) (e : ExemplarRead) (i : IsMaybeExemplarOf w (Some e)) where
-  pub made-bad_labels : None ≡ when_true (is_label_list t e.labels.items) (label_set e.labels.items) → None ≡ exemplar_made t w
-  made-bad_labels h = let there = exemplar_there w e i in rw there.1 (bad_made t there.0 (is_label_list t there.0.labels) refl (rw there.2.labels at h))
-
-  pub made-exemplar : (set : LabelSet) → Some set ≡ when_true (is_label_list t e.labels.items) (label_set e.labels.items)
-      → Some (Some (record { labels = set; value = e.value; stamp = e.stamp })) ≡ exemplar_made t w
-  made-exemplar set h =
-      let there = exemplar_there w e i in
-      let good = good_made t there.0 set (is_label_list t there.0.labels) refl (rw there.2.labels at h) in
-      ap (λ (y : Exemplar). Some (Some y)) (same_exemplar there.0 e there.2 set good.1) ∙ sym (made_good t there.0 good.0) ∙ ap (exemplar_made t) (sym there.1)
 
 -- ---- the item of a sample
 
 not_both : (a b : Bool) → a ≡ not b → b ≡ not a
 not_both a true e = ap not (sym e)
 not_both a false e = ap not (sym e)
-
-no_set : (b : Bool) (set : LabelSet) → None ≡ when_true b set → b ≡ false
-no_set true set h = absurd cc
-no_set false set h = refl
 
 a_set : (b : Bool) (x set : LabelSet) → Some x ≡ when_true b set → (b ≡ true) × (x ≡ set)
 a_set true x set h = (refl, cc)
@@ -247,15 +174,9 @@ module _ (t : Treatment) (w : WrittenSample) where
   fault_of a b c e f g = rw (e, f, g) refl
 
   module _ (s : SampleRead) (i : IsSampleOf w s) where
-    pub said-range : s.in_range ≡ false → says_fault OpenMetrics t (Some (sample w)) ≡ Some rules.Range
-    said-range e = fault_of true (is_label_list t w.labels) (has_bad_exemplar_labels t w.exemplar) (not_both s.in_range (has_out_of_range OpenMetrics (sample w)) i.in_range ∙ ap not e) refl refl
-
     module _ (e : s.in_range ≡ true) where
       ranged : has_out_of_range OpenMetrics (sample w) ≡ false
       ranged = not_both s.in_range (has_out_of_range OpenMetrics (sample w)) i.in_range ∙ ap not e
-
-      pub said-labels : None ≡ when_true (is_label_list t s.labels.items) (label_set s.labels.items) → says_fault OpenMetrics t (Some (sample w)) ≡ Some rules.Labels
-      said-labels h = fault_of false false (has_bad_exemplar_labels t w.exemplar) ranged (ap (is_label_list t) (sym i.labels) ∙ no_set (is_label_list t s.labels.items) (label_set s.labels.items) h) refl
 
       module _ (set : LabelSet) (h : Some set ≡ when_true (is_label_list t s.labels.items) (label_set s.labels.items)) where
         good_set : (is_label_list t s.labels.items ≡ true) × (set ≡ label_set s.labels.items)

@@ -47,20 +47,6 @@ broke_off text at w now new before after later rose = record {
 
 -- ---- a text in two parts
 
-pub sent_parts : (front rest : List ℕ) (w now new : WireState) → now ≡ sent_on front w → new ≡ sent_on rest now → new ≡ sent_on (front ++ rest) w
-sent_parts front rest w now new before after = after ∙ ap (λ v. sent_on rest v) before ∙ sent_on-more front rest w
-
--- a write failed in the first
-pub broke_front : (front rest : List ℕ) (w new : WireState) → BrokeOff front w new → BrokeOff (front ++ rest) w new
-broke_front front rest w new b = record {
-  sent = b.sent;
-  rest = b.rest ++ rest;
-  text_is = ap (λ xs. xs ++ rest) b.text_is ∙ append_assoc b.sent b.rest rest;
-  state = b.state;
-  later = b.later;
-  rose = b.rose;
-}
-
 -- a write failed in the second
 pub broke_rest : (front rest : List ℕ) (w now new : WireState) → now ≡ sent_on front w → BrokeOff rest now new → BrokeOff (front ++ rest) w new
 broke_rest front rest w now new before b = record {

@@ -1,7 +1,7 @@
 -- Packed keys are read back, so that no two have the same bytes.
-use Rattle.std.proofs.Common.{◌≡◌, ℕ, zero, suc, ◌+◌, ◌-◌, ◌*◌, ◌/◌, ◌%◌, ◌<◌, ◌≤◌, Bool, false, ◌||◌, List, [], ◌∷◌, ◌++◌, length, take, drop, map, replicate, refl, sym, ap, ◌∙◌, arith, append_assoc, ◌==◌}
+use Rattle.std.proofs.Common.{◌≡◌, ℕ, zero, suc, ◌+◌, ◌-◌, ◌*◌, ◌/◌, ◌%◌, ◌<◌, ◌≤◌, false, List, [], ◌∷◌, ◌++◌, length, take, drop, replicate, refl, sym, ap, ◌∙◌, arith, append_assoc, ◌==◌}
 use Rattle.std.specs.Bool.{Decides}
-use Rattle.std.specs.List.{flat_map, list_any, AllByRecursion}
+use Rattle.std.specs.List.{flat_map}
 use Rattle.std.specs.Str.{bytes_eq}
 use Rattle.std.specs.Cmp.Lexicographic.{bytes_decides}
 use Rattle.std.proofs.lemmas.List.{take_at, drop_at}
@@ -111,12 +111,6 @@ pub same_key : (key : SampleKey) (string : List ℕ) → key_bytes (key_at strin
 same_key key string packed = same_tests (bytes_eq (key_bytes key) string) (sample_key_eq key (key_at string))
     (λ t. (key_decides key (key_at string)).1 (sym (key_back key) ∙ ap key_at ((bytes_decides (key_bytes key) string).0 t)))
     (λ t. (bytes_decides (key_bytes key) string).1 (ap key_bytes ((key_decides key (key_at string)).0 t) ∙ packed))
-
--- a key was seen just where its bytes were
-pub same_seen : (key : SampleKey) (strings : List (List ℕ)) → AllByRecursion (λ string. key_bytes (key_at string) ≡ string) strings
-    → list_any (bytes_eq (key_bytes key)) strings ≡ list_any (sample_key_eq key) (map key_at strings)
-same_seen key [] h = refl
-same_seen key (s ∷ ss) h = rw (same_key key s h.0) (ap (λ (b : Bool). sample_key_eq key (key_at s) || b) (same_seen key ss h.1))
 
 -- a string that is a set's is the bytes of a set just where it is that set
 pub same_set : (ls : List Label) (string : List ℕ) → labels_bytes (labels_in string) ≡ string → bytes_eq (labels_bytes ls) string ≡ label_sets_eq ls (labels_in string)

@@ -9,6 +9,7 @@ use Rattle.std.proofs.lemmas.List.{map-append}
 use Rattle.std.proofs.lemmas.List.Folds.{list_any-append}
 use Rattle.std.proofs.lemmas.Option.{slice_get-map, same_Some}
 use Rattle.std.proofs.lemmas.Bool.{or_left}
+use Rattle.std.proofs.Math.Bool.{or-false}
 use Rattle.label_sets.specs.declared.series_key.SeriesKey.{SeriesKey}
 use Rattle.label_sets.specs.Keys.{kind_place, kind_eq, key_eq}
 use Rattle.label_sets.specs.Labels.{label_sets_eq}
@@ -56,10 +57,6 @@ one_test a b = same_tests (bytes_eq (series_bytes a) (series_bytes b)) (key_eq a
 
 -- ---- keys that stand once
 
-or_nothing : (b : Bool) → (b || false) ≡ b
-or_nothing true = refl
-or_nothing false = refl
-
 -- what stands in front of a last key that is not among it stands once
 pub front_once : (keys : List SeriesKey) (key : SeriesKey) → IsDistinct key_eq (keys ++ key ∷ []) → IsDistinct key_eq keys × (list_any (key_eq key) keys ≡ false)
 unfolding IsDistinct
@@ -103,7 +100,7 @@ one_key keys key old new (Some at) are known same = record {
 
     nothing_new : (k : SeriesKey) (b : Bool) → key_eq k key ≡ b → list_any (key_eq k) keys ≡ (list_any (key_eq k) keys || (key_eq k key || false))
     nothing_new k true e = let is : k ≡ key = (key_decides k key).0 e in let t : list_any (key_eq k) keys ≡ true = subst (λ (x : SeriesKey). list_any (key_eq x) keys ≡ true) (sym is) stands in rw t refl
-    nothing_new k false e = rw e (sym (or_nothing (list_any (key_eq k) keys)))
+    nothing_new k false e = rw e (sym (or-false (list_any (key_eq k) keys)))
 
 -- ---- where a key stands
 

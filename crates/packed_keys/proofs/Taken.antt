@@ -7,6 +7,7 @@ use Rattle.std.proofs.lemmas.List.Elements.{filter-append}
 use Rattle.std.proofs.lemmas.List.Folds.{list_any-append}
 use Rattle.std.proofs.lemmas.Option.{slice_get_within, get_or_from_slice_get}
 use Rattle.std.proofs.lemmas.Bool.{or_parts}
+use Rattle.std.proofs.Math.Bool.{or-false, or_assoc}
 use Rattle.label_sets.specs.declared.series_key.SeriesKey.{SeriesKey}
 use Rattle.label_sets.specs.Keys.{key_eq}
 use Rattle.label_sets.proofs.Laws.{key_decides, same_tests}
@@ -22,14 +23,6 @@ both_false false e f = f
 or_true : (a : Bool) {b : Bool} → b ≡ true → (a || b) ≡ true
 or_true true e = refl
 or_true false e = e
-
-or_nothing : (a : Bool) → (a || false) ≡ a
-or_nothing true = refl
-or_nothing false = refl
-
-or_grouped : (a b c : Bool) → ((a || b) || c) ≡ (a || (b || c))
-or_grouped true b c = refl
-or_grouped false b c = refl
 
 or_turned : (a b c : Bool) → ((a || b) || c) ≡ ((a || c) || b)
 or_turned true b c = refl
@@ -92,7 +85,7 @@ pub taken_away : (asked keys strays left skipped : List SeriesKey) (key : Series
 taken_away asked keys strays left skipped key p = record {
   taken = p.taken ++ key ∷ [];
   asked_are = λ k. list_any-append (key_eq k) asked (key ∷ []) ∙ (ap (λ (b : Bool). b || is_among (key ∷ []) k) (p.asked_are k)
-      ∙ (or_grouped (is_among strays k) (is_among p.taken k) (is_among (key ∷ []) k) ∙ ap (λ (b : Bool). is_among strays k || b) (sym (list_any-append (key_eq k) p.taken (key ∷ [])))));
+      ∙ (or_assoc (is_among strays k) (is_among p.taken k) (is_among (key ∷ []) k) ∙ ap (λ (b : Bool). is_among strays k || b) (sym (list_any-append (key_eq k) p.taken (key ∷ [])))));
   keys_are = λ k.
       let own : is_among (keys ++ (skipped ++ key ∷ [])) k ≡ (is_among keys k || (is_among skipped k || is_among (key ∷ []) k))
       = list_any-append (key_eq k) keys (skipped ++ key ∷ []) ∙ ap (λ (b : Bool). is_among keys k || b) (list_any-append (key_eq k) skipped (key ∷ [])) in
@@ -139,7 +132,7 @@ same_left : (points : SeriesKey → Bool) (keys left taken strays : List SeriesK
     → filter (λ k. points k && not (is_among keys k)) strays ≡ filter (λ k. points k && not (is_among left k)) strays
 same_left points keys left taken [] are all = refl
 same_left points keys left taken (s ∷ strays) are all =
-    let here : is_among keys s ≡ is_among left s = are s ∙ (ap (λ (b : Bool). is_among left s || b) all.0 ∙ or_nothing (is_among left s)) in
+    let here : is_among keys s ≡ is_among left s = are s ∙ (ap (λ (b : Bool). is_among left s || b) all.0 ∙ or-false (is_among left s)) in
     rw (here, same_left points keys left taken strays are all.1) refl
 
 -- of the keys that are asked for, those that stand nowhere among the others are the strays that are not left

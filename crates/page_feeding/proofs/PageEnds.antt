@@ -112,9 +112,6 @@ module _ (f : Format) (t : Treatment) (limit : ℕ) (fed : List ℕ) (e : PageEn
 -- ---- the last line
 
 module _ (f : Format) (t : Treatment) (limit : ℕ) (fed : List ℕ) (old new : Fed) (a : AtLast f t limit fed old) where
-  last_read : List PageLine
-  last_read = map (line_read f) a.told
-
   snoc_fault : lines_fault (setting_of f t limit) [] 1 (map (line_read f) (a.told ++ old.lines.line ∷ [])) ≡ option_map (λ rule. fault_at (1 + length a.told) rule) (line_fault (setting_of f t limit) (with_lines f (map (line_read f) a.told) []) (line_read f old.lines.line))
   snoc_fault = ap (lines_fault (setting_of f t limit) [] 1) (map-append (line_read f) a.told (old.lines.line ∷ [])) ∙ fault_snoc (setting_of f t limit) [] 1 (map (line_read f) a.told) (line_read f old.lines.line) a.without_fault
       ∙ ap (λ k. option_map (λ rule. fault_at (1 + k) rule) (line_fault (setting_of f t limit) (with_lines f (map (line_read f) a.told) []) (line_read f old.lines.line))) (length-map a.told (line_read f))

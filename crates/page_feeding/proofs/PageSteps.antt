@@ -34,6 +34,7 @@ use Rattle.page_model.specs.Faults.{own_fault, item_fault}
 use Rattle.line_scan.specs.declared.line.LineRead.TheVariants as reads
 use Rattle.line_scan.specs.LineReading.{IsRead, setting_of}
 use Rattle.page_feeding.specs.PageFeeding.{TakesLine, TakesStep, line_result, Fed, Stands, Refuses, LineAnswer, StepAnswer}
+use Rattle.label_sets.proofs.Laws.{option_or-none}
 
 -- ---- one line more
 
@@ -45,10 +46,6 @@ unfolding with_lines
 with_snoc f [] l earlier = refl
 with_snoc f (m ∷ ls) l earlier = with_snoc f ls l (with_line f m earlier)
 
-neither : {A : Type 0} (o p : Option A) → option_or o p ≡ None → (o ≡ None) × (p ≡ None)
-neither None p h = (refl, h)
-neither (Some x) p h = absurd cc
-
 pub fault_snoc : (st : Setting) (earlier : List Item) (n : ℕ) (ls : List PageLine) (l : PageLine) → lines_fault st earlier n ls ≡ None
     → lines_fault st earlier n (ls ++ l ∷ []) ≡ option_map (λ rule. fault_at (n + length ls) rule) (line_fault st (with_lines st.format ls earlier) l)
 unfolding lines_fault with_lines
@@ -58,7 +55,7 @@ fault_snoc st earlier n [] l h = last (line_fault st earlier l)
     last None = refl
     last (Some rule) = ap (λ k. Some (fault_at k rule)) (let e : n ≡ n + 0 = omega arith in e)
 fault_snoc st earlier n (m ∷ ls) l h =
-    let both = neither (option_map (λ rule. (n, rule)) (line_fault st earlier m)) (lines_fault st (with_line st.format m earlier) (n + 1) ls) h in
+    let both = option_or-none (option_map (λ rule. (n, rule)) (line_fault st earlier m)) (lines_fault st (with_line st.format m earlier) (n + 1) ls) h in
     let number : n + 1 + length ls ≡ n + suc (length ls) = omega arith in
     ap (λ o. option_or o (lines_fault st (with_line st.format m earlier) (n + 1) (ls ++ l ∷ []))) both.0
     ∙ fault_snoc st (with_line st.format m earlier) (n + 1) ls l both.1

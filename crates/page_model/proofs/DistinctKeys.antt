@@ -7,6 +7,7 @@ use Rattle.std.specs.Prelude.{option_map, unwrap_or}
 use Rattle.std.proofs.lemmas.List.{append_cancel_right}
 use Rattle.std.proofs.lemmas.Bool.{and_parts, not-true}
 use Rattle.std.proofs.lemmas.Option.{none-some, same_Some}
+use Rattle.std.proofs.Math.Bool.{and-false}
 use Rattle.label_sets.proofs.Laws.{distinct_kept, kind_decides, filter-passes, all-weaker}
 use Rattle.label_sets.specs.declared.kind.Kind.{Kind}
 use Rattle.label_sets.specs.declared.kind.Kind.TheVariants.{Counter, Gauge, Info}
@@ -125,10 +126,6 @@ named st k F unit samples L r e =
     go None e = absurd (none-some r e)
     go (Some v) e = sym (ap (λ (q : Reading). q.key) (same_Some (made v) r e))
 
-and_false : (a : Bool) → (a && false) ≡ false
-and_false true = refl
-and_false false = refl
-
 module _ (st : Setting) (lines : List Owned) where
   -- the readings of a family of the page
   abbrev family_readings : List ℕ → List Reading
@@ -138,7 +135,7 @@ module _ (st : Setting) (lines : List Owned) where
   unfolding readings_of
   one_family_distinct k F unit samples =
       readings_distinct (reading_of st k F unit samples) (λ L. record { name = key_name st.format k F; kind = k; unit = unit; labels = L }) (named st k F unit samples)
-      (λ L M h. rw h (and_false (bytes_eq (key_name st.format k F) (key_name st.format k F) && kind_eq k k && bytes_eq unit unit)))
+      (λ L M h. rw h (and-false (bytes_eq (key_name st.format k F) (key_name st.format k F) && kind_eq k k && bytes_eq unit unit)))
       (first_of_each label_sets_eq (map (reading_labels st k F) samples)) (first_of_each_distinct label_sets_eq (map (reading_labels st k F) samples))
 
   all_named : (k : Kind) (F unit : List ℕ) (samples : List Sample) (Ls : List LabelSet) → AllByRecursion (IsNamed st.format F) (filter_map (reading_of st k F unit samples) Ls)

@@ -106,10 +106,6 @@ module _ (st : Setting) (kind : Kind) (family : List ℕ) (samples : List Sample
   abbrev pub is_complete_group : LabelSet → Bool
   is_complete_group group = some_passes (λ b. list_all (agrees_in group b) samples) (bucket_in group)
 
-  or_false : (a b : Bool) → (a || b) ≡ true → (a ≡ true → ⊥) → b ≡ true
-  or_false true b h f = absurd (f refl)
-  or_false false b h f = h
-
   -- a sample is complete where its group is
   from_group : (s : Sample) → Member s samples → is_complete_group (sample_group st kind family s) ≡ true → is_complete_at st kind family samples s ≡ true
   unfolding is_complete_at infinite_bucket buckets_of_group

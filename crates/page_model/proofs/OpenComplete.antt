@@ -4,17 +4,16 @@ use Rattle.std.specs.Prelude.{◌==◌}
 use Rattle.std.specs.List.{list_all}
 use Rattle.std.proofs.lemmas.List.{append-nil}
 use Rattle.std.proofs.lemmas.Bool.{eqb-true, and_parts}
-use Rattle.std.proofs.lemmas.Option.{same_Some}
 use Rattle.label_sets.specs.declared.kind.Kind.{Kind}
 use Rattle.label_sets.specs.declared.kind.Kind.TheVariants.{Counter}
 use Rattle.label_sets.specs.declared.label.Label.{Label}
 use Rattle.label_sets.specs.Lists.{behind}
-use Rattle.label_sets.specs.Names.{is_metric_name, is_metric_start, is_metric_char, is_label_name, is_label_start, is_label_char}
+use Rattle.label_sets.specs.Names.{is_metric_name, is_metric_start, is_metric_char, is_label_name, is_label_char}
 use Rattle.label_sets.specs.Escapes.{quote_escape, unescaped, is_quotable}
 use Rattle.page_model.proofs.Fronts.{Stops, take_while-append, rest_while-append, quoted-append}
 use Rattle.exact_decimal.specs.Tokens.{is_token_char, is_number_token, is_real}
 use Rattle.exact_decimal.proofs.Laws.{all_mono, real_passes, token_passes}
-use Rattle.page_model.proofs.TokenChars.{metric_chars, label_chars, differs, other_than, no_empty_real}
+use Rattle.page_model.proofs.TokenChars.{metric_chars, label_chars, differs, other_than, no_empty_real, no_brace}
 use Rattle.page_model.specs.Written.{Written, WrittenSample, WrittenExemplar, blank, comment, eof, help, type_line, unit_line, sample}
 use Rattle.page_model.specs.OpenItems.{kind_word, SpellsOpen, SpellsOpenLabel, SpellsMoreLabels, SpellsOpenLabels, SpellsOpenList, SpellsOptionalList, SpellsOpenStamp, SpellsExemplar, SpellsOpenSample}
 use Rattle.page_model.specs.OpenReading.{label_at, more_labels_at, list_at, optional_list_at, value_at, is_not_space, stamp_at, exemplar_of, sample_of, kind_named, named_at, descriptor_of, open_line_of}
@@ -56,14 +55,6 @@ more_again (suc n) text tail (l ∷ ls) few s =
     ap (more_labels_at (suc n)) regrouped ∙ rw (label_again front (rest ++ 125 ∷ tail) l s.2, again) refl
 
 -- ---- label lists
-
-first_differs : (n c : ℕ) (front cs : List ℕ) → eqb n c ≡ false → behind (n ∷ front) (c ∷ cs) ≡ None
-first_differs n c front cs e = rw e refl
-
--- a label begins with no brace
-no_brace : (name rest : List ℕ) → is_label_name name ≡ true → behind (codes "}") (name ++ rest) ≡ None
-no_brace [] rest h = absurd (let e : false ≡ true = h in cc)
-no_brace (c ∷ cs) rest h = first_differs 125 c [] (cs ++ rest) (differs is_label_start 125 c refl (and_parts (is_label_start c) (list_all is_label_char cs) h).0)
 
 no_brace_at_label : (front rest : List ℕ) (l : Label) → SpellsOpenLabel front l → behind (codes "}") (front ++ rest) ≡ None
 no_brace_at_label front rest l s =
@@ -224,7 +215,3 @@ open_line_complete line (unit_line name unit) p = ap open_line_of (descriptor_re
 open_line_complete line eof p = rw p refl
 open_line_complete line blank p = absurd p
 open_line_complete line comment p = absurd p
-
--- a line spells one item at most
-pub open_line_once : (line : List ℕ) (v w : Written) → SpellsOpen line v → SpellsOpen line w → v ≡ w
-open_line_once line v w p q = same_Some v w (sym (open_line_complete line v p) ∙ open_line_complete line w q)

@@ -68,10 +68,6 @@ keys_left (r ∷ rs) [] h = keys_left rs [] h
 keys_left (r ∷ rs) (s ∷ ss) (inl h) = inl (h.0.key, keys_left rs ss h.1)
 keys_left (r ∷ rs) (s ∷ ss) (inr h) = inr (keys_left rs (s ∷ ss) h)
 
-none_left : (ks : List SeriesKey) → AreLeft ks []
-none_left [] = tt
-none_left (k ∷ ks) = none_left ks
-
 -- what is left of two lists in a row
 left_append : (js ks ls ms : List SeriesKey) → AreLeft js ls → AreLeft ks ms → AreLeft (js ++ ks) (ls ++ ms)
 left_append [] ks [] ms g h = h

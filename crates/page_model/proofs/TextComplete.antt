@@ -17,7 +17,7 @@ use Rattle.label_sets.specs.Escapes.{help_escape, quote_escape, unescaped, is_qu
 use Rattle.page_model.proofs.Fronts.{Stops, rest_stops, take_while-append, rest_while-append, quoted-append}
 use Rattle.exact_decimal.specs.Tokens.{is_token_char, is_number_token}
 use Rattle.exact_decimal.proofs.Laws.{all_mono, token_passes}
-use Rattle.page_model.proofs.TokenChars.{metric_chars, label_chars, differs, integer_passes, no_empty_token}
+use Rattle.page_model.proofs.TokenChars.{metric_chars, label_chars, differs, integer_passes, no_empty_token, no_brace, first_differs}
 use Rattle.page_model.specs.Written.{Written, WrittenSample, WrittenExemplar, blank, comment, eof, help, type_line, unit_line, sample}
 use Rattle.page_model.specs.TextItems.{is_integer_token, without_leading_blanks, trimmed, AreBlanks, IsGap, is_not_blank, word_behind_mark, SpellsHelpText, text_kind_word, SpellsLabel, SpellsLabels, SpellsMiddle, SpellsStamp, SpellsSample, SpellsTrimmed, SpellsText}
 use Rattle.page_model.specs.TextReading.{begins_blank, at_blank, label_at, labels_at, middle_from, middle_at, stamp_of, sample_of, kind_named, named_at, marked_of, trimmed_of, text_line_of}
@@ -81,13 +81,6 @@ integer_starts [] h = tt
 integer_starts (c ∷ cs) h = not_blank is_token_char refl refl c (and_parts (is_token_char c) (list_all is_token_char cs) (integer_passes (c ∷ cs) h)).0
 
 -- ---- labels
-
-first_differs : (n c : ℕ) (front cs : List ℕ) → eqb n c ≡ false → behind (n ∷ front) (c ∷ cs) ≡ None
-first_differs n c front cs e = rw e refl
-
-no_brace : (name rest : List ℕ) → is_label_name name ≡ true → behind (codes "}") (name ++ rest) ≡ None
-no_brace [] rest h = absurd (let e : false ≡ true = h in cc)
-no_brace (c ∷ cs) rest h = first_differs 125 c [] (cs ++ rest) (differs is_label_start 125 c refl (and_parts (is_label_start c) (list_all is_label_char cs) h).0)
 
 -- a label from its name on, in front of what follows it
 abbrev from_name : (front rest : List ℕ) (l : Label) → SpellsLabel front l → List ℕ
@@ -340,7 +333,3 @@ trimmed_complete line eof p = absurd p
 pub text_line_complete : (line : List ℕ) (w : Written) → SpellsText line w → text_line_of line ≡ Some w
 unfolding trimmed text_line_of
 text_line_complete line w p = trimmed_complete (trimmed line) w p
-
--- a line spells one item at most
-pub text_line_once : (line : List ℕ) (v w : Written) → SpellsText line v → SpellsText line w → v ≡ w
-text_line_once line v w p q = same_Some v w (sym (text_line_complete line v p) ∙ text_line_complete line w q)

@@ -1,5 +1,5 @@
 -- The characters of names; a number token and a timestamp have no blank in them, and neither is empty.
-use Rattle.std.proofs.Common.{◌≡◌, ℕ, Bool, true, false, not, ◌&&◌, List, [], ◌∷◌, refl, sym, subst, ◌∙◌, eqb}
+use Rattle.std.proofs.Common.{◌≡◌, ℕ, Bool, true, false, not, ◌&&◌, List, [], ◌∷◌, refl, sym, subst, ◌∙◌, eqb, None, codes, ◌++◌}
 use Rattle.std.specs.List.{list_all}
 use Rattle.std.specs.Char.{is_ascii_digit}
 use Rattle.std.specs.Str.{bytes_eq}
@@ -8,6 +8,7 @@ use Rattle.label_sets.specs.Names.{is_metric_name, is_metric_start, is_metric_ch
 use Rattle.exact_decimal.specs.Tokens.{is_sign, unsigned, mantissa, whole_part, fraction_part, is_digits, is_real, is_infinity, is_nan_token, is_number_token, is_token_char}
 use Rattle.exact_decimal.proofs.Laws.{all_mono, from_digit, from_sign}
 use Rattle.page_model.specs.TextItems.{is_integer_token}
+use Rattle.label_sets.specs.Lists.{behind}
 
 -- the characters of a metric name
 pub metric_chars : (name : List ℕ) → is_metric_name name ≡ true → list_all is_metric_char name ≡ true
@@ -39,6 +40,15 @@ differs p n c without with_it = go (eqb n c) refl
     go : (b : Bool) → eqb n c ≡ b → eqb n c ≡ false
     go false e = e
     go true e = absurd (let same : n ≡ c = eqb-true n c e in let h : p n ≡ true = subst (λ x. p x ≡ true) (sym same) with_it in let k : true ≡ false = sym h ∙ without in cc)
+
+-- what begins with another byte
+pub first_differs : (n c : ℕ) (front cs : List ℕ) → eqb n c ≡ false → behind (n ∷ front) (c ∷ cs) ≡ None
+first_differs n c front cs e = rw e refl
+
+-- a label begins with no brace
+pub no_brace : (name rest : List ℕ) → is_label_name name ≡ true → behind (codes "}") (name ++ rest) ≡ None
+no_brace [] rest h = absurd (let e : false ≡ true = h in cc)
+no_brace (c ∷ cs) rest h = first_differs 125 c [] (cs ++ rest) (differs is_label_start 125 c refl (and_parts (is_label_start c) (list_all is_label_char cs) h).0)
 
 -- no element is one at which a test fails that each element passes
 pub other_than : (p : ℕ → Bool) (n : ℕ) → p n ≡ false → (c : ℕ) → p c ≡ true → not (eqb c n) ≡ true

@@ -1,17 +1,14 @@
 -- Bytes taken behind others, and bytes written behind others.
-use Rattle.std.proofs.Common.{◌≡◌, ℕ, ◌+◌, ◌-◌, ◌≤◌, List, [], ◌++◌, length, take, drop, Ok, Err, refl, sym, ap, ◌∙◌, subst, arith, append_assoc, append-nil}
+use Rattle.std.proofs.Common.{◌≡◌, ℕ, ◌+◌, ◌-◌, ◌≤◌, List, [], ◌++◌, length, take, drop, Ok, Err, sym, ap, ◌∙◌, subst, arith, append-nil}
 use Rattle.std.specs.Io.KnownBytes.{Consumes, Appends}
 use Rattle.std.proofs.lemmas.List.{length-take, length-drop, take-append-drop, take_all}
 use borrow.Rule.Slice.PartMut.{put_mid}
-use Rattle.bridge_ports.proofs.Laws.{appends_none, appends_keeps, appends_twice, consumes_none, consumes_twice, consumes_keeps}
+use Rattle.bridge_ports.proofs.Laws.{appends_keeps, appends_twice, consumes_twice}
 use Rattle.http_talk.proofs.Laws.{take_past, got_front}
 use Rattle.bridge_ports.specs.Causes.{Rose}
 use Rattle.page_server.specs.Connections.{ConnSeen, IsHeard, IsSaid, WereTaken, WereWritten, WereCutOff}
 
 -- ---- reading
-
-pub none_taken : (w : ConnSeen) → WereTaken w w []
-none_taken w = record { left = consumes_none w.left; reads = refl; held = refl; writes = refl }
 
 -- a read behind others
 pub more_taken : {E : Type 0} (buffer into after : List ℕ) (filled room count : ℕ) (old mid new : ConnSeen) → filled ≤ length buffer → count ≤ length into → after ≡ take (filled + count) (put_mid filled room buffer into)
@@ -32,46 +29,7 @@ end_taken into got old mid new before heard = record {
   writes = heard.writes ∙ before.writes;
 }
 
--- a read that failed
-pub left_kept : {E : Type 0} (fault : E) (into got : List ℕ) (old mid new : ConnSeen) → WereTaken old mid got → IsHeard mid new (Err fault) into → Consumes old.left new.left got
-left_kept fault into got old mid new before heard = consumes_keeps old.left mid.left new.left got before.left heard.bytes
-
 -- ---- writing
-
-pub none_written : (w : ConnSeen) → WereWritten w w []
-none_written w = record { held = appends_none w.held; writes = refl; left = refl; reads = refl }
-
-pub both_written : (old mid new : ConnSeen) (xs ys : List ℕ) → WereWritten old mid xs → WereWritten mid new ys → WereWritten old new (xs ++ ys)
-both_written old mid new xs ys a b = record {
-  held = appends_twice old.held mid.held new.held xs ys a.held b.held;
-  writes = b.writes ∙ a.writes;
-  left = b.left ∙ a.left;
-  reads = b.reads ∙ a.reads;
-}
-
--- the bytes behind those that were written were cut off
-pub second_cut_off : (old mid new : ConnSeen) (xs ys : List ℕ) → WereWritten old mid xs → WereCutOff mid new ys → WereCutOff old new (xs ++ ys)
-second_cut_off old mid new xs ys a b = record {
-  front = xs ++ b.front;
-  rest = b.rest;
-  bytes_are = ap (λ zs. xs ++ zs) b.bytes_are ∙ sym (append_assoc xs b.front b.rest);
-  held = appends_twice old.held mid.held new.held xs b.front a.held b.held;
-  rose = subst (λ n. Rose n new.write_faults) a.writes b.rose;
-  left = b.left ∙ a.left;
-  reads = b.reads ∙ a.reads;
-}
-
--- the first bytes were cut off, and those behind them were not begun
-pub first_cut_off : (old new : ConnSeen) (xs ys : List ℕ) → WereCutOff old new xs → WereCutOff old new (xs ++ ys)
-first_cut_off old new xs ys a = record {
-  front = a.front;
-  rest = a.rest ++ ys;
-  bytes_are = ap (λ zs. zs ++ ys) a.bytes_are ∙ append_assoc a.front a.rest ys;
-  held = a.held;
-  rose = a.rose;
-  left = a.left;
-  reads = a.reads;
-}
 
 -- the bytes from a place on
 rest_from : (text : List ℕ) (at count : ℕ) → at ≤ length text → count ≤ length (take (length text - at) (drop at text)) → take at text ++ take count (take (length text - at) (drop at text)) ≡ take (at + count) text

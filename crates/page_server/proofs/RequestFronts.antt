@@ -2,13 +2,13 @@
 use Rattle.std.proofs.Common.{◌≡◌, ℕ, ◌-◌, ◌≤◌, List, [], ◌∷◌, ◌++◌, length, take, drop, refl, sym, ap, ◌∙◌, subst, arith, inl, inr, append_assoc, append-nil}
 use Rattle.std.specs.Prelude.{◌⊎◌, zero, suc}
 use Rattle.std.proofs.lemmas.List.{length-append, length-map, length-take, take-append-drop}
-use Rattle.httparse.specs.Grammar.{RequestHead, ReadsRequest, print_request, HasNoRequest, MayBecomeRequest}
+use Rattle.httparse.specs.Grammar.{RequestHead, ReadsRequest, print_request, HasNoRequest}
 use Rattle.httparse.specs.Spans.{RequestOverflows, IsRequestAt, header_bytes, name_and_value}
 use Rattle.httparse.specs.declared.spans.HeaderSpan.{HeaderSpan}
 use Rattle.httparse.specs.declared.spans.RequestSpans.{RequestSpans}
 use Rattle.httparse.proofs.GrammarLemmas.{ReadsRequest-append}
 use Rattle.http_talk.proofs.Laws.{take_past}
-use Rattle.page_server.specs.RequestHeads.{waiting, refused, asked, HasNoneTaken, RequestIs}
+use Rattle.page_server.specs.RequestHeads.{refused, asked, HasNoneTaken, RequestIs}
 
 -- a head at the front that is short enough is a head of the front bytes
 pub request_in_front : (n : ℕ) (got : List ℕ) (h : RequestHead) (rest : List ℕ) → ReadsRequest got h rest
@@ -62,10 +62,6 @@ refused_by_error got over = (none_in_front 16384 got (none_of_overflow got over)
 -- as many bytes as a head may have, without one, say so too
 pub refused_when_full : (got : List ℕ) → length got ≡ 16384 → HasNoRequest got → RequestIs got refused
 refused_when_full got long none = (none_in_front 16384 got (λ h rest reads. absurd (none h rest reads)), inl (omega (arith, long)))
-
--- fewer, while the parser waits, say that a head is waited for
-pub waits_when_short : (got : List ℕ) → length got ≤ 16384 → (length got ≡ 16384 → ⊥) → HasNoRequest got → MayBecomeRequest got → RequestIs got waiting
-waits_when_short got within few none may = (omega (arith, within, few), none, may)
 
 -- the spans of a head in a table of 64 say that it is taken
 pub asked_at : (got : List ℕ) (spans : List HeaderSpan) (r : RequestSpans) (h : RequestHead) → length got ≤ 16384 → length spans ≡ 64

@@ -1,5 +1,5 @@
 -- One connection, step by step: its request, its reply, and what came of it.
-use Rattle.std.proofs.Common.{◌≡◌, ℕ, ◌≤◌, ◌<◌, true, false, List, ◌++◌, length, drop, Some, Ok, Err, refl, sym, ap, ◌∙◌, subst}
+use Rattle.std.proofs.Common.{◌≡◌, ℕ, ◌≤◌, ◌<◌, true, false, List, ◌++◌, length, drop, Some, Ok, refl, sym, ap, ◌∙◌, subst}
 use Rattle.std.specs.Io.KnownBytes.{Consumes, Appends, IsAtEnd}
 use Rattle.httparse.specs.Grammar.{RequestHead, HasNoRequest}
 use Rattle.httparse.specs.Spans.{RequestOverflows, IsRequestAt, IsRequestOf, span_bytes}
@@ -8,10 +8,10 @@ use Rattle.httparse.specs.declared.spans.RequestSpans.{RequestSpans}
 use Rattle.bridge_ports.specs.Causes.{Rose}
 use Rattle.page_server.specs.declared.status.ReplyStatus.{ReplyStatus}
 use Rattle.page_server.specs.declared.status.ReplyStatus.TheVariants as statuses
-use Rattle.page_server.specs.Connections.{ConnSeen, IsHeard, WereTaken, WereWritten, WereCutOff}
+use Rattle.page_server.specs.Connections.{ConnSeen, IsHeard, WereTaken, WereCutOff}
 use Rattle.page_server.specs.RequestHeads.{waiting, refused, asked, RequestIs}
-use Rattle.page_server.specs.Serving.{status_of_request, HasStatus, IsAsked, IsReplyWith, IsAnsweredWith, IsWhollyServed, IsPartlyServed, IsUnheard}
-use Rattle.page_server.proofs.ConnSteps.{end_taken, left_kept}
+use Rattle.page_server.specs.Serving.{status_of_request, HasStatus, IsAsked, IsReplyWith, IsAnsweredWith, IsPartlyServed}
+use Rattle.page_server.proofs.ConnSteps.{end_taken}
 use Rattle.page_server.proofs.RequestFronts.{asked_at, refused_when_full, refused_by_error}
 use Rattle.page_server.proofs.StatusLaws.{bad_at_end}
 
@@ -53,15 +53,6 @@ answered_with may_show old mid new status head page asks reply left reads = reco
   reads = reads ∙ asks.taken_so.reads;
 }
 
-pub wholly_served : (may_show : List ℕ → Type 0) (old mid new : ConnSeen) (status : ReplyStatus) (head page : List ℕ) → IsAsked old mid status → IsReplyWith may_show status head page
-    → WereWritten mid new (head ++ page) → IsWhollyServed may_show old new status
-wholly_served may_show old mid new status head page asks reply wrote = record {
-  reply = head ++ page;
-  answered = answered_with may_show old mid new status head page asks reply wrote.left wrote.reads;
-  held = subst (λ o. Appends o new.held (head ++ page)) asks.taken_so.held wrote.held;
-  writes = wrote.writes ∙ asks.taken_so.writes;
-}
-
 pub partly_served : (may_show : List ℕ → Type 0) (old mid new : ConnSeen) (status : ReplyStatus) (head page : List ℕ) → IsAsked old mid status → IsReplyWith may_show status head page
     → WereCutOff mid new (head ++ page) → IsPartlyServed may_show old new
 partly_served may_show old mid new status head page asks reply cut = record {
@@ -81,10 +72,6 @@ partly_told may_show old mid new status head page first second asks reply one tw
 
 -- ---- the request
 
--- the bytes that were taken decide the status
-pub asked_by_bytes : (old now : ConnSeen) (got : List ℕ) (status : ReplyStatus) → WereTaken old now got → HasStatus got false status → IsAsked old now status
-asked_by_bytes old now got status taken is = record { taken = got; ended = false; taken_so = taken; at_end = λ over. cc over; status_is = is }
-
 -- the end came while a head was waited for
 pub asked_by_end : {E : Type 0} (into got : List ℕ) (count : ℕ) (old mid new : ConnSeen) → count ≡ 0 → WereTaken old mid got → RequestIs got waiting → 0 < length into
     → IsHeard {E = E} mid new (Ok count) into → IsAsked old new statuses.BadRequest
@@ -97,14 +84,3 @@ asked_by_end {E} into got count old mid new is taken waits some heard =
       at_end = λ over. none.bytes.1 refl some;
       status_is = bad_at_end got waits;
     }
-
--- a read failed while a head was waited for
-pub unread_at : {E : Type 0} (fault : E) (into got : List ℕ) (old mid new : ConnSeen) → WereTaken old mid got → RequestIs got waiting → IsHeard mid new (Err fault) into → IsUnheard old new
-unread_at fault into got old mid new taken waits heard = record {
-  taken = got;
-  left = left_kept fault into got old mid new taken heard;
-  undecided = waits;
-  rose = subst (λ n. Rose n new.read_faults) taken.reads heard.cause.failed;
-  held = heard.held ∙ taken.held;
-  writes = heard.writes ∙ taken.writes;
-}

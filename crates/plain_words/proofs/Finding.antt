@@ -12,6 +12,7 @@ use Rattle.std.proofs.lemmas.Str.{IsUtf8-from_ascii}
 use Rattle.std.proofs.lemmas.List.{take_rest}
 use Rattle.std.proofs.lemmas.List.Sums.{suffix_len_is, position_or_len_is}
 use Rattle.std.proofs.lemmas.Slice.Eq.{bytes_eq-Decides}
+use Rattle.std.proofs.Math.Bool.{or-true}
 use Rattle.memchr.specs.Find.{NoneBefore, NoneAfter, Nowhere, Passes, is_byte}
 use Rattle.label_sets.specs.Lists.{◌>>=◌, when_true}
 use Rattle.plain_words.specs.WholeNumbers.{number_in}
@@ -53,11 +54,7 @@ number_only most word None small found none = go (number_in most word) refl
 pub any_at : (p : ℕ → Bool) (xs : List ℕ) (k : ℕ) → k < length xs → p (get_or xs k 0) ≡ true → list_any p xs ≡ true
 any_at p [] k inside e = absurd (omega arith)
 any_at p (x ∷ xs) zero inside e = ap (λ b. b || list_any p xs) e
-any_at p (x ∷ xs) (suc k) inside e = ap (λ b. p x || b) (any_at p xs k (omega (arith, inside)) e) ∙ or_true (p x)
-  where
-    or_true : (b : Bool) → (b || true) ≡ true
-    or_true true = refl
-    or_true false = refl
+any_at p (x ∷ xs) (suc k) inside e = ap (λ b. p x || b) (any_at p xs k (omega (arith, inside)) e) ∙ or-true (p x)
 
 -- where no element passes, none of the list does
 pub any_none : (p : ℕ → Bool) (xs : List ℕ) → ((k : ℕ) → k < length xs → p (get_or xs k 0) ≡ false) → list_any p xs ≡ false
@@ -120,10 +117,6 @@ unfolding place_in
 no_place most word none =
     let no : list_any is_colon word ≡ false = any_none is_colon word (λ k inside. fails _ (none k (omega arith) inside)) in
     rw no refl
-
-pub and_false : (b : Bool) → (b && false) ≡ false
-and_false true = refl
-and_false false = refl
 
 -- what is read as a place is one
 pub place_is : {A : Type 0} (host : A → List ℕ) (port : A → ℕ) (most : ℕ) (word : List ℕ) (r : Option A) → option_map (λ p. (host p, port p)) r ≡ place_in most word → IfSome r (λ p. IsHostAndPort most word (host p) (port p))

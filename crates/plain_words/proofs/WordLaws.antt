@@ -5,17 +5,18 @@ use Rattle.std.specs.Int.{is_in_range}
 use Rattle.std.specs.Str.{IsAscii}
 use Rattle.std.specs.List.{list_all, list_any, before_last, after_last, suffix_len}
 use Rattle.std.specs.Str.Parse.{digits_value}
-use Rattle.std.proofs.lemmas.Bool.{eqb-true, eq-eqb, ne_eqb, and_parts, leb-true, le-leb, true≢false}
+use Rattle.std.proofs.lemmas.Bool.{eqb-true, eq-eqb, ne_eqb, and_parts, leb-true, le-leb, true≢false, or_parts}
 use Rattle.std.proofs.lemmas.Fmt.{decimal_is_IsNumeral}
 use Rattle.std.proofs.lemmas.Str.Parse.{digit_at}
 use Rattle.std.proofs.lemmas.List.{get_or-append-add, get_or_at, take_at, drop_at, drop-drop}
 use Rattle.std.proofs.lemmas.List.Sums.{suffix_len_is}
 use Rattle.std.proofs.lemmas.List.Folds.{list_any-append}
 use Rattle.std.proofs.lemmas.Slice.Eq.{bytes_eq-Decides}
+use Rattle.std.proofs.Math.Bool.{or-true}
 use Rattle.label_sets.specs.Lists.{◌>>=◌, when_true}
 use Rattle.plain_words.specs.WholeNumbers.{number_in}
 use Rattle.plain_words.specs.Places.{is_visible, is_visible_word, is_port, most_port, is_colon, place_in}
-use Rattle.plain_words.proofs.Steps.{bind_some, when_some, or_true, or_parts, or_first}
+use Rattle.plain_words.proofs.Steps.{bind_some, when_some, or_first}
 
 -- the number of a printed number
 pub number_found : (most n : ℕ) → n ≤ most → n < 2 ^ 64 → number_in most (decimal n) ≡ Some n
@@ -80,7 +81,7 @@ host_before host rest none =
 
 -- a place has a colon
 has_colon : (host rest : List ℕ) → list_any is_colon (host ++ 58 ∷ rest) ≡ true
-has_colon host rest = list_any-append is_colon host (58 ∷ rest) ∙ or_true (list_any is_colon host)
+has_colon host rest = list_any-append is_colon host (58 ∷ rest) ∙ or-true (list_any is_colon host)
 
 -- a text without a colon
 no_colon : (cs : List ℕ) → list_any is_colon cs ≡ false → HasNoColon cs

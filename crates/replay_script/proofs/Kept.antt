@@ -4,7 +4,8 @@ use Rattle.std.proofs.lemmas.Bool.{and_from, eq-eqb, ne_eqb, lt-ltb, le-ltb, tru
 use Rattle.std.proofs.lemmas.List.{length-reverse}
 use Rattle.std.proofs.lemmas.List.Sorted.{IsPermutation-reverse, list_any-IsPermutation}
 use Rattle.std.proofs.lemmas.Option.{none-some}
-use Rattle.plain_words.proofs.Laws.{and_false, in_range}
+use Rattle.std.proofs.Math.Bool.{and-false}
+use Rattle.plain_words.proofs.Laws.{in_range}
 use Rattle.bridge_ports.specs.Targets.{Scraped}
 use Rattle.replay_script.specs.declared.header.Header.{Header}
 use Rattle.replay_script.specs.declared.header.HeaderLine.{HeaderLine}
@@ -100,7 +101,7 @@ not_next line n old new less = refused (header line n) old new (λ earlier o k.
 
 pub not_in_row : (line : HeaderLine) (n : ℕ) (old new : Progress) → is_in_row (header_row line) n ≡ false → TakesPart (header line n) old new false
 unfolding may_stand_behind
-not_in_row line n old new fails = refused (header line n) old new (λ earlier o k. ap (λ b. is_next_line line earlier && b) fails ∙ and_false (is_next_line line earlier))
+not_in_row line n old new fails = refused (header line n) old new (λ earlier o k. ap (λ b. is_next_line line earlier && b) fails ∙ and-false (is_next_line line earlier))
 
 -- the header with the number of a line more
 header_more : (line : HeaderLine) (n : ℕ) (earlier : List Part) → with_header_number line n (header_of earlier) ≡ header_of (header line n ∷ earlier)
@@ -160,16 +161,16 @@ false_and : (a b c d e : Bool) → a ≡ false → (a && b && c && d && e) ≡ f
 false_and a b c d e fails = ap (λ x. x && b && c && d && e) fails
 
 second_false : (a b c d e : Bool) → b ≡ false → (a && b && c && d && e) ≡ false
-second_false a b c d e fails = ap (λ x. a && x && c && d && e) fails ∙ ap (λ x. x && c && d && e) (and_false a)
+second_false a b c d e fails = ap (λ x. a && x && c && d && e) fails ∙ ap (λ x. x && c && d && e) (and-false a)
 
 third_false : (a b c d e : Bool) → c ≡ false → (a && b && c && d && e) ≡ false
-third_false a b c d e fails = ap (λ x. a && b && x && d && e) fails ∙ ap (λ x. x && d && e) (and_false (a && b))
+third_false a b c d e fails = ap (λ x. a && b && x && d && e) fails ∙ ap (λ x. x && d && e) (and-false (a && b))
 
 fourth_false : (a b c d e : Bool) → d ≡ false → (a && b && c && d && e) ≡ false
-fourth_false a b c d e fails = ap (λ x. a && b && c && x && e) fails ∙ ap (λ x. x && e) (and_false (a && b && c))
+fourth_false a b c d e fails = ap (λ x. a && b && c && x && e) fails ∙ ap (λ x. x && e) (and-false (a && b && c))
 
 fifth_false : (a b c d e : Bool) → e ≡ false → (a && b && c && d && e) ≡ false
-fifth_false a b c d e fails = ap (λ x. a && b && c && d && x) fails ∙ and_false (a && b && c && d)
+fifth_false a b c d e fails = ap (λ x. a && b && c && d && x) fails ∙ and-false (a && b && c && d)
 
 all_five : (a b c d e : Bool) → a ≡ true → b ≡ true → c ≡ true → d ≡ true → e ≡ true → (a && b && c && d && e) ≡ true
 all_five a b c d e v w x y z = and_from (a && b && c && d) e (and_from (a && b && c) d (and_from (a && b) c (and_from a b v w) x) y) z

@@ -2,8 +2,8 @@
 use Rattle.std.proofs.Common.{◌≡◌, ◌≢◌, ℕ, ◌-◌, ◌*◌, ◌^◌, ◌<◌, Bool, true, false, ◌&&◌, List, [], ◌∷◌, ◌++◌, length, Option, Some, None, is_some, reverse, refl, sym, ap, ◌∙◌, arith, nat_lt}
 use Rattle.std.proofs.lemmas.Bool.{and_from, lt-ltb, le-ltb, true≢false}
 use Rattle.std.proofs.lemmas.List.{reverse-reverse}
+use Rattle.std.proofs.Math.Bool.{and-false}
 use Rattle.page_model.specs.declared.format.Format.{Format}
-use Rattle.plain_words.proofs.Laws.{and_false}
 use Rattle.bridge_ports.specs.Targets.{Scraped}
 use Rattle.bridge_ports.specs.declared.talk.MemoryReply.{MemoryReply}
 use Rattle.replay_script.specs.declared.ending.Ending.{Ending}
@@ -24,10 +24,10 @@ first_fails : (a b c : Bool) → a ≡ false → (a && b && c) ≡ false
 first_fails a b c fails = ap (λ x. x && b && c) fails
 
 second_fails : (a b c : Bool) → b ≡ false → (a && b && c) ≡ false
-second_fails a b c fails = ap (λ x. a && x && c) fails ∙ ap (λ x. x && c) (and_false a)
+second_fails a b c fails = ap (λ x. a && x && c) fails ∙ ap (λ x. x && c) (and-false a)
 
 third_fails : (a b c : Bool) → c ≡ false → (a && b && c) ≡ false
-third_fails a b c fails = ap (λ x. a && b && x) fails ∙ and_false (a && b)
+third_fails a b c fails = ap (λ x. a && b && x) fails ∙ and-false (a && b)
 
 all_pass : (a b c : Bool) → a ≡ true → b ≡ true → c ≡ true → (a && b && c) ≡ true
 all_pass a b c x y z = and_from (a && b) c (and_from a b x y) z
@@ -43,7 +43,7 @@ has_read : (earlier : List Part) (p : Progress) → Knows earlier p → has_targ
 has_read earlier p k = ap has_target k.targets ∙ read_has p.target p.scrapes.items p.posts.items p.finished.items k.none_finished
 
 long_bytes : (at : ℕ) (bytes : List ℕ) → 2 ^ 32 - 1 < length bytes → is_record at bytes ≡ false
-long_bytes at bytes long = ap (λ b. nat_lt at (2 ^ 64) && b) (le-ltb (length bytes) (2 ^ 32) (omega arith)) ∙ and_false (nat_lt at (2 ^ 64))
+long_bytes at bytes long = ap (λ b. nat_lt at (2 ^ 64) && b) (le-ltb (length bytes) (2 ^ 32) (omega arith)) ∙ and-false (nat_lt at (2 ^ 64))
 
 short_bytes : (at : ℕ) (bytes : List ℕ) → at < 2 ^ 64 → length bytes < 2 ^ 32 → is_record at bytes ≡ true
 short_bytes at bytes early short = and_from (nat_lt at (2 ^ 64)) (nat_lt (length bytes) (2 ^ 32)) (lt-ltb at (2 ^ 64) early) (lt-ltb (length bytes) (2 ^ 32) short)
@@ -120,7 +120,7 @@ no_target_above at format body old new none = refused (page at format body) old 
 pub long_page : (at : ℕ) (format : Format) (body : List ℕ) (old new : Progress) → 2 ^ 32 - 1 < length body → TakesPart (page at format body) old new false
 unfolding may_stand_behind
 long_page at format body old new long = refused (page at format body) old new (λ earlier o k.
-    ap (λ b. has_target (targets_of earlier) && b) (long_bytes at body long) ∙ and_false (has_target (targets_of earlier)))
+    ap (λ b. has_target (targets_of earlier) && b) (long_bytes at body long) ∙ and-false (has_target (targets_of earlier)))
 
 page_header : (at : ℕ) (format : Format) (body : List ℕ) (earlier : List Part) → header_of (page at format body ∷ earlier) ≡ header_of earlier
 unfolding header_of
@@ -179,7 +179,7 @@ post_without at ending bytes old new none = refused (post at ending bytes) old n
 pub posts_full : (at : ℕ) (ending : Ending) (bytes : List ℕ) (old new : Progress) → nat_lt (length old.posts.items) (old.header.rounds * old.header.tries) ≡ false → TakesPart (post at ending bytes) old new false
 unfolding may_stand_behind
 posts_full at ending bytes old new full = refused (post at ending bytes) old new (λ earlier o k.
-    first_fails _ (is_record at bytes) (fits_ending ending bytes) (room_known earlier old (is_some old.target) false k refl full ∙ and_false (is_some old.target)))
+    first_fails _ (is_record at bytes) (fits_ending ending bytes) (room_known earlier old (is_some old.target) false k refl full ∙ and-false (is_some old.target)))
 
 pub post_long : (at : ℕ) (ending : Ending) (bytes : List ℕ) (old new : Progress) → 2 ^ 32 - 1 < length bytes → TakesPart (post at ending bytes) old new false
 unfolding may_stand_behind
@@ -210,7 +210,7 @@ no_target_read parts p k none = ap (λ b. b && is_last_whole (header_number part
 
 pub scrapes_left : (parts : List Part) (p : Progress) → Knows parts p → has_whole_target p ≡ false → may_end parts ≡ false
 unfolding may_end
-scrapes_left parts p k fails = ap (λ b. has_target (targets_of parts) && b) (last_known parts p k ∙ fails) ∙ and_false (has_target (targets_of parts))
+scrapes_left parts p k fails = ap (λ b. has_target (targets_of parts) && b) (last_known parts p k ∙ fails) ∙ and-false (has_target (targets_of parts))
 
 -- a script ends where the last target is whole
 ends_whole : (parts : List Part) (p : Progress) → Knows parts p → is_some p.target ≡ true → has_whole_target p ≡ true → may_end parts ≡ true

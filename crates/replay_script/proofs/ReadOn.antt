@@ -1,21 +1,16 @@
 -- Parts that were read, one part more, and where no part follows.
-use Rattle.std.proofs.Common.{◌≡◌, ◌≢◌, ℕ, ◌+◌, ◌-◌, ◌<◌, ◌≤◌, Bool, true, false, ◌==◌, List, [], ◌∷◌, ◌++◌, length, take, Some, None, refl, sym, ap, ◌∙◌, arith, append_assoc, append-nil, length-append}
+use Rattle.std.proofs.Common.{◌≡◌, ◌≢◌, ℕ, ◌+◌, ◌-◌, ◌<◌, ◌≤◌, Bool, true, false, ◌==◌, List, [], ◌∷◌, ◌++◌, length, take, Some, None, refl, sym, ap, ◌∙◌, arith, append_assoc, length-append}
 use Rattle.std.proofs.lemmas.Bool.{true≢false, eqb-true}
-use Rattle.std.proofs.lemmas.List.{take_at}
+use Rattle.std.proofs.lemmas.List.{take_at, nil_from_length}
 use Rattle.plain_words.specs.HeadLines.{line_feeds}
-use Rattle.replay_script.specs.declared.script.Script.{Script}
 use Rattle.replay_script.specs.declared.progress.Progress.{Progress}
 use Rattle.replay_script.specs.ScriptParts.{Part, part_text, parts_text}
 use Rattle.replay_script.specs.ScriptRules.{may_stand_behind, may_end}
-use Rattle.replay_script.specs.Scripts.{IsScript, IsStuck, HasScriptFault}
+use Rattle.replay_script.specs.Scripts.{IsStuck, HasScriptFault}
 use Rattle.replay_script.specs.ScriptReading.{front_part, next_part, is_empty}
-use Rattle.replay_script.specs.Progresses.{Knows, TakesPart, Ends, WasReadTo}
+use Rattle.replay_script.specs.Progresses.{TakesPart, WasReadTo}
 use Rattle.replay_script.proofs.Spelled.{part_spelled}
 use Rattle.replay_script.proofs.Verdicts.{nothing_next, not_empty, part_length}
-
--- nothing was read yet
-pub read_nothing : (bytes : List ℕ) (p : Progress) → Knows [] p → WasReadTo bytes bytes p
-read_nothing bytes p knows = record { parts = []; text = refl; in_order = tt; knows = knows }
 
 -- the text of the parts is what stands before the rest
 front_text : (bytes front rest : List ℕ) → bytes ≡ front ++ rest → take (length bytes - length rest) bytes ≡ front
@@ -66,21 +61,6 @@ read_more bytes rest more old new p was is takes =
       omega (arith, ap (length {A = ℕ}) spelled, length-append (part_text p) more, part_length p),
     )
 
--- an empty rest
-no_rest : (rest : List ℕ) → length rest ≡ 0 → rest ≡ []
-no_rest [] e = refl
-no_rest (b ∷ rest) e = absurd (omega (arith, e))
-
--- a script that ends
-pub script_at : (bytes rest : List ℕ) (p : Progress) (script : Script) → (was : WasReadTo bytes rest p) → length rest ≡ 0 → Ends was.parts (Some script) → IsScript bytes script
-script_at bytes rest p script was over ends = record {
-  parts = was.parts;
-  text = was.text ∙ ap (λ r. parts_text was.parts ++ r) (no_rest rest over) ∙ append-nil (parts_text was.parts);
-  in_order = was.in_order;
-  ends = ends.0;
-  says = ends.1;
-}
-
 -- nothing stands at the front of nothing
 full : (p : Part) (more : List ℕ) → [] ≡ part_text p ++ more → ⊥
 full p more e = let none : true ≡ false = ap is_empty e ∙ not_empty p more in true≢false none
@@ -88,7 +68,7 @@ full p more e = let none : true ≡ false = ap is_empty e ∙ not_empty p more i
 -- a script may not end here
 pub stuck_at_end : (earlier : List Part) (rest : List ℕ) → length rest ≡ 0 → may_end earlier ≡ false → IsStuck earlier rest
 stuck_at_end earlier rest over other = record {
-  no_part = λ p more text. absurd (full p more (sym (no_rest rest over) ∙ text));
+  no_part = λ p more text. absurd (full p more (sym (nil_from_length rest over) ∙ text));
   no_end = λ _. other;
 }
 

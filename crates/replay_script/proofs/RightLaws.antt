@@ -3,15 +3,14 @@ use Rattle.std.proofs.Common.{◌≡◌, ◌⊎◌, inl, inr, ℕ, zero, suc, �
 use Rattle.std.specs.List.{AllByRecursion, starts_with, IsDistinct, list_any}
 use Rattle.std.specs.Fmt.{decimal}
 use Rattle.std.specs.Option.{option_or}
-use Rattle.std.proofs.lemmas.Bool.{and_parts, true≢false, eqb-true, ltb-true, not-true}
+use Rattle.std.proofs.lemmas.Bool.{and_parts, true≢false, eqb-true, ltb-true, not-true, or_parts}
 use Rattle.std.proofs.lemmas.Option.{same_Some, none-some}
 use Rattle.std.proofs.lemmas.List.{length-reverse}
 use Rattle.std.proofs.lemmas.List.Sorted.{IsPermutation-reverse}
 use Rattle.std.proofs.lemmas.Map.Keys.{IsDistinct-IsPermutation}
 use mathlib.Core.List.{reverse-cons}
-use Rattle.plain_words.proofs.Laws.{or_parts}
 use Rattle.label_sets.specs.Lists.{when_true}
-use Rattle.label_sets.proofs.Laws.{all-reverse, bytes_eq-swap}
+use Rattle.label_sets.proofs.Laws.{all-reverse, bytes_eq-swap, all-append}
 use Rattle.plain_words.specs.Places.{is_visible_word, is_port}
 use Rattle.replay_script.specs.declared.header.Header.{Header}
 use Rattle.replay_script.specs.declared.script.ScriptTarget.{ScriptTarget}
@@ -185,11 +184,6 @@ new_sound most t e =
     let d = and_parts (is_visible_word 256 t.job) (is_visible_word 256 t.host) c.0 in
     record { instance = refl; job = d.0; host = d.1; port = c.1; path = b.1; replies = tt; posts = omega arith; post_replies = tt }
 
--- one more of which something holds
-all_more : {A : Type 0} (P : A → Type 0) (xs : List A) (x : A) → AllByRecursion P xs → P x → AllByRecursion P (xs ++ x ∷ [])
-all_more P [] x all is = (is, tt)
-all_more P (y ∷ ys) x all is = (all.0, all_more P ys x all.1 is)
-
 -- the replies of records end by themselves
 page_over : (at : ℕ) (format : Format) (body : List ℕ) → IsOver (page_reply at format body)
 page_over at format body e = absurd cc
@@ -231,7 +225,7 @@ sound_scrape : (most : ℕ) (reply : MemoryReply) (ts : List ScriptTarget) → I
 sound_scrape most reply [] is all = tt
 sound_scrape most reply (t ∷ ts) is all =
     let h = all.0 in
-    let replies = all_more IsRightReply t.scrapes reply h.replies is in
+    let replies = all-append IsRightReply t.scrapes (reply ∷ []) h.replies (is, tt) in
     (record { instance = h.instance; job = h.job; host = h.host; port = h.port; path = h.path; replies = replies; posts = h.posts; post_replies = h.post_replies }, all.1)
 
 sound_post : (most : ℕ) (reply : MemoryReply) (ts : List ScriptTarget) → has_room_for_post most ts ≡ true → IsRightReply reply → AllByRecursion (IsSound most) ts → AllByRecursion (IsSound most) (with_post reply ts)
@@ -239,7 +233,7 @@ sound_post most reply [] room is all = tt
 sound_post most reply (t ∷ ts) room is all =
     let h = all.0 in
     let less : length t.posts < most = ltb-true (length t.posts) most room in
-    let post_replies = all_more IsRightReply t.posts reply h.post_replies is in
+    let post_replies = all-append IsRightReply t.posts (reply ∷ []) h.post_replies (is, tt) in
     let posts : length (t.posts ++ reply ∷ []) ≤ most = omega (arith, less, length-append t.posts (reply ∷ [])) in
     (record { instance = h.instance; job = h.job; host = h.host; port = h.port; path = h.path; replies = h.replies; posts = posts; post_replies = post_replies }, all.1)
 

@@ -1,5 +1,5 @@
 -- The sums of a report, one target after the other.
-use Rattle.std.proofs.Common.{◌≡◌, ℕ, suc, ◌+◌, ◌<◌, ◌≤◌, List, [], ◌∷◌, ◌++◌, length, take, get_or, ap, arith}
+use Rattle.std.proofs.Common.{◌≡◌, ℕ, suc, ◌+◌, ◌<◌, List, [], ◌∷◌, ◌++◌, length, take, get_or, ap, arith}
 use Rattle.std.specs.List.{sum_by}
 use Rattle.std.proofs.lemmas.List.{append-nil, append_assoc, take_more, length-take-le}
 use Rattle.std.proofs.lemmas.List.Sums.{sum_by-append}
@@ -37,19 +37,6 @@ of_more n a b these one = record {
   refused = omega (arith, these.refused, one.refused);
   given_up = omega (arith, these.given_up, one.given_up);
   halted = omega (arith, these.halted, one.halted);
-}
-
--- numbers of fewer targets are those of more
-pub of_fewer : (m n : ℕ) (a : Numbers) → m ≤ n → AreOfTargets m a → AreOfTargets n a
-of_fewer m n a few these = record {
-  visits = omega (arith, few, these.visits);
-  failed = omega (arith, few, these.failed);
-  points = omega (arith, few, these.points);
-  markers = omega (arith, few, these.markers);
-  accepted = omega (arith, few, these.accepted);
-  refused = omega (arith, few, these.refused);
-  given_up = omega (arith, few, these.given_up);
-  halted = omega (arith, few, these.halted);
 }
 
 -- the sums once the next target is added

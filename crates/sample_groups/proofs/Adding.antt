@@ -5,7 +5,6 @@ use Rattle.std.specs.BTreeMap.{is_at}
 use Rattle.std.specs.Cmp.{eq_by_cmp_equiv}
 use Rattle.std.proofs.lemmas.List.{append-nil, drop_more, drop_all}
 use Rattle.std.proofs.lemmas.List.Elements.{filter_map-append}
-use Rattle.std.proofs.lemmas.List.Folds.{list_any-append}
 use Rattle.exact_decimal.specs.declared.number.Number.TheVariants.{Finite}
 use Rattle.exact_decimal.specs.Decimals.{DecimalValue, decimal_cmp}
 use Rattle.exact_decimal.specs.Order.{same}
@@ -63,18 +62,6 @@ pub one_more_among : (at d : DecimalValue) (old new : List Place)
 one_more_among at d old new updates =
     sym (among d new) ∙ updates ∙ either (is_eq (decimal_cmp at d)) (list_any (is_at (place_cmp (record { at = d }))) old)
     ∙ (λ i. same_is at d i || among d old i)
-
--- the places of one quantile more
-pub more_has : (qs : List Quantile) (old new : List DecimalValue) (q : Quantile) → HasPlacesOf qs old
-    → ((d : DecimalValue) → is_place_in new d ≡ (same (Finite q.at) (Finite d) || is_place_in old d)) → HasPlacesOf (qs ++ q ∷ []) new
-more_has qs old new q has more = λ d. more d ∙ ap (λ b. same (Finite q.at) (Finite d) || b) (has d) ∙ turned (same (Finite q.at) (Finite d)) (has_place qs d)
-    ∙ sym (list_any-append (λ (p : Quantile). same (Finite p.at) (Finite d)) qs (q ∷ []))
-  where
-    turned : (b c : Bool) → (b || c) ≡ (c || (b || false))
-    turned true true = refl
-    turned true false = refl
-    turned false true = refl
-    turned false false = refl
 
 -- the places so far and those of the parts that are left are all of them
 abbrev pub Gathers : List Part → List DecimalValue → List Part → Type 0

@@ -34,10 +34,6 @@ packed_more xs i x old new d within at before after =
     after ∙ ap (λ l. with_set l x) before ∙ ap (λ b. cond b (take i xs) (take i xs ++ x ∷ [])) (fresh_at xs i x d at)
     ∙ ap (λ y. take i xs ++ y ∷ []) (got_at xs i x at) ∙ sym (take_more xs i x within)
 
--- a set that is new is put behind the others
-pub put_behind : (old new : List LabelSet) (x : LabelSet) → list_any (label_sets_eq x) old ≡ false → new ≡ with_set old x → new ≡ old ++ x ∷ []
-put_behind old new x fresh is = is ∙ ap (λ b. cond b old (old ++ x ∷ [])) fresh
-
 -- ---- a group that begins
 
 -- the first part of a group fits

@@ -1,8 +1,7 @@
 -- Laws on values that stand beside their keys.
-use Rattle.std.proofs.Common.{◌≡◌, ℕ, zero, suc, ◌+◌, Bool, true, false, cond, ◌||◌, List, [], ◌∷◌, ◌++◌, length, drop, slice_get, slice_set, Some, None, refl, sym, ap, subst, ◌∙◌, arith}
+use Rattle.std.proofs.Common.{◌≡◌, ℕ, zero, suc, ◌+◌, Bool, true, false, cond, ◌||◌, List, [], ◌∷◌, ◌++◌, length, drop, slice_get, Some, None, refl, sym, ap, subst, ◌∙◌, arith}
 use Rattle.std.specs.List.{list_any, zip, IsDistinct, AllByRecursion}
 use Rattle.std.specs.Map.{lookup}
-use Rattle.std.proofs.lemmas.List.{length-set}
 use Rattle.sample_groups.specs.Beside.{AreBeside}
 use Rattle.sample_groups.proofs.Members.{eq_swap}
 
@@ -22,16 +21,6 @@ module _ {K V : Type 0} where
   zip-snoc (l ∷ ks) (w ∷ vs) k v e = ap (λ es. (l, w) ∷ es) (zip-snoc ks vs k v (suc_same (length ks) (length vs) e))
 
 module _ {K : Type 0} (eq : K → K → Bool) (decides : (a b : K) → (eq a b ≡ true → a ≡ b) × (a ≡ b → eq a b ≡ true)) where
-  -- a key that stands at a place is among the keys
-  pub present : (ks : List K) (i : ℕ) (k : K) → slice_get ks i ≡ Some k → list_any (eq k) ks ≡ true
-  present [] i k e = absurd (let no : None ≡ Some k = e in cc)
-  present (l ∷ ks) zero k e = let one : l ≡ k = cc in ap (λ b. b || list_any (eq k) ks) ((decides k l).1 (sym one))
-  present (l ∷ ks) (suc i) k e = by (eq k l) (present ks i k e)
-    where
-      by : (b : Bool) → list_any (eq k) ks ≡ true → (b || list_any (eq k) ks) ≡ true
-      by true h = refl
-      by false h = h
-
   -- a key that is none of these is none of theirs
   none_same : (k : K) (ks : List K) → list_any (eq k) ks ≡ false → AllByRecursion (λ l. eq l k ≡ false) ks
   none_same k [] h = tt
@@ -75,10 +64,6 @@ module _ {K : Type 0} (eq : K → K → Bool) (decides : (a b : K) → (eq a b �
     -- one value more, beside a new key
     pub beside_more : (ks : List K) (vs : List V) (k : K) (v : V) → AreBeside eq ks vs → list_any (eq k) ks ≡ false → AreBeside eq (ks ++ k ∷ []) (vs ++ v ∷ [])
     beside_more ks vs k v b new = record { many = one_more ks k ∙ ap suc b.many ∙ sym (one_more vs v); distinct = distinct-snoc ks k b.distinct (none_same k ks new) }
-
-    -- another value
-    pub beside_set : (ks : List K) (vs : List V) (i : ℕ) (v : V) → AreBeside eq ks vs → AreBeside eq ks (slice_set vs i v)
-    beside_set ks vs i v b = record { many = b.many ∙ sym (length-set vs i v); distinct = b.distinct }
 
     -- the value of a key stands at the key's place
     pub found_beside : (ks : List K) (vs : List V) (i : ℕ) (k : K) → AreBeside eq ks vs → slice_get ks i ≡ Some k → lookup (eq k) (zip ks vs) ≡ slice_get vs i

@@ -21,10 +21,11 @@ use Rattle.sample_groups.specs.Parts.{is_grouped, part_of, entry_of}
 use Rattle.sample_groups.specs.Groups.{Gathered, bucket_in, group_from, parts_in, groups_from, breaks_last, breaks_order, ends_with, is_whole_group}
 use Rattle.sample_groups.specs.Sound.{IsSoundSample, AreSound}
 use Rattle.sample_groups.proofs.KindCases.{of_histograms}
-use Rattle.sample_groups.proofs.Members.{when, reverse-cons}
+use Rattle.sample_groups.proofs.Members.{when}
 use Rattle.sample_groups.proofs.Steps.{labels_of, group_at, group_is_kept}
 use Rattle.sample_groups.proofs.Samples.{bucket_part, is_in_group, entries, values_in-entries}
 use Rattle.sample_groups.proofs.Orders.{order_kept}
+use mathlib.Core.List.{reverse-cons}
 
 -- ---- buckets that rise
 

@@ -1,7 +1,7 @@
 -- Laws on lists: keys of which each stands once, pairs made from keys, the last that passes a test.
 use Rattle.std.proofs.Common.{◌≡◌, Bool, true, false, cond, not, ◌&&◌, ◌||◌, List, [], ◌∷◌, ◌++◌, map, filter, filter_map, find, reverse, Option, Some, None, option_map, refl, sym, ap, subst, ◌∙◌, ◌⊎◌, inl, inr}
 use Rattle.std.specs.Prelude.{⊤}
-use Rattle.std.proofs.lemmas.List.{append-nil, reverse-append}
+use Rattle.std.proofs.lemmas.List.{append-nil}
 use Rattle.std.proofs.lemmas.List.Elements.{filter-append, filter_map-append}
 use Rattle.std.proofs.lemmas.List.Folds.{list_all-append}
 use Rattle.std.specs.List.{list_any, list_all, last_or, cons_option}
@@ -10,6 +10,7 @@ use Rattle.std.specs.Map.{lookup}
 use Rattle.label_sets.specs.Lists.{first_of_each, first_some, some_passes}
 use Rattle.label_sets.proofs.Laws.{same_tests}
 use Rattle.page_model.proofs.Laws.{Member}
+use mathlib.Core.List.{reverse-cons}
 
 -- ---- tests
 
@@ -24,9 +25,6 @@ and_swap false true = refl
 and_swap false false = refl
 
 -- ---- a list turned round
-
-pub reverse-cons : {A : Type 0} (x : A) (xs : List A) → reverse (x ∷ xs) ≡ reverse xs ++ x ∷ []
-reverse-cons x xs = reverse-append (x ∷ []) xs
 
 pub list_all-reverse : {A : Type 0} (p : A → Bool) (xs : List A) → list_all p (reverse xs) ≡ list_all p xs
 list_all-reverse p [] = refl
@@ -92,10 +90,6 @@ list_any-agree p q [] same = refl
 list_any-agree p q (x ∷ xs) same = let first = same x (inl refl) in let rest = list_any-agree p q xs (λ y m. same y (inr m)) in λ i. first i || rest i
 
 -- ---- filters, and values that some elements have
-
-pub map-map : {A B C : Type 0} (g : B → C) (f : A → B) (xs : List A) → map g (map f xs) ≡ map (λ x. g (f x)) xs
-map-map g f [] = refl
-map-map g f (x ∷ xs) = ap (λ l. g (f x) ∷ l) (map-map g f xs)
 
 pub filter-map : {A B : Type 0} (t : B → Bool) (f : A → B) (xs : List A) → filter t (map f xs) ≡ map f (filter (λ x. t (f x)) xs)
 filter-map t f [] = refl
@@ -277,15 +271,6 @@ module _ {K : Type 0} (eq : K → K → Bool) (decides : (a b : K) → (eq a b �
       by : (b : Bool) → p x ≡ b → (p x && list_all p (filter (λ y. not (eq x y)) (first_of_each eq xs))) ≡ (p x && list_all p (first_of_each eq xs))
       by true e = ap (λ b. p x && b) (kept e (first_of_each eq xs))
       by false e = rw e refl
-
-  -- each of the keys has a value
-  pub filter_map-some : {V : Type 0} (f : K → Option V) (g : K → V) (ks : List K) → ((k : K) → has_key k ks ≡ true → f k ≡ Some (g k)) → filter_map f ks ≡ map g ks
-  filter_map-some f g [] all = refl
-  filter_map-some f g (k ∷ ks) all = rw (all k (ap (λ b. b || has_key k ks) ((decides k k).1 refl))) (ap (λ l. g k ∷ l) (filter_map-some f g ks (λ q e. all q (later (eq q k) (has_key q ks) e))))
-    where
-      later : (b c : Bool) → c ≡ true → (b || c) ≡ true
-      later true c e = refl
-      later false c e = e
 
   -- ---- pairs of a key and its value
 

@@ -1,8 +1,9 @@
 -- What one sample is to its group: the suffix of its name, and the part that it is.
-use Rattle.std.proofs.Common.{◌≡◌, ℕ, Bool, true, false, not, ◌&&◌, ◌||◌, List, [], ◌∷◌, ◌++◌, map, filter, filter_map, reverse, codes, length, drop, Option, Some, None, unwrap_or, is_some, refl, sym, ap, subst, ◌∙◌, inl, inr, ◌⊎◌, if◌then◌else◌}
+use Rattle.std.proofs.Common.{◌≡◌, ℕ, Bool, true, false, not, ◌&&◌, ◌||◌, List, [], ◌∷◌, ◌++◌, map, filter, filter_map, codes, length, drop, Option, Some, None, unwrap_or, is_some, refl, sym, ap, subst, ◌∙◌, inl, inr, ◌⊎◌, if◌then◌else◌}
 use Rattle.std.specs.Prelude.{⊤}
 use Rattle.std.proofs.lemmas.Bool.{and_parts, not-false, or_cases, or_parts}
-use Rattle.std.proofs.lemmas.List.{drop_at, map-append}
+use Rattle.std.proofs.lemmas.List.{drop_at}
+use Rattle.std.proofs.lemmas.Simd.{map-map}
 use Rattle.std.specs.List.{list_any}
 use Rattle.std.specs.Str.{bytes_eq}
 use Rattle.std.specs.Cmp.Lexicographic.{bytes_decides}
@@ -26,11 +27,11 @@ use Rattle.page_model.proofs.Laws.{Member}
 use Rattle.sample_groups.specs.declared.part.Part.{Part}
 use Rattle.sample_groups.specs.declared.part.Part.TheVariants as parts
 use Rattle.sample_groups.specs.Parts.{is_grouped, quantile_part, part_of, entry_of}
-use Rattle.sample_groups.specs.Groups.{bucket_in, quantile_in, sum_in, count_in, total_in, created_in, parts_in, groups_from, with_part}
+use Rattle.sample_groups.specs.Groups.{bucket_in, quantile_in, sum_in, count_in, total_in, created_in, parts_in}
 use Rattle.sample_groups.specs.Sound.{AreSound}
 use Rattle.sample_groups.proofs.KindCases.{of_histograms, of_grouped}
-use Rattle.sample_groups.proofs.Members.{when, reverse-cons, map-map, filter-map, filter_map-map, filter_map-filter}
-use Rattle.sample_groups.proofs.Steps.{labels_of, one_part_more}
+use Rattle.sample_groups.proofs.Members.{when, filter-map, filter_map-map, filter_map-filter}
+use Rattle.sample_groups.proofs.Steps.{labels_of}
 
 -- ---- a sample that breaks no rule of its own
 
@@ -339,7 +340,3 @@ module _ (st : Setting) (kind : Kind) (family : List ℕ) where
   -- what some of the parts of a group have
   pub values_in-entries : {B : Type 0} (f : Part → Option B) (labels : LabelSet) (samples : List Sample) → filter_map f (parts_in labels (entries samples)) ≡ filter_map (λ s. when (is_in_group labels s) (f (part_of family s))) samples
   values_in-entries f labels samples = ap (filter_map f) (parts_in-entries labels samples) ∙ filter_map-map f (part_of family) (filter (is_in_group labels) samples) ∙ filter_map-filter (λ s. f (part_of family s)) (is_in_group labels) samples
-
-  -- one sample more below the others
-  pub one_sample_more : (above : List Sample) (s : Sample) → groups_from (entries (reverse (s ∷ above))) ≡ with_part (groups_from (entries (reverse above))) (sample_group st kind family s) (part_of family s)
-  one_sample_more above s = ap groups_from (ap entries (reverse-cons s above) ∙ map-append (entry_of st kind family) (reverse above) (s ∷ [])) ∙ one_part_more (entries (reverse above)) (entry_of st kind family s)

@@ -8,7 +8,7 @@ use Rattle.bridge_ports.specs.declared.talk.End.{End}
 use Rattle.bridge_ports.specs.declared.talk.End.TheVariants as ends
 use Rattle.bridge_ports.specs.Causes.{Rose}
 use Rattle.bridge_ports.specs.Talks.{WireState, ToldTalks, Spoken, Tells, talk_of, telling_from, telling_sent, telling_got, telling_end, made_ready, begun_at, sent_on, got_on, ended_by, failed_at, left_at, after_read}
-use Rattle.std.proofs.lemmas.List.{take_all, take-append-drop, length-take, length-take-le}
+use Rattle.std.proofs.lemmas.List.{take_all, take-append-drop}
 use Rattle.std.proofs.Math.Seq.{take-add}
 use Rattle.bridge_ports.proofs.Laws.{read_goes_on, got_on-nil, got_on-more, sent_on-more}
 use Rattle.page_model.specs.declared.event.Cause.{Cause}
@@ -18,7 +18,7 @@ use Rattle.http_talk.specs.declared.fault.Body.{Body}
 use Rattle.http_talk.specs.declared.fault.ReplyFault.{ReplyFault}
 use Rattle.http_talk.specs.declared.fault.ReplyFault.TheVariants as faults
 use Rattle.http_talk.specs.declared.fault.Progress.TheVariants as progresses
-use Rattle.http_talk.specs.Replies.{Judged, waits, goes_on, decided, refused, whole, IsJudged, HasVerdict, is_decided, IsPageOutcome, IsOutcomeBy, IsOutcomeOf, IsSent, IsGot, cause_of}
+use Rattle.http_talk.specs.Replies.{Judged, waits, goes_on, decided, refused, whole, IsJudged, HasVerdict, is_decided, IsPageOutcome, IsOutcomeOf, IsSent, IsGot, cause_of}
 use Rattle.http_talk.specs.ReplyReading.{Reader, Stands, progress_of, IsRefusal, IsPieceTaken, FinishAnswer}
 use Rattle.http_talk.proofs.Laws.{by_more, bare_head, known_once, undecided_is_short, body_is_short}
 use Rattle.scrape_client.specs.declared.stop.NoBody.{NoBody}
@@ -40,17 +40,6 @@ sends_more old now new text at count before is =
     is ∙ ap (λ (piece : List ℕ). sent_on (take count piece) now) rest ∙ ap (sent_on (take count (drop at text))) before
     ∙ sent_on-more (take at text) (take count (drop at text)) old ∙ ap (λ (sent : List ℕ). sent_on sent old) (sym (take-add at count text))
 
--- the wire behind all of it
-pub sends_all : (old now : WireState) (text : List ℕ) (at : ℕ) → now ≡ sent_on (take at text) old → length text ≤ at → now ≡ sent_on text old
-sends_all old now text at is past = is ∙ ap (λ (sent : List ℕ). sent_on sent old) (take_all at text past)
-
--- what is left of a text has room where all of it has
-pub sends_within : (old now : WireState) (text : List ℕ) (at : ℕ) → now ≡ sent_on (take at text) old → at ≤ length text → length text ≤ old.left
-    → length (take (length text - at) (drop at text)) ≤ now.left
-sends_within old now text at is within room =
-    let left = ap (λ (w : WireState). w.left) is in
-    omega (arith, length-take-le at text within, length-take (length text - at) (drop at text), length-drop at text)
-
 -- a write failed behind a front of a text
 pub sends_less : (old now new : WireState) (text : List ℕ) (at : ℕ) → now ≡ sent_on (take at text) old → new ≡ failed_at ends.WriteFailed new.faults now
     → (sent : List ℕ) × (rest : List ℕ) × (text ≡ sent ++ rest) × (new ≡ failed_at ends.WriteFailed new.faults (sent_on sent old))
@@ -68,12 +57,6 @@ pub decided_by_any : (a b : End) (limit : ℕ) (known : Judged) (outcome : Outco
 decided_by_any a b limit (decided v) outcome e x = x
 decided_by_any a b limit waits outcome e x = absurd (cc e)
 decided_by_any a b limit (goes_on format body) outcome e x = absurd (cc e)
-
--- without one it says all
-pub open_by_end : (end : End) (limit : ℕ) (known : Judged) (outcome : Outcome) → is_decided known ≡ false → IsOutcomeBy end limit known outcome → IsOutcomeOf end limit known outcome
-open_by_end end limit (decided v) outcome e x = absurd (cc e)
-open_by_end end limit waits outcome e x = x
-open_by_end end limit (goes_on format body) outcome e x = x
 
 -- a reply that may go on has no verdict
 pub more_is_open : (known : Judged) → progresses.More ≡ progress_of known → is_decided known ≡ false
@@ -198,46 +181,6 @@ kept_wire end got old new is = is ∙ ap (λ (f : ℕ). record (ended_by end (go
 -- the talk that is left is ended so
 pub left_connected : (w : WireState) → w.stage ≡ stages.Connected → left_at w.stage w ≡ ended_by ends.Left w
 left_connected w is = ap (λ (s : Stage). left_at s w) is
-
--- the peer ended the talk
-pub ended_read : (most : ℕ) (old now new : WireState) (reply : Reader) (count : ℕ) (said : Result Body NoBody) → ReadsOn most old now reply count
-    → new ≡ ended_by ends.Ended now → EndsReply reply said → HasShortBody reply.most said → (BlamesWire said → ⊥) → IsReplyRead most old new said
-ended_read most old now new reply count said x is closes short peer =
-    let wire : new ≡ ended_by ends.Ended (got_on x.fed old) = is ∙ ap (ended_by ends.Ended) x.wire in
-    record {
-      got = x.fed;
-      end = ends.Ended;
-      behind = ((λ e. absurd (cc e)), (λ e. absurd (cc e)));
-      wire = kept_wire ends.Ended x.fed old new wire;
-      faults = same_faults old.faults new.faults said (ap (λ (w : WireState). w.faults) wire) peer;
-      short = subst (λ (m : ℕ). HasShortBody m said) x.most_is short;
-      said_is = λ some. record {
-        known = x.known;
-        judged_so = x.judged_so;
-        outcome = closes x.fed x.stands x.known (subst (λ (m : ℕ). IsJudged m x.fed x.known) (sym x.most_is) x.judged_so);
-        left = ((λ e. absurd (cc e)), (λ e. absurd (cc (e, x.goes_on))));
-      };
-    }
-
--- a read failed
-pub failed_read : (most : ℕ) (old now new : WireState) (reply : Reader) (count : ℕ) → ReadsOn most old now reply count
-    → new ≡ failed_at ends.ReadFailed new.faults now → now.faults ≤ new.faults → Rose now.faults new.faults → IsReplyRead most old new (Err (stops.Failed causes.Read))
-failed_read most old now new reply count x is later rose =
-    let same = ap (λ (w : WireState). w.faults) x.wire in
-    record {
-      got = x.fed;
-      end = ends.ReadFailed;
-      behind = ((λ e. absurd (cc e)), (λ e. absurd (cc e)));
-      wire = is ∙ ap (λ (w : WireState). record (ended_by ends.ReadFailed w) { faults = new.faults }) x.wire;
-      faults = record { later = omega (arith, same); rose = λ _. subst (λ (f : ℕ). Rose f new.faults) same rose; kept = λ none. absurd (none tt) };
-      short = tt;
-      said_is = λ some. record {
-        known = x.known;
-        judged_so = x.judged_so;
-        outcome = λ limit outcome said. open_by_end ends.ReadFailed limit x.known outcome x.goes_on said;
-        left = ((λ e. absurd (cc e)), (λ e. absurd (cc (e, x.goes_on))));
-      };
-    }
 
 -- the wire behind a piece, once it was left
 left_behind : (old now mid new : WireState) (fed piece : List ℕ) → now ≡ got_on fed old → now.stage ≡ stages.Connected → 0 < length piece → mid ≡ after_read piece now

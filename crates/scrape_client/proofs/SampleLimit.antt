@@ -24,6 +24,7 @@ use Rattle.page_model.proofs.Laws.{none_found}
 use Rattle.page_model.specs.Laws.{TextsAreRight}
 use Rattle.http_talk.specs.Replies.{IsPageOutcome, scraped_setting}
 use Rattle.scrape_client.specs.Scraping.{IsWithinLimit}
+use Rattle.label_sets.proofs.Laws.{option_map-none}
 
 -- a sample without a fault stands behind fewer than the limit
 not_past : (st : Setting) (earlier : List Item) (s : Sample) → item_fault st earlier (items.Sample s) ≡ None → nat_le st.limit (count_by is_sample earlier) ≡ true → ⊥
@@ -51,10 +52,6 @@ no_second : {A : Type 0} (a b : Option A) → option_or a b ≡ None → b ≡ N
 no_second None b e = e
 no_second (Some x) b e = absurd (cc e)
 
-no_image : {A B : Type 0} (f : A → B) (a : Option A) → option_map f a ≡ None → a ≡ None
-no_image f None e = refl
-no_image f (Some x) e = absurd (cc e)
-
 one_more_says : (st : Setting) (earlier : List Item) (says : Option Written) → option_and_then (λ w. item_fault st earlier (item_of st.format w)) says ≡ None
     → count_by is_sample earlier ≤ st.limit → count_by is_sample (option_map_or (λ w. item_of st.format w ∷ earlier) says earlier) ≤ st.limit
 one_more_says st earlier None free few = few
@@ -74,7 +71,7 @@ all_lines [] st earlier n clean free few = few
 all_lines (l ∷ ls) st earlier n clean free few =
     all_lines ls st (with_line st.format l earlier) (n + 1) clean
     (no_second (option_map (λ rule. (n, rule)) (line_fault st earlier l)) (fault_from st (with_line st.format l earlier) (n + 1) ls clean) free)
-    (one_more_line st l earlier (no_image (λ rule. (n, rule)) (line_fault st earlier l) (no_first (option_map (λ rule. (n, rule)) (line_fault st earlier l)) (fault_from st (with_line st.format l earlier) (n + 1) ls clean) free)) few)
+    (one_more_line st l earlier (option_map-none (λ rule. (n, rule)) (line_fault st earlier l) (no_first (option_map (λ rule. (n, rule)) (line_fault st earlier l)) (fault_from st (with_line st.format l earlier) (n + 1) ls clean) free)) few)
 
 -- the page of a text has no more samples than it may have
 pub few_samples : (st : Setting) (bytes : List ℕ) (page : Page) → IsPageOf st bytes page → page.samples ≤ st.limit

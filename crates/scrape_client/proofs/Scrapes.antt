@@ -1,8 +1,7 @@
 -- What one exchange and its page give of a scrape.
-use Rattle.std.proofs.Common.{◌≡◌, ℕ, List, ◌∷◌, Option, Some, None, Result, Ok, Err, refl, sym, subst, inl, inr, arith}
+use Rattle.std.proofs.Common.{◌≡◌, ℕ, List, ◌∷◌, Option, Some, None, Result, Ok, Err, sym, subst}
 use Rattle.bridge_ports.specs.declared.talk.Talk.{Talk}
 use Rattle.bridge_ports.specs.declared.talk.Address.{Address}
-use Rattle.bridge_ports.specs.declared.talk.Stage.TheVariants as stages
 use Rattle.bridge_ports.specs.Talks.{WireState, ToldTalks, Tells}
 use Rattle.page_model.specs.declared.event.Cause.TheVariants as causes
 use Rattle.page_model.specs.declared.event.Outcome.{Outcome}
@@ -13,7 +12,7 @@ use Rattle.http_talk.specs.Requests.{get_request}
 use Rattle.http_talk.specs.Replies.{IsPageOutcome, IsWholeTalk}
 use Rattle.scrape_client.specs.declared.stop.NoBody.{NoBody}
 use Rattle.scrape_client.specs.declared.stop.NoBody.TheVariants as stops
-use Rattle.scrape_client.specs.Scraping.{IsWireFault, IsWithinLimit, IsTalkOfEvent, GrewByEvent, IsScrape, GrewByOne, IsCutShort}
+use Rattle.scrape_client.specs.Scraping.{IsWireFault, IsWithinLimit, IsTalkOfEvent, GrewByEvent, IsScrape}
 use Rattle.scrape_client.proofs.Exchanging.{says_some}
 use Rattle.scrape_client.specs.Exchanges.{Says, BlamesWire, IsExchange}
 
@@ -62,21 +61,3 @@ is_scrape limit most at to text old new said outcome request x says within =
       page = within;
       told = tells_so (λ (a b : List Talk). b ≡ x.talk ∷ a) (GrewByEvent limit most to (record { reading = at; outcome = outcome })) (λ (a b : List Talk) grew. (x.talk, grew, event)) old.told new.told x.talked.told;
     }
-
--- an exchange behind which memory is wanted
-pub cut_behind : (most at : ℕ) (text : List ℕ) (old new : WireState) (said : Result Body NoBody) → IsExchange most at text old new said → IsCutShort old new
-cut_behind most at text old new said x = record {
-  free = x.talked.free;
-  place = x.talked.place;
-  plan = x.talked.plan;
-  later = x.faults.later;
-  told = tells_so (λ (a b : List Talk). b ≡ x.talk ∷ a) GrewByOne (λ (a b : List Talk) grew. inr (x.talk, grew)) old.told new.told x.talked.told;
-}
-
-same_told : (told : Option ToldTalks) → Tells GrewByOne told told
-same_told None = tt
-same_told (Some t) = inl refl
-
--- memory was wanted before a talk began
-pub cut_before : (old new : WireState) → old.stage ≡ stages.Idle → new ≡ old → IsCutShort old new
-cut_before old new idle is = subst (IsCutShort old) (sym is) (record { free = idle; place = refl; plan = refl; later = omega arith; told = same_told old.told })

@@ -1,7 +1,8 @@
 -- Tracks whose jobs are letters, from `j` on: such as the tests make are those of a right run.
-use Rattle.std.proofs.Common.{◌≡◌, ℕ, suc, ◌+◌, ◌≤◌, ◌<◌, Bool, true, false, List, [], ◌∷◌, ◌++◌, bytes_eq, length, map, All, refl, sym, ap, subst, ◌∙◌, arith}
+use Rattle.std.proofs.Common.{◌≡◌, ℕ, suc, ◌+◌, ◌≤◌, ◌<◌, true, false, List, [], ◌∷◌, ◌++◌, bytes_eq, length, map, All, refl, sym, ap, subst, ◌∙◌, arith}
 use Rattle.std.specs.Bool.{⊤}
 use Rattle.std.specs.List.{AllByRecursion, IsDistinct}
+use Rattle.std.proofs.lemmas.Bool.{false_from_ne_true}
 use Rattle.std.proofs.lemmas.List.{length-map}
 use Rattle.std.proofs.lemmas.List.Elements.{All-nil, All-cons, All-map}
 use Rattle.std.proofs.lemmas.Slice.Eq.{bytes_eq-Decides}
@@ -58,15 +59,11 @@ abbrev head_of : List ℕ → ℕ
 head_of [] = 0
 head_of (x ∷ xs) = x
 
-not_true : (b : Bool) → (b ≡ true → ⊥) → b ≡ false
-not_true true never = absurd (never refl)
-not_true false never = refl
-
 -- two letters are not one job
 letters_differ : (f g : Followed) (n m : ℕ) → n < m → f.target.job ≡ (106 + n) ∷ [] → g.target.job ≡ (106 + m) ∷ [] → is_same_target f g ≡ false
 letters_differ f g n m less a b =
     let other : bytes_eq f.target.job g.target.job ≡ true → ⊥ = λ same. let e : 106 + n ≡ 106 + m = ap head_of (sym a ∙ (bytes_eq-Decides f.target.job g.target.job).0 same ∙ b) in omega arith in
-    let e : bytes_eq f.target.job g.target.job ≡ false = not_true (bytes_eq f.target.job g.target.job) other in
+    let e : bytes_eq f.target.job g.target.job ≡ false = false_from_ne_true (bytes_eq f.target.job g.target.job) other in
     rw e refl
 
 apart : (w : Talking) (f : Followed) (n place : ℕ) (ks : List Kept) → f.target.job ≡ (106 + n) ∷ [] → n < place → AreLettered w place ks → AllByRecursion (λ g. is_same_target f g ≡ false) (map (λ (k : Kept). k.followed) ks)

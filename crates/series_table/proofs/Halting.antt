@@ -97,23 +97,6 @@ visit_halts aim s0 s1 p0 p1 f0 f1 shown second counts halted working cut same = 
       );
 }
 
--- a track that was halted before stays as it is
-pub stays_halted : (k : Kept) → k.halted ≡ true → IsHalted k k
-stays_halted k halted = record {
-  halted = halted;
-  counts = refl;
-  shown = refl;
-  second = refl;
-  same = record { followed = refl; scrape_place = refl; post_place = refl; scrape_tells = refl; post_tells = refl };
-  still = λ e. refl;
-  told = λ scrapes posts a b new_scrapes new_posts c d. record {
-    further = [];
-    scraped = sym (same_Some scrapes new_scrapes (sym a ∙ c));
-    few = omega arith;
-    posted = sym (same_Some posts new_posts (sym b ∙ d));
-  };
-}
-
 -- the sentence on one target
 pub posts_what_talks_tell : (w : Talking) (k : Kept) → IsTrack w k → PostsWhatItsTalksTell w k
 posts_what_talks_tell w k h = λ scrapes posts a b. (h.history.events, h.history.posted, h.history.bodies scrapes posts a b)

@@ -4,7 +4,7 @@ use Rattle.std.proofs.lemmas.Option.{none-some, same_Some}
 use Rattle.page_model.specs.declared.event.Event.{Event}
 use Rattle.page_model.specs.declared.event.Shown.{Shown}
 use Rattle.bridge_ports.specs.declared.talk.Talk.{Talk}
-use Rattle.bridge_ports.specs.Talks.{ToldTalks, Tells, WireState, AllowsTalks, made_ready}
+use Rattle.bridge_ports.specs.Talks.{ToldTalks, Tells, WireState, made_ready}
 use Rattle.bridge_ports.specs.declared.talk.Stage.TheVariants as stages
 use Rattle.target_core.specs.Events.{request_after}
 use Rattle.target_core.specs.States.{Following}
@@ -27,12 +27,6 @@ use Rattle.series_table.proofs.Histories.{event_fits, run_fits, all_counted, vis
 use Rattle.series_table.proofs.Halting.{same_plans}
 use Rattle.series_table.proofs.Tallies.{counts_rise, same_tally, visits_rise}
 use Rattle.series_table.proofs.Shows.{shows_event}
-
--- a post wire that was made ready has room
-pub is_ready : (count room : ℕ) (p m : WireState) → m ≡ made_ready count room p → p.stage ≡ stages.Idle → AllowsTalks count room m
-is_ready count room p m ready idle =
-    let plain : AllowsTalks count room (made_ready count room p) = record { idle_now = idle; talks_left = omega arith; room_each = omega arith } in
-    subst (AllowsTalks count room) (sym ready) plain
 
 -- the talks of a post wire that was made ready and used
 tried : (most room : ℕ) (text : List ℕ) (p m p1 : WireState) (last : Try) → m ≡ made_ready most room p → Tells (GrewByRun most text last) m.told p1.told → Tells (GrewByRun most text last) p.told p1.told

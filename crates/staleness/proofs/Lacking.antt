@@ -1,15 +1,13 @@
 -- A page lacks a series just where its key is not among those of the page.
-use Rattle.std.proofs.Common.{◌≡◌, ℕ, Bool, true, false, not, ◌&&◌, List, [], ◌∷◌, ◌++◌, map, filter, find, Option, is_some, cond, refl, sym, ap, subst, ◌∙◌}
+use Rattle.std.proofs.Common.{◌≡◌, ℕ, Bool, true, false, not, ◌&&◌, List, [], ◌∷◌, map, filter, find, Option, is_some, refl, sym, ap, subst, ◌∙◌}
 use Rattle.std.specs.Prelude.{Result, Ok, Err, IfOk}
 use Rattle.std.specs.List.{list_any, IsDistinct}
-use Rattle.std.proofs.lemmas.List.{append-nil}
-use Rattle.std.proofs.lemmas.List.Elements.{filter-append}
 use Rattle.label_sets.specs.declared.series_key.SeriesKey.{SeriesKey}
 use Rattle.label_sets.specs.Keys.{key_eq}
 use Rattle.page_model.specs.declared.page.Reading.{Reading}
 use Rattle.page_model.specs.declared.page.Page.{Page}
 use Rattle.page_model.specs.Presence as presence
-use Rattle.page_model.specs.Presence.{all_readings, is_present}
+use Rattle.page_model.specs.Presence.{all_readings}
 use Rattle.packed_keys.specs.Partings.{IsParted}
 use Rattle.packed_keys.proofs.Laws.{gone_of_parted}
 use Rattle.staleness.specs.Vanished.{has_points, is_lacking, is_gone, keys_gone}
@@ -31,13 +29,6 @@ lacked now key = ap (λ (b : Bool). has_points key.kind && not b) (sym (read_the
 pub all_lacking : (now : Page) (keys : List SeriesKey) → filter (is_lacking (presence.keys_of now)) keys ≡ filter (is_gone now) keys
 all_lacking now [] = refl
 all_lacking now (k ∷ keys) = rw (lacked now k, all_lacking now keys) refl
-
--- a key more is kept or passed over
-pub kept : (test : SeriesKey → Bool) (keys : List SeriesKey) (key : SeriesKey) → test key ≡ true → filter test (keys ++ key ∷ []) ≡ filter test keys ++ key ∷ []
-kept test keys key e = filter-append test keys (key ∷ []) ∙ ap (λ (b : Bool). filter test keys ++ cond b (key ∷ []) []) e
-
-pub passed : (test : SeriesKey → Bool) (keys : List SeriesKey) (key : SeriesKey) → test key ≡ false → filter test (keys ++ key ∷ []) ≡ filter test keys
-passed test keys key e = filter-append test keys (key ∷ []) ∙ (ap (λ (b : Bool). filter test keys ++ cond b (key ∷ []) []) e ∙ append-nil (filter test keys))
 
 -- a series whose kind has no points is never lacking
 pub without_points : (others : List SeriesKey) (key : SeriesKey) (b : Bool) → b ≡ has_points key.kind → b ≡ false → false ≡ is_lacking others key

@@ -1,5 +1,5 @@
 -- Readings that were seen, one more and one more.
-use Rattle.std.proofs.Common.{◌≡◌, ℕ, Bool, true, false, List, [], ◌∷◌, ◌++◌, map, zip, filter, length, replicate, cond, Option, Some, None, option_map, option_and_then, refl, sym, ap, subst, ◌∙◌, append_assoc}
+use Rattle.std.proofs.Common.{◌≡◌, ℕ, Bool, true, false, List, [], ◌∷◌, ◌++◌, map, zip, filter, length, replicate, cond, Option, Some, None, option_map, option_and_then, refl, sym, ap, subst, ◌∙◌}
 use Rattle.std.specs.Prelude.{MatchOption, slice_get, slice_set}
 use Rattle.std.specs.List.{IsDistinct}
 use Rattle.std.specs.Map.{lookup, keys_of}
@@ -68,12 +68,6 @@ saw_with rows moment front r s next row at e once place is starts entries found 
     begun = rw e (ap (λ (x : Row). Some x.start) is)
 
 -- ---- several readings
-
-pub sees_none : (rows : List (SeriesKey × Row)) (moment : ℕ) (s : Sighting) → Sees rows moment [] s s
-sees_none rows moment s = λ once front saw. subst (λ (rs : List Reading). Saw rows moment rs s) (sym (append-nil front)) saw
-
-pub sees_more : (rows : List (SeriesKey × Row)) (moment : ℕ) (one two : List Reading) (a b c : Sighting) → Sees rows moment one a b → Sees rows moment two b c → Sees rows moment (one ++ two) a c
-sees_more rows moment one two a b c first second = λ once front saw. subst (λ (rs : List Reading). Saw rows moment rs c) (append_assoc front one two) (second once (front ++ one) (first once front saw))
 
 -- a reading of a kind without starts, behind any that were seen
 pub passed_by : (places : List SeriesKey) (rows : List Row) (moment : ℕ) (r : Reading) (s next : Sighting) (starting : Bool) → starting ≡ has_start r.key.kind → starting ≡ false → next.starts.items ≡ s.starts.items ++ None ∷ []

@@ -1,7 +1,7 @@
 -- The metrics of families with their starts and markers.
 use Rattle.std.proofs.Common.{◌≡◌, ℕ, suc, ◌+◌, ◌<◌, Bool, true, false, List, [], ◌∷◌, ◌++◌, map, filter_map, take, drop, length, get_or, Option, Some, None, option_map, refl, sym, ap, subst, ◌∙◌, add-one}
 use Rattle.std.specs.Prelude.{slice_get, MatchOption, is_some}
-use Rattle.std.specs.List.{flat_map, zip, cons_option, list_any}
+use Rattle.std.specs.List.{flat_map, cons_option, list_any}
 use Rattle.std.specs.Option.{option_map_or}
 use Rattle.std.specs.Str.{bytes_eq}
 use Rattle.std.proofs.Math.Seq.{drop-cons}
@@ -14,9 +14,9 @@ use Rattle.page_model.specs.declared.page.Page.{Page}
 use Rattle.otlp_tree.specs.declared.tree.Metric.{Metric}
 use Rattle.otlp_tree.specs.declared.tree.Shape.{Shape}
 use Rattle.target_core.specs.declared.markers.Marker.{Marker}
-use Rattle.target_core.specs.Points.{Point, point_at, point_of, points_with}
+use Rattle.target_core.specs.Points.{point_at, point_of, points_with}
 use Rattle.target_core.specs.Markers.{shape_with, metric_with, markers_of, markers_left, marker_metrics, with_markers}
-use Rattle.target_core.specs.MarkerGroups.{GroupedMarkers, marker_groups, no_group, placed_group, placed_at, alone_metric, identity_bytes, group_identity}
+use Rattle.target_core.specs.MarkerGroups.{GroupedMarkers, marker_groups, no_group, placed_at, alone_metric, identity_bytes, group_identity}
 use Rattle.target_core.specs.Trees.{shape_of, metric_of, family_metric, kind_metric, event_metrics}
 use Rattle.target_core.proofs.Placing.{one_more}
 use Rattle.target_core.proofs.Grouped.{found_markers, found_placed, absent_markers, absent_placed, alone_metrics}
@@ -175,11 +175,6 @@ page_step start moment ms fs i f metrics more starts own rest groups after metri
     subst (λ (l : List Family). ArePassed start moment ms l (drop (i + 1) fs) more rest after) (sym (one_more fs i f within read))
     (family_passed start moment ms (take i fs) (drop (i + 1) fs) f metrics more starts rest groups after metric passed (step (filter_map (kind_metric start moment) (take i fs)) own_are are.groups_are)
     is (behind ∙ ap (λ n. drop n starts) many))
-
--- before the first family
-pub none_passed : (start : Reading → Option ℕ) (moment : ℕ) (ms : List Marker) (fs : List Family) (metrics : List Metric) (starts : List (Option ℕ)) (groups : List GroupedMarkers)
-    → metrics ≡ [] → starts ≡ map start (readings_in fs) → groups ≡ marker_groups [] ms → ArePassed start moment ms [] fs metrics starts groups
-none_passed start moment ms fs metrics starts groups e own is = record { metrics_are = e; starts_are = own; groups_are = is }
 
 -- behind the last one
 pub all_passed : (start : Reading → Option ℕ) (moment : ℕ) (ms : List Marker) (fs : List Family) (i : ℕ) (metrics : List Metric) (starts : List (Option ℕ)) (groups : List GroupedMarkers)

@@ -1,22 +1,21 @@
 -- Markers by their metrics: one marker more, one metric of the page more, and the metrics of markers alone.
 use Rattle.std.proofs.Common.{◌≡◌, ℕ, Bool, true, false, cond, not, ◌||◌, List, [], ◌∷◌, ◌++◌, map, filter, filter_map, get_or, set, Option, Some, None, option_map, refl, sym, ap, ◌∙◌}
-use Rattle.std.specs.Prelude.{slice_get, MatchOption, is_some}
+use Rattle.std.specs.Prelude.{slice_get, MatchOption}
 use Rattle.std.specs.List.{list_any, cons_option}
-use Rattle.std.specs.Option.{option_map_or}
 use Rattle.std.specs.Str.{bytes_eq}
 use Rattle.std.specs.Cmp.Lexicographic.{bytes_decides, nat_list_eq_equiv}
 use Rattle.std.proofs.lemmas.List.{append-nil, map-append}
 use Rattle.std.proofs.lemmas.List.Elements.{filter-append}
 use Rattle.std.proofs.lemmas.List.Folds.{list_any-append}
+use Rattle.std.proofs.Math.Bool.{or-false, or-true}
 use Rattle.byte_table.proofs.Laws.{among}
 use Rattle.label_sets.specs.declared.kind.Kind.{Kind}
 use Rattle.label_sets.specs.declared.series_key.SeriesKey.{SeriesKey}
 use Rattle.label_sets.specs.Lists.{first_of_each}
 use Rattle.otlp_tree.specs.declared.tree.Metric.{Metric}
-use Rattle.otlp_tree.specs.declared.tree.Shape.{Shape}
 use Rattle.target_core.specs.declared.markers.Marker.{Marker}
 use Rattle.target_core.specs.Markers.{is_of_metric, markers_of, markers_left, marker_metric, marker_metrics, shape_with, no_points}
-use Rattle.target_core.specs.MarkerGroups.{GroupedMarkers, marker_groups, no_group, first_group, with_marker, placed_group, placed_at, alone_metric, identity_bytes, key_identity, group_identity}
+use Rattle.target_core.specs.MarkerGroups.{GroupedMarkers, marker_groups, first_group, with_marker, placed_group, alone_metric, identity_bytes, key_identity, group_identity}
 use Rattle.target_core.proofs.Identities.{keys_by_bytes, metric_by_bytes}
 use Rattle.target_core.proofs.Grouping as grouping
 
@@ -115,24 +114,16 @@ module _ (before : List (Kind × Metric)) (kind : Kind) (metric : Metric) (ms : 
   after : List (Kind × Metric)
   after = before ++ (kind, metric) ∷ []
 
-  or_false : (b : Bool) → (b || false) ≡ b
-  or_false true = refl
-  or_false false = refl
-
-  or_true : (b : Bool) → (b || true) ≡ true
-  or_true true = refl
-  or_true false = refl
-
   is_in_more : (key : SeriesKey) → is_in after key ≡ (is_in before key || bytes_eq bytes (key_identity key))
   unfolding bytes after
   is_in_more key = list_any-append (λ (p : Kind × Metric). is_of_metric p.0 p.1 key) before ((kind, metric) ∷ [])
-      ∙ ap (λ b. is_in before key || b) (or_false (is_of_metric kind metric key) ∙ metric_by_bytes kind metric key)
+      ∙ ap (λ b. is_in before key || b) (or-false (is_of_metric kind metric key) ∙ metric_by_bytes kind metric key)
 
   still : (x : Marker) → bytes_eq bytes (identity x) ≡ false → byte_group (is_in after) ms x ≡ byte_group (is_in before) ms x
-  still x e = ap (λ b. record { first = x.key; markers = own x ms; placed = b }) (is_in_more x.key ∙ ap (λ b. is_in before x.key || b) e ∙ or_false (is_in before x.key))
+  still x e = ap (λ b. record { first = x.key; markers = own x ms; placed = b }) (is_in_more x.key ∙ ap (λ b. is_in before x.key || b) e ∙ or-false (is_in before x.key))
 
   now : (x : Marker) → identity x ≡ bytes → byte_group (is_in after) ms x ≡ placed_group (byte_group (is_in before) ms x)
-  now x e = ap (λ b. record { first = x.key; markers = own x ms; placed = b }) (is_in_more x.key ∙ ap (λ b. is_in before x.key || b) ((bytes_decides bytes (identity x)).1 (sym e)) ∙ or_true (is_in before x.key))
+  now x e = ap (λ b. record { first = x.key; markers = own x ms; placed = b }) (is_in_more x.key ∙ ap (λ b. is_in before x.key || b) ((bytes_decides bytes (identity x)).1 (sym e)) ∙ or-true (is_in before x.key))
 
   own_by_bytes : filter (λ (m : Marker). bytes_eq bytes (identity m)) ms ≡ markers_of kind metric ms
   unfolding bytes

@@ -1,5 +1,5 @@
 -- Values by a key of bytes: one value more, and the values of one key changed.
-use Rattle.std.proofs.Common.{◌≡◌, ℕ, zero, suc, ◌<◌, Bool, true, false, cond, not, ◌||◌, List, [], ◌∷◌, ◌++◌, map, filter, length, get_or, set, Some, refl, sym, ap, ◌∙◌, arith}
+use Rattle.std.proofs.Common.{◌≡◌, ℕ, zero, suc, Bool, true, false, cond, not, ◌||◌, List, [], ◌∷◌, ◌++◌, map, filter, get_or, set, Some, refl, sym, ap, ◌∙◌}
 use Rattle.std.specs.Prelude.{slice_get}
 use Rattle.std.specs.List.{IsDistinct, AllByRecursion, list_any}
 use Rattle.std.specs.Str.{bytes_eq}
@@ -106,12 +106,6 @@ module _ {A : Type 0} (id : A → List ℕ) where
   unfolding IsDistinct
   firsts_distinct [] = tt
   firsts_distinct (x ∷ xs) = (others_pass x (firsts xs), distinct_kept same (λ z. not (same x z)) (firsts xs) (firsts_distinct xs))
-
-  -- a place with a key is within
-  pub key_within : (xs : List A) (at : ℕ) (k : List ℕ) → slice_get (map id xs) at ≡ Some k → at < length xs
-  key_within [] at k e = absurd cc
-  key_within (x ∷ xs) zero k e = omega arith
-  key_within (x ∷ xs) (suc at) k e = let within = key_within xs at k e in omega (arith, within)
 
   -- the value at a place with a key has it
   pub key_at : {B : Type 0} (f : A → B) (P : B → Type 0) (xs : List A) (at : ℕ) (k : List ℕ) (d : B) → ((x : A) → id x ≡ k → P (f x)) → slice_get (map id xs) at ≡ Some k → P (get_or (map f xs) at d)

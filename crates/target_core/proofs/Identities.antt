@@ -1,10 +1,11 @@
 -- A metric's name, kind and unit as bytes: no two have the same.
-use Rattle.std.proofs.Common.{◌≡◌, ℕ, Bool, true, false, ◌&&◌, List, [], ◌∷◌, ◌++◌, map, get_or, set, refl, sym, ap, ◌∙◌}
+use Rattle.std.proofs.Common.{◌≡◌, ℕ, ◌&&◌, List, [], ◌∷◌, ◌++◌, map, get_or, set, refl, ap, ◌∙◌}
 use Rattle.std.specs.List.{flat_map}
 use Rattle.std.specs.Str.{bytes_eq}
 use Rattle.std.specs.Cmp.Lexicographic.{bytes_decides}
 use Rattle.std.proofs.Math.Seq.{map-set_same}
 use Rattle.std.proofs.lemmas.Bool.Decides.{Decides-eqb}
+use Rattle.std.proofs.lemmas.Bool.{and_parts, and_from}
 use Rattle.label_sets.specs.declared.kind.Kind.{Kind}
 use Rattle.label_sets.specs.declared.series_key.SeriesKey.{SeriesKey}
 use Rattle.label_sets.specs.Keys.{kind_place, kind_eq, identity_eq}
@@ -38,27 +39,17 @@ told (b ∷ name) (c ∷ other) k l unit measure e =
     let t = told name other k l unit measure rest in
     record { name_is = ap (λ x. x ∷ name) first ∙ ap (λ xs. c ∷ xs) t.name_is; kind_is = t.kind_is; unit_is = t.unit_is }
 
-all_three : (a b c : Bool) → a ≡ true → b ≡ true → c ≡ true → (a && b && c) ≡ true
-all_three true true true e f g = refl
-all_three true true false e f g = absurd cc
-all_three true false c e f g = absurd cc
-all_three false b c e f g = absurd cc
-
-first_of_three : (a b c : Bool) → (a && b && c) ≡ true → (a ≡ true) × (b ≡ true) × (c ≡ true)
-first_of_three true true true e = (refl, refl, refl)
-first_of_three true true false e = absurd cc
-first_of_three true false c e = absurd cc
-first_of_three false b c e = absurd cc
-
 -- names, kinds and units are equal just where their bytes are
 by_bytes : (name other : List ℕ) (k l : Kind) (unit measure : List ℕ) → (bytes_eq name other && kind_eq k l && bytes_eq unit measure) ≡ bytes_eq (identity_bytes name k unit) (identity_bytes other l measure)
 unfolding identity_bytes marked
 by_bytes name other k l unit measure = same_tests (bytes_eq name other && kind_eq k l && bytes_eq unit measure) (bytes_eq (identity_bytes name k unit) (identity_bytes other l measure))
-    (λ e. let t = first_of_three (bytes_eq name other) (kind_eq k l) (bytes_eq unit measure) e in
+    (λ e. let all = and_parts (bytes_eq name other && kind_eq k l) (bytes_eq unit measure) e in
+    let two = and_parts (bytes_eq name other) (kind_eq k l) all.0 in
     (bytes_decides (identity_bytes name k unit) (identity_bytes other l measure)).1
-    (λ i. flat_map (λ (b : ℕ). 1 ∷ b ∷ []) ((bytes_decides name other).0 t.0 i) ++ (0 ∷ (Decides-eqb (kind_place k) (kind_place l)).0 t.1 i ∷ (bytes_decides unit measure).0 t.2 i)))
+    (λ i. flat_map (λ (b : ℕ). 1 ∷ b ∷ []) ((bytes_decides name other).0 two.0 i) ++ (0 ∷ (Decides-eqb (kind_place k) (kind_place l)).0 two.1 i ∷ (bytes_decides unit measure).0 all.1 i)))
     (λ e. let t = told name other (kind_place k) (kind_place l) unit measure ((bytes_decides (identity_bytes name k unit) (identity_bytes other l measure)).0 e) in
-    all_three (bytes_eq name other) (kind_eq k l) (bytes_eq unit measure) ((bytes_decides name other).1 t.name_is) ((Decides-eqb (kind_place k) (kind_place l)).1 t.kind_is) ((bytes_decides unit measure).1 t.unit_is))
+    and_from (bytes_eq name other && kind_eq k l) (bytes_eq unit measure)
+    (and_from (bytes_eq name other) (kind_eq k l) ((bytes_decides name other).1 t.name_is) ((Decides-eqb (kind_place k) (kind_place l)).1 t.kind_is)) ((bytes_decides unit measure).1 t.unit_is))
 
 pub keys_by_bytes : (a b : SeriesKey) → identity_eq a b ≡ bytes_eq (key_identity a) (key_identity b)
 keys_by_bytes a b = by_bytes a.name b.name a.kind b.kind a.unit b.unit

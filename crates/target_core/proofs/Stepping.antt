@@ -77,9 +77,6 @@ kept_markers t k past now tracks = same_starts (is_gone now.page) (marker_with (
 
 -- ---- the rows behind all scrapes
 
-pub told_now : (s : Following) (k : Tracked) → s.pending ≡ false → k ≡ s.tracked → (target : Scraped) (t : Tracking) (events : List Event) → StandsFor target t s events → Tracks t k (scrapes_of events)
-told_now s k pending is target t events stands = subst (λ (x : Tracked). Tracks t x (scrapes_of events)) (sym is) (subst (λ (b : Bool). Tracks t s.tracked (told_scrapes b (scrapes_of events))) pending stands.tracks)
-
 pub told_late : (s : Following) (moment : ℕ) (starts : Starts) (k : Tracked) → s.pending ≡ true → s.moment ≡ Some moment → Advances s.tracked s.page moment starts k
     → (target : Scraped) (t : Tracking) (events : List Event) → StandsFor target t s events → Tracks t k (scrapes_of events)
 told_late s moment starts k pending at step target t events stands =

@@ -1,6 +1,6 @@
 -- The points without a recorded value, one for each series that is gone, and their places among the metrics.
 -- OTLP 1.x, "DataPointFlags" (no recorded value); OpenTelemetry metrics data model, "Resets and Gaps" and "Timeseries Model" (identity).
-use Rattle.std.specs.Prelude.{ℕ, Bool, true, false, not, ◌&&◌, List, [], ◌++◌, map, filter, filter_map, Option, Some, None, option_map, unwrap_or}
+use Rattle.std.specs.Prelude.{Bool, true, false, not, ◌&&◌, List, [], ◌++◌, map, filter, filter_map, Option, Some, None, option_map, unwrap_or}
 use Rattle.std.specs.List.{list_any}
 use Rattle.std.specs.Str.{bytes_eq}
 use Rattle.label_sets.specs.declared.kind.Kind.{Kind}

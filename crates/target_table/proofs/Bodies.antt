@@ -3,6 +3,7 @@ use Rattle.std.proofs.Common.{◌≡◌, ℕ, ◌≤◌, ◌<◌, Bool, true, fa
 use Rattle.std.specs.Prelude.{◌==◌, nat_lt, ⊤}
 use Rattle.std.specs.List.{slice_get}
 use Rattle.std.proofs.lemmas.Bool.Decides.{nat_tests}
+use Rattle.std.proofs.lemmas.List.{nil_from_length}
 use Rattle.std.proofs.lemmas.Option.{slice_get-map}
 use Rattle.std.proofs.lemmas.Bool.{and_parts}
 use Rattle.target_core.specs.Events.{latest_shown}
@@ -15,7 +16,7 @@ use Rattle.series_table.specs.Emission.{IsHistoryOf}
 use Rattle.series_table.specs.Records.{BodiesOf, further_talks}
 use Rattle.target_table.specs.Machine.{Out, OneTarget, Deed, TableStep, taking, visiting, halting, putting, deed_at, paging, fresh, may_go, visits_of, May, MayVisit, MayHalt, MayPut, Allowed, taken_by, visited_with, halted_with, put_back, was_visited, done, changed_at, step_from, state_after, TableRun}
 use Rattle.target_table.specs.Laws.{BodiesInEveryRun}
-use Rattle.target_table.proofs.Places.{get_same, get_other, equal_numbers, unequal_numbers}
+use Rattle.target_table.proofs.Places.{get_same, get_other, equal_numbers, unequal_numbers, below}
 
 -- ---- what is kept of one target
 
@@ -43,15 +44,8 @@ no_out : (o : Option Out) → is_none o ≡ true → o ≡ None
 no_out None e = refl
 no_out (Some x) e = absurd cc
 
-below : (a b : ℕ) → nat_lt a b ≡ true → a < b
-below a b e = grind (arith, nat_tests)
-
 not_below : (a b : ℕ) → nat_lt a b ≡ false → b ≤ a
 not_below a b e = grind (arith, nat_tests)
-
-empty_list : {A : Type 0} (xs : List A) → length xs ≤ 0 → xs ≡ []
-empty_list [] h = refl
-empty_list (x ∷ xs) h = absurd (omega arith)
 
 take_fine : (w : Talking) (rounds : ℕ) (f : Followed) (o : OneTarget) (lane : ℕ) → may_go rounds o ≡ true → Fine w rounds f o → Fine w rounds f (taken_by lane o)
 unfolding taken_by OutFacts
@@ -64,7 +58,7 @@ take_fine w rounds f o lane may h =
 
 nothing_further : (w : Talking) (o : OneTarget) → o.halted ≡ false → (b : BodiesOf w o.followed (further_talks o.halted) o.scrapes o.posts o.events o.posted) → b.tells.counted ≡ o.scrapes
 nothing_further w o working b =
-    let none : b.tells.further ≡ [] = empty_list b.tells.further (subst (λ h. length b.tells.further ≤ further_talks h) working b.tells.few) in
+    let none : b.tells.further ≡ [] = nil_from_length b.tells.further (omega (arith, subst (λ h. length b.tells.further ≤ further_talks h) working b.tells.few)) in
     ap (λ xs. xs ++ b.tells.counted) (sym none) ∙ sym b.tells.talks_are
 
 visit_fine : (w : Talking) (rounds : ℕ) (f : Followed) (o : OneTarget) (lane : ℕ) (talk : Talk) (e : Event) (tried : List Talk) (p : Posted) → MayVisit w lane talk e tried p o → Fine w rounds f o → Fine w rounds f (visited_with talk e tried p o)

@@ -1,15 +1,14 @@
 -- What a page shows of a target.
-use Rattle.std.proofs.Common.{◌≡◌, ℕ, zero, suc, false, List, [], ◌∷◌, ◌++◌, Option, Some, None, option_map, refl, sym, ap, ◌∙◌}
+use Rattle.std.proofs.Common.{◌≡◌, ℕ, zero, suc, false, List, [], ◌∷◌, ◌++◌, Option, option_map, refl, sym, ap, ◌∙◌}
 use Rattle.std.specs.List.{slice_get}
 use Rattle.std.proofs.lemmas.Option.{slice_get-map}
 use Rattle.page_model.specs.declared.event.Event.{Event}
 use Rattle.page_model.specs.declared.event.Shown.{Shown}
 use Rattle.bridge_ports.specs.declared.talk.Talk.{Talk}
 use Rattle.otlp_sender.specs.declared.posted.Posted.{Posted}
-use Rattle.series_table.specs.Talking.{Talking, Followed}
+use Rattle.series_table.specs.Talking.{Talking}
 use Rattle.series_table.specs.Records.{Kept}
-use Rattle.target_table.specs.Runs.{Run}
-use Rattle.target_table.specs.Machine.{OneTarget, TableStep, taking, visiting, halting, putting, deed_at, paging, taken_by, visited_with, halted_with, done, changed_at, step_from, state_after, pages_seen, own_steps, alone}
+use Rattle.target_table.specs.Machine.{OneTarget, TableStep, taking, visiting, halting, putting, deed_at, paging, taken_by, visited_with, halted_with, done, changed_at, step_from, state_after, pages_seen}
 use Rattle.target_table.specs.Paging.{federated_text, is_put_of}
 use Rattle.target_table.specs.Mirrors.{Mirrors, PageIsAStep}
 use Rattle.target_table.specs.Laws.{HasOwnRun, PagesAreOwn, SeenUntilPut}

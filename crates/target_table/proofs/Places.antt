@@ -1,8 +1,8 @@
 -- A list of which the element at one place is another, and whose turn it is.
-use Rattle.std.proofs.Common.{◌≡◌, ℕ, zero, suc, Bool, true, false, ◌==◌, List, [], ◌∷◌, Some, refl, sym, ap, ◌∙◌}
+use Rattle.std.proofs.Common.{◌≡◌, ℕ, zero, suc, Bool, true, false, ◌==◌, List, [], ◌∷◌, Some, refl, sym, ap, ◌∙◌, nat_lt, ◌<◌, arith}
 use Rattle.std.specs.List.{slice_get}
 use Rattle.std.proofs.lemmas.Option.{none-some, same_Some}
-use Rattle.std.proofs.lemmas.Bool.Decides.{Decides-eqb}
+use Rattle.std.proofs.lemmas.Bool.Decides.{Decides-eqb, nat_tests}
 use Rattle.target_table.specs.Machine.{turn_of, changed_at}
 
 pub get_same : {A : Type 0} (f : A → A) (xs : List A) (i : ℕ) (x : A) → slice_get xs i ≡ Some x → slice_get (changed_at f xs i) i ≡ Some (f x)
@@ -16,6 +16,9 @@ get_other f (y ∷ ys) zero zero apart = absurd (apart refl)
 get_other f (y ∷ ys) (suc i) zero apart = refl
 get_other f (y ∷ ys) zero (suc j) apart = refl
 get_other f (y ∷ ys) (suc i) (suc j) apart = get_other f ys i j (λ e. apart (ap suc e))
+
+pub below : (a b : ℕ) → nat_lt a b ≡ true → a < b
+below a b e = grind (arith, nat_tests)
 
 pub equal_numbers : (i j : ℕ) → (i == j) ≡ true → i ≡ j
 equal_numbers i j e = (Decides-eqb i j).0 e

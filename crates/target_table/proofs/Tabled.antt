@@ -2,7 +2,6 @@
 use Rattle.std.proofs.Common.{◌≡◌, ◌≢◌, ℕ, zero, suc, ◌+◌, ◌≤◌, ◌<◌, ◌⊎◌, inl, inr, Bool, true, false, cond, not, ◌&&◌, ◌==◌, List, [], ◌∷◌, length, Option, Some, None, refl, sym, ap, subst, ◌∙◌, arith}
 use Rattle.std.specs.Prelude.{nat_lt}
 use Rattle.std.specs.List.{slice_get}
-use Rattle.std.proofs.lemmas.Bool.Decides.{nat_tests}
 use Rattle.std.proofs.lemmas.Option.{none-some, same_Some}
 use Rattle.std.proofs.lemmas.Bool.{and_parts}
 use Rattle.page_model.specs.declared.event.Shown.{Shown}
@@ -13,7 +12,7 @@ use Rattle.series_table.specs.Moving.{without_second}
 use Rattle.series_table.proofs.Laws.{track-without_second}
 use Rattle.target_table.specs.Machine.{changed_at, turn_of, first_place, fewest}
 use Rattle.target_table.specs.Tables.{Held, Leased, holders, may_leave, visits_in, next_place, IsTrackHome, IsSlot, AreSlots, AreNumbers, IsTable, IsLease, MayBePut, seen_after, TakesTarget, PutsTarget, IsTrackAt}
-use Rattle.target_table.proofs.Places.{equal_numbers, unequal_numbers, same_number}
+use Rattle.target_table.proofs.Places.{equal_numbers, unequal_numbers, same_number, below}
 
 -- ---- lists with one element changed
 
@@ -161,9 +160,6 @@ turn-passes {A} visits test xs i x e at = go (fewest visits test xs) refl
     go : (o : Option ℕ) → fewest visits test xs ≡ o → test x ≡ true
     go None p = absurd (none-some i (rw p at e))
     go (Some n) p = (and_parts (test x) (visits x == n) (first-passes (λ z. test z && visits z == n) xs i x (rw p at e) at)).0
-
-below : (a b : ℕ) → nat_lt a b ≡ true → a < b
-below a b e = grind (arith, nat_tests)
 
 -- what is taken is a track of the run's target, which knows its visits and has no second page
 pub record IsTakenTrack (w : Talking) (run : Run) (place : ℕ) (k : Kept) : Type 0 where

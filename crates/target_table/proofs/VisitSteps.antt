@@ -1,5 +1,6 @@
 -- A visit of a track is a deed of the machine, where a talk comes to one outcome.
 use Rattle.std.proofs.Common.{◌≡◌, ℕ, suc, ◌+◌, ◌≤◌, inl, inr, Bool, true, false, cond, List, [], ◌∷◌, ◌++◌, length, Option, Some, None, is_some, refl, sym, ap, subst, ◌∙◌, arith}
+use Rattle.std.proofs.lemmas.List.{nil_from_length}
 use Rattle.page_model.specs.declared.event.Event.{Event}
 use Rattle.target_core.specs.Events.{latest_shown}
 use Rattle.series_table.specs.declared.counts.Counts.{Counts}
@@ -36,10 +37,6 @@ history_once w f (a ∷ es) [] (talk ∷ talks) once p q = absurd q
 told_some : {A : Type 0} (o : Option A) (p : Option A) (x : A) → is_some p ≡ is_some o → o ≡ Some x → (y : A) × (p ≡ Some y)
 told_some o None x e there = absurd (let f : false ≡ true = e ∙ ap is_some there in cc)
 told_some o (Some y) x e there = (y, refl)
-
-nothing : {A : Type 0} (xs : List A) → length xs ≤ 0 → xs ≡ []
-nothing [] h = refl
-nothing (x ∷ xs) h = absurd (omega arith)
 
 visit-done : (w : Talking) (lane rounds : ℕ) (before after : Kept) (o : OneTarget) → HasOneOutcome w → TrackMirrors before o → IsHistoryOf w o.followed o.scrapes o.events → Visits w before after Done
     → o.out ≡ Some (record { lane = lane; from = visits_of o }) → IsDeedOrNone w rounds o after
@@ -89,7 +86,7 @@ visit-halted w lane rounds before after o m v out = go before.halted refl
 
     go : (b : Bool) → before.halted ≡ b → IsDeedOrNone w rounds o after
     go true e =
-        let none : is.further ≡ [] = nothing is.further (subst (λ b. length is.further ≤ cond b 0 1) e is.few) in
+        let none : is.further ≡ [] = nil_from_length is.further (omega (arith, subst (λ b. length is.further ≤ cond b 0 1) e is.few)) in
         inr (record {
           followed = v.same.followed ∙ m.followed;
           scrapes = scrapes.1 ∙ ap Some (is.scraped ∙ ap (λ ts. ts ++ o.scrapes) none);

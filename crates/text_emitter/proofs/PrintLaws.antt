@@ -1,53 +1,22 @@
 -- What writing a piece leaves of a text that is written through some room.
-use Rattle.std.proofs.Common.{◌≡◌, ◌≢◌, ℕ, ◌≤◌, Bool, true, false, List, [], ◌∷◌, ◌++◌, Option, Result, Ok, Err, OnOk, OnErr, is_err, refl, sym, ap, ◌∙◌, subst, fold, append_assoc, append-nil}
+use Rattle.std.proofs.Common.{◌≡◌, ℕ, ◌≤◌, Bool, true, false, List, [], ◌∷◌, ◌++◌, Option, Result, Ok, Err, OnOk, OnErr, is_err, refl, sym, ap, ◌∙◌, subst, fold, append_assoc, append-nil}
 use Rattle.std.specs.Bool.{⊤}
 use Rattle.std.proofs.lemmas.Bool.{true≢false}
 use Rattle.std.specs.Io.KnownBytes.{Appends}
 use Rattle.bridge_ports.specs.Causes.{Rose, HasCause}
 use Rattle.bridge_ports.specs.Writing.{WroteFront}
 use Rattle.bridge_ports.proofs.Laws.{appends_twice, front_behind}
-use Rattle.text_emitter.specs.Printing.{Printing, printing, print_push, IsGoingOn, IsCutOff, Prints}
+use Rattle.text_emitter.specs.Printing.{Printing, printing, print_push, IsGoingOn, Prints}
 
 -- a whole piece is put behind a text
 pub print_folded : (p : Printing) (piece : List ℕ) → fold print_push p piece ≡ printing p (p.text ++ piece)
 print_folded p [] = ap (printing p) (sym (append-nil p.text))
 print_folded p (x ∷ xs) = print_folded (print_push p x) xs ∙ ap (printing p) (append_assoc p.text (x ∷ []) xs)
 
--- some bytes are left where more come behind them
-some_still : (rest more : List ℕ) → rest ≢ [] → rest ++ more ≢ []
-some_still [] more some none = some refl
-some_still (x ∷ xs) more some none = absurd (let no : x ∷ (xs ++ more) ≡ [] = none in cc)
-
 -- where a write failed, the room does not count
 pub room_is_lost : (held : Option (List ℕ)) (faults : ℕ) (room other : List ℕ) (failed : Bool) (p : Printing) → failed ≡ true → Prints held faults room failed p → Prints held faults other failed p
 room_is_lost held faults room other true p lost prints = record { going_on = λ going. absurd (true≢false going); cut_off = prints.cut_off }
 room_is_lost held faults room other false p lost prints = absurd (true≢false (sym lost))
-
--- a text that was cut off stays so
-pub cut_off_more : (held : Option (List ℕ)) (faults : ℕ) (p : Printing) (piece : List ℕ) → IsCutOff held faults p → IsCutOff held faults (printing p (p.text ++ piece))
-cut_off_more held faults p piece cut = record {
-  written = record {
-    front = cut.written.front;
-    rest = cut.written.rest ++ piece;
-    text = ap (λ (l : List ℕ). l ++ piece) cut.written.text ∙ append_assoc cut.written.front cut.written.rest piece;
-    some_left = some_still cut.written.rest piece cut.written.some_left;
-    written = cut.written.written;
-  };
-  rose = cut.rose;
-  later = cut.later;
-}
-
--- a piece is put in the room
-pub room_more : (held : Option (List ℕ)) (faults : ℕ) (room piece : List ℕ) (failed : Bool) (p : Printing) → Prints held faults room failed p → Prints held faults (room ++ piece) failed (printing p (p.text ++ piece))
-room_more held faults room piece failed p prints = record {
-  going_on = λ going. let on = prints.going_on going in record {
-    front = on.front;
-    text = ap (λ (l : List ℕ). l ++ piece) on.text ∙ append_assoc on.front room piece;
-    written = on.written;
-    kept = on.kept;
-  };
-  cut_off = λ lost. cut_off_more held faults p piece (prints.cut_off lost);
-}
 
 -- what is in the room was written, or a write failed
 pub room_written : {E : Type 0} (held now : Option (List ℕ)) (faults later : ℕ) (room : List ℕ) (r : Result ⊤ E) (p : Printing)

@@ -76,11 +76,6 @@ next-label w cs rest before after l (More r) e none found grown u h = (
 next-label w cs rest before after l Broken e none found grown u h = λ more.
     labels_after cs (l, rest) (sym none) found more w e ∙ rw (h.0, h.1) refl
 
--- with none read before
-pub no_labels : (o : Option (List Label × List ℕ)) → o ≡ behind_labels [] o
-no_labels None = refl
-no_labels (Some x) = refl
-
 -- ---- what stands between a name and a value
 
 pub middle-labels : (cs w inner : List ℕ) → w ≡ without_leading_blanks cs → Some inner ≡ behind (123 ∷ []) w → middle_at cs ≡ (labels_at (length inner) inner >>= λ x. Some (x.0, without_leading_blanks x.1))

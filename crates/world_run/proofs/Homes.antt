@@ -104,17 +104,6 @@ still_out at ks now next many out others = λ i d within.
       given_is = others.addresses (i + 1) other ∙ (out i d within).given_is;
     }
 
--- no track is taken yet
-pub none_taken : (c : Config) (before : Outside) → AreTaken c 0 [] before before
-none_taken c before = record {
-  many = refl;
-  first = λ i d within. absurd (omega (arith, within));
-  targets = refl;
-  was = λ i d within. absurd (omega (arith, within));
-  out = λ i d within. absurd (omega (arith, within));
-  rest = record { world = refl; files = refl; homes = λ n outside. refl; addresses = λ n outside. refl };
-}
-
 -- one track more is taken
 one_taken : (c : Config) (at : ℕ) (t : Scraped) (ks : List Kept) (k : Kept) (before now next : Outside) → at < length c.targets → t ≡ get_or c.targets at t → AreTaken c at ks before now
     → IsFirstTrack c at k → k.followed.target ≡ t → IsPairOf now.home at k → IsOut next.home next.given at k → KeepsOtherPairs (at + 1) now next → AreTaken c (at + 1) (ks ++ k ∷ []) before next

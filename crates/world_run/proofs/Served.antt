@@ -1,6 +1,6 @@
 -- A run beside a door is one over the wires alone, between the door's opening and its coming back.
 use Rattle.std.proofs.Common.{◌≡◌, ◌⊎◌, ℕ, List, Option, Some, None, Result, Ok, Err, refl, sym, ap, subst, ◌∙◌, inl, inr}
-use Rattle.std.specs.Prelude.{IfOk, OnErr, IfSome, IsSome, option_map}
+use Rattle.std.specs.Prelude.{IfOk, OnErr, option_map}
 use Rattle.bridge_ports.specs.declared.talk.Address.{Address}
 use Rattle.bridge_ports.specs.Causes.{Rose}
 use Rattle.bridge_ports.specs.Doors.{DoorState, new_door}
@@ -95,12 +95,6 @@ pub result_unserved : {T X D : Type 0} (r : Result T X) (shown : D → DoorState
     → OnErr r (IsNotBegun c mid late) → OnErr r (closed ≡ opened) → OnErr r (IsUnserved c coming before after)
 result_unserved (Ok t) shown opened closed c coming before mid late after through run same = tt
 result_unserved (Err x) shown opened closed c coming before mid late after through run same = unserved c coming before mid late after (option_map shown opened) (option_map shown closed) through run (ap (option_map shown) same)
-
--- a door that was opened was asked for
-pub asked_for : (c : Config) (coming : Coming) (before after : WorldState) (opened : Option DoorState) → HasAsked c coming before after opened → IfSome opened (λ d. IsSome after.door_at)
-asked_for c coming before after opened (nothing_asked none) = tt
-asked_for c coming before after opened (asked_in_vain at faults is rose) = tt
-asked_for c coming before after opened (asked_and_opened at is) = refl
 
 -- a door that could be opened is that of the configuration
 pub opened_is : (c : Config) (coming : Coming) (before after : WorldState) (at : Address) (d : DoorState) → c.door ≡ Some at → after ≡ record before { door_at = Some at; door_faults = after.door_faults } → after.door_faults ≡ before.door_faults → d ≡ new_door (coming at)

@@ -11,7 +11,7 @@ use Rattle.series_table.specs.HttpTalks.{talking}
 use Rattle.series_table.specs.Talking.{Followed, AreInRange}
 use Rattle.series_table.specs.Records.{Kept}
 use Rattle.target_table.specs.Runs.{IsRightRun, is_same_target}
-use Rattle.target_table.specs.Tables.{IsTrackAt, AreTracks, AreUnvisited}
+use Rattle.target_table.specs.Tables.{IsTrackAt, AreTracks}
 use Rattle.scraper_pool.specs.Turns.{run_of}
 use Rattle.bridge_config.specs.declared.config.Config.{Config}
 use Rattle.bridge_config.specs.ConfigFaults.{have_same_names}
@@ -62,9 +62,6 @@ own_tracks_from (k ∷ ks) place each =
 
 pub own_tracks : (c : Config) (ks : List Kept) → EachTrack (IsFirstTrack c) ks → AreTracks talking 0 (map (λ (k : Kept). k.followed) ks) ks
 own_tracks c ks first = own_tracks_from ks 0 (λ i d less. let same : i ≡ 0 + i = omega arith in subst (λ n. IsTrackAt talking (get_or ks i d).followed n (get_or ks i d)) same (first i d less).at)
-
-pub none_visited : (c : Config) (ks : List Kept) → EachTrack (IsFirstTrack c) ks → AreUnvisited ks
-none_visited c ks first = λ i d less. ((first i d less).unvisited, (first i d less).goes_on)
 
 -- the tracks that a run gives back are those of its targets
 pub same_followed : (fs : List Followed) (place : ℕ) (ks : List Kept) → AreTracks talking place fs ks → map (λ (k : Kept). k.followed) ks ≡ fs

@@ -6,7 +6,7 @@ use Rattle.std.specs.Ordering.{is_lt, is_eq}
 use Rattle.std.specs.declared.cmp.Ordering.{Ordering}
 use Rattle.std.specs.declared.cmp.Ordering.TheVariants.{Less, Equal, Greater}
 use Rattle.std.specs.Str.{bytes_eq}
-use Rattle.std.proofs.lemmas.Bool.{and_parts, not-true}
+use Rattle.std.proofs.lemmas.Bool.{and_parts, not-true, and_left, and_right}
 use Rattle.label_sets.specs.Names.{is_metric_name}
 use Rattle.page_model.proofs.Laws.{label_sets_decide}
 use Rattle.std.proofs.lemmas.Bool.Decides.{nat_tests}
@@ -37,10 +37,10 @@ use Rattle.page_model.specs.Readings.{key_name, reading_labels}
 use Rattle.open_writing.specs.Writing.{bare_sample, number_sample, with_number_label, bucket_sample, quantile_sample, count_suffix, sum_suffix, total_samples, observations, value_samples, reading_samples}
 use Rattle.open_writing.specs.Forms.{IsFormedNumber, is_plain_value, is_u64, is_next_bucket, rise_to_infinity, is_one_place, IsFormedValue, IsFormedTime, IsFormedReading, label_sets_of}
 use Rattle.writing_laws.proofs.Turned.{all-map, all-of, none-any, Pairs, pairs-append, pairs-map, pairs-weaker, pairs-flat}
-use Rattle.writing_laws.proofs.GroupedSamples.{other_group, written_threshold}
+use Rattle.writing_laws.proofs.PutLabels.{other_group, written_threshold}
 use Rattle.writing_laws.proofs.BucketRules.{follows}
 use Rattle.writing_laws.proofs.ValuesBack.{suffix_is}
-use Rattle.writing_laws.proofs.FairParts.{and_first, and_last, name_test, IsFair}
+use Rattle.writing_laws.proofs.FairParts.{name_test, IsFair}
 use Rattle.writing_laws.proofs.Fair.{IsFairBucket, IsFairQuantile, fair_of, fair_reading, written_place}
 
 -- ---- numbers
@@ -124,7 +124,7 @@ module _ (limit : ℕ) (family : List ℕ) where
   to_one : (kind : Kind) (xs : List Sample) (b : List ℕ) (labels : LabelSet) (n : Number) → bytes_eq b (codes "_bucket") ≡ false → bytes_eq b [] ≡ false → AllByRecursion (NotNamed b) xs
       → AllByRecursion (λ x. IsApart kind x (bare_sample (family ++ b) labels n)) xs
   to_one kind xs b labels n e f h =
-      all-weaker (NotNamed b) (λ x. IsApart kind x (bare_sample (family ++ b) labels n)) (λ x g. (and_first _ _ g, order_free kind x (bare_sample (family ++ b) labels n) (unplaced_by kind b labels n e f))) xs h
+      all-weaker (NotNamed b) (λ x. IsApart kind x (bare_sample (family ++ b) labels n)) (λ x g. (and_left _ _ g, order_free kind x (bare_sample (family ++ b) labels n) (unplaced_by kind b labels n e f))) xs h
 
   to_option : (kind : Kind) (xs : List Sample) (b : List ℕ) (labels : LabelSet) (o : Option Number) → bytes_eq b (codes "_bucket") ≡ false → bytes_eq b [] ≡ false → AllByRecursion (NotNamed b) xs
       → AllByRecursion (λ x. AllByRecursion (IsApart kind x) (number_sample (family ++ b) labels o)) xs
@@ -163,7 +163,7 @@ module _ (limit : ℕ) (family : List ℕ) where
 
   bucket_differs : (labels : LabelSet) (b c : Bucket) → has_name labels (codes "le") ≡ false → Rise b c → Differ (bucket_sample family labels b) (bucket_sample family labels c)
   bucket_differs labels b c free r =
-      and_last _ _ (other_group (with_number_label (codes "le") b.le labels) (with_number_label (codes "le") c.le labels) (λ e.
+      and_right _ _ (other_group (with_number_label (codes "le") b.le labels) (with_number_label (codes "le") c.le labels) (λ e.
       let read : threshold (bucket_sample family labels b) ≡ threshold (bucket_sample family labels c) = ap (λ ls. threshold (bare_sample family ls (number_of 0))) e in
       let one : b.le ≡ c.le = sym (written_threshold family labels b free r.first.0) ∙ read ∙ written_threshold family labels c free r.second.0 in
       absurd (let k : false ≡ true = sym (not_itself b.le) ∙ ap (less b.le) one ∙ r.bound in cc)))
@@ -193,7 +193,7 @@ module _ (limit : ℕ) (family : List ℕ) where
   total_pairs : (kind : Kind) (labels : LabelSet) (bs : List Bucket) (sum : Option Number) → HasTotals kind → Pairs (IsApart kind) (total_samples kind family labels bs sum)
   total_pairs kind labels bs None w = tt
   total_pairs kind labels bs (Some n) w =
-      (((and_first _ _ (name_test family (count_suffix kind) (sum_suffix kind) ∙ w.count_sum), order_free kind _ (bare_sample (family ++ sum_suffix kind) labels n) (unplaced_by kind (sum_suffix kind) labels n w.sum_bucket w.sum_own)), tt), (tt, tt))
+      (((and_left _ _ (name_test family (count_suffix kind) (sum_suffix kind) ∙ w.count_sum), order_free kind _ (bare_sample (family ++ sum_suffix kind) labels n) (unplaced_by kind (sum_suffix kind) labels n w.sum_bucket w.sum_own)), tt), (tt, tt))
 
   to_totals : (kind : Kind) (xs : List Sample) (labels : LabelSet) (bs : List Bucket) (sum : Option Number) → HasTotals kind → AllByRecursion (NotNamed (count_suffix kind)) xs → AllByRecursion (NotNamed (sum_suffix kind)) xs
       → AllByRecursion (λ x. AllByRecursion (IsApart kind x) (total_samples kind family labels bs sum)) xs
@@ -233,7 +233,7 @@ module _ (limit : ℕ) (family : List ℕ) where
       two p f e =
           let first = written_place limit family labels q free h.0.0 in
           let second = written_place limit family labels p free f.0 in (
-            and_last _ _ (other_group (with_number_label (codes "quantile") (Finite q.at) labels) (with_number_label (codes "quantile") (Finite p.at) labels) (λ k.
+            and_right _ _ (other_group (with_number_label (codes "quantile") (Finite q.at) labels) (with_number_label (codes "quantile") (Finite p.at) labels) (λ k.
                 let read : quantile_at (quantile_sample family labels q) ≡ quantile_at (quantile_sample family labels p) = ap (λ ls. quantile_at (bare_sample family ls (number_of 0))) k in
                 let one : Finite q.at ≡ Finite p.at = sym first ∙ read ∙ second in
                 absurd (let g : false ≡ true = sym e ∙ ap (same (Finite q.at)) (sym one) ∙ same_itself q.at in cc))),
@@ -241,7 +241,7 @@ module _ (limit : ℕ) (family : List ℕ) where
                 let t = quantile_sample family labels q in
                 let s = quantile_sample family labels p in
                 let other : same (quantile_at t) (quantile_at s) ≡ false = rw (first, second) e in
-                and_last (has_suffix family [] t && in_one_group st Summary family t s) (same (quantile_at t) (quantile_at s)) other,
+                and_right (has_suffix family [] t && in_one_group st Summary family t s) (same (quantile_at t) (quantile_at s)) other,
           )
 
       firsts : (ps : List Quantile) → AllByRecursion (IsFairQuantile limit family) ps → AllByRecursion (λ p. is_one_place q p ≡ false) ps → AllByRecursion (IsApart Summary (quantile_sample family labels q)) (map (quantile_sample family labels) ps)
@@ -276,7 +276,7 @@ module _ (limit : ℕ) (family : List ℕ) where
   plain_pairs : (kind : Kind) (labels : LabelSet) (n : Number) (created : Option Number) → is_histogram kind ≡ false → IsFormedTime OpenMetrics kind created → (kind ≡ Summary → ⊥)
       → Pairs (IsApart kind) ((bare_sample (key_name OpenMetrics kind family) labels n ∷ []) ++ number_sample (family ++ codes "_created") labels created)
   plain_pairs kind labels n None h time other = (tt, tt)
-  plain_pairs Counter labels n (Some c) h time other = (((and_first _ _ (name_test family (codes "_total") (codes "_created")), tt), tt), (tt, tt))
+  plain_pairs Counter labels n (Some c) h time other = (((and_left _ _ (name_test family (codes "_total") (codes "_created")), tt), tt), (tt, tt))
   plain_pairs Histogram labels n (Some c) h time other = absurd (let k : true ≡ false = h in cc)
   plain_pairs GaugeHistogram labels n (Some c) h time other = absurd (let k : true ≡ false = h in cc)
   plain_pairs Summary labels n (Some c) h time other = absurd (other refl)
@@ -333,17 +333,17 @@ module _ (limit : ℕ) (family : List ℕ) where
   labels_only _ x s e = e
 
   two_differ : (kind : Kind) (a b : LabelSet) (x s : Sample) → a ≢ b → IsFair limit kind family a x → IsFair limit kind family b s → Differ x s
-  two_differ kind a b x s ne fx fs = and_last _ _ (other_group x.labels s.labels (λ e. ne (sym fx.of ∙ labels_only kind x s e ∙ fs.of)))
+  two_differ kind a b x s ne fx fs = and_right _ _ (other_group x.labels s.labels (λ e. ne (sym fx.of ∙ labels_only kind x s e ∙ fs.of)))
 
   two_ordered : (kind : Kind) (a b : LabelSet) (x s : Sample) → a ≢ b → IsFair limit kind family a x → IsFair limit kind family b s → OrderOf kind x s
   two_ordered Histogram a b x s ne fx fs = λ both bucket.
-      absurd (let other : (is_bucket family x && in_one_group st Histogram family x s) ≡ false = and_last _ _ (other_group (sample_group st Histogram family x) (sample_group st Histogram family s) (λ e. ne (sym fx.of ∙ e ∙ fs.of))) in
+      absurd (let other : (is_bucket family x && in_one_group st Histogram family x s) ≡ false = and_right _ _ (other_group (sample_group st Histogram family x) (sample_group st Histogram family s) (λ e. ne (sym fx.of ∙ e ∙ fs.of))) in
       let k : false ≡ true = sym other ∙ both in cc)
   two_ordered GaugeHistogram a b x s ne fx fs = λ both bucket.
-      absurd (let other : (is_bucket family x && in_one_group st GaugeHistogram family x s) ≡ false = and_last _ _ (other_group (sample_group st GaugeHistogram family x) (sample_group st GaugeHistogram family s) (λ e. ne (sym fx.of ∙ e ∙ fs.of))) in
+      absurd (let other : (is_bucket family x && in_one_group st GaugeHistogram family x s) ≡ false = and_right _ _ (other_group (sample_group st GaugeHistogram family x) (sample_group st GaugeHistogram family s) (λ e. ne (sym fx.of ∙ e ∙ fs.of))) in
       let k : false ≡ true = sym other ∙ both in cc)
   two_ordered Summary a b x s ne fx fs = λ own.
-      and_first _ _ (and_last _ _ (other_group (sample_group st Summary family x) (sample_group st Summary family s) (λ e. ne (sym fx.of ∙ e ∙ fs.of))))
+      and_left _ _ (and_right _ _ (other_group (sample_group st Summary family x) (sample_group st Summary family s) (λ e. ne (sym fx.of ∙ e ∙ fs.of))))
   two_ordered _ a b x s ne fx fs = tt
 
   pub sets_differ : (a b : LabelSet) → label_sets_eq a b ≡ false → a ≢ b
@@ -396,16 +396,16 @@ module _ (limit : ℕ) (family : List ℕ) where
   in_order Histogram above s h = go (is_bucket family s) refl
     where
       go : (b : Bool) → is_bucket family s ≡ b → (is_bucket family s && breaks_bucket_order (filter (λ t. is_bucket family t && in_one_group st Histogram family t s) above) s) ≡ false
-      go true e = and_last _ _ (nearest_first Histogram s above e h)
-      go false e = and_first _ _ e
+      go true e = and_right _ _ (nearest_first Histogram s above e h)
+      go false e = and_left _ _ e
   in_order GaugeHistogram above s h = go (is_bucket family s) refl
     where
       go : (b : Bool) → is_bucket family s ≡ b → (is_bucket family s && breaks_bucket_order (filter (λ t. is_bucket family t && in_one_group st GaugeHistogram family t s) above) s) ≡ false
-      go true e = and_last _ _ (nearest_first GaugeHistogram s above e h)
-      go false e = and_first _ _ e
+      go true e = and_right _ _ (nearest_first GaugeHistogram s above e h)
+      go false e = and_left _ _ e
   in_order Summary above s h = go (has_suffix family [] s) refl
     where
       go : (b : Bool) → has_suffix family [] s ≡ b → (has_suffix family [] s && list_any (λ t. has_suffix family [] t && in_one_group st Summary family t s && same (quantile_at t) (quantile_at s)) above) ≡ false
-      go true e = and_last _ _ (none-any (λ t. has_suffix family [] t && in_one_group st Summary family t s && same (quantile_at t) (quantile_at s)) above (all-weaker (λ t. OrderOf Summary t s) _ (λ t g. g e) above h))
-      go false e = and_first _ _ e
+      go true e = and_right _ _ (none-any (λ t. has_suffix family [] t && in_one_group st Summary family t s && same (quantile_at t) (quantile_at s)) above (all-weaker (λ t. OrderOf Summary t s) _ (λ t g. g e) above h))
+      go false e = and_left _ _ e
   in_order _ above s h = refl

@@ -4,6 +4,7 @@ use Rattle.std.specs.Prelude.{⊤}
 use Rattle.std.specs.List.{list_any}
 use Rattle.std.specs.Str.{bytes_eq}
 use Rattle.std.specs.Cmp.Lexicographic.{bytes_decides}
+use Rattle.std.proofs.Math.Bool.{and-false}
 use Rattle.label_sets.specs.declared.kind.Kind.{Kind}
 use Rattle.page_model.specs.declared.format.Format.{Format}
 use Rattle.page_model.specs.declared.item.Item.{Item}
@@ -86,10 +87,6 @@ pub record MayBegin (st : Setting) (earlier : List Item) (family : List ℕ) : T
   pub new : list_any (is_of family) (owned_lines st.format earlier) ≡ false
   pub complete : leaves_incomplete st (owned_lines st.format earlier) None ≡ false
 
-and_false : (b : Bool) → (b && false) ≡ false
-and_false true = refl
-and_false false = refl
-
 -- without a line of the family, none of them passes a test
 pub none_owned : (family : List ℕ) (test : Owned → Bool) (above : List Owned) → list_any (is_of family) above ≡ false → list_any (λ o. is_of family o && test o) above ≡ false
 none_owned family test [] h = refl
@@ -102,7 +99,7 @@ none_owned family test (o ∷ above) h = go (is_of family o) h (none_owned famil
 
 pub not_behind_eof : (st : Setting) (earlier : List Item) → list_any is_eof earlier ≡ false → is_after_eof st earlier ≡ false
 unfolding is_after_eof
-not_behind_eof st earlier h = rw h (and_false (is_open_metrics st.format))
+not_behind_eof st earlier h = rw h (and-false (is_open_metrics st.format))
 
 not_split : (family : List ℕ) (item : Item) (above : List Owned) → list_any (is_of family) above ≡ false → is_split above (record { family = family; item = item }) ≡ false
 unfolding is_split
@@ -116,7 +113,7 @@ not_split family item (nearest ∷ above) h = go (is_of family nearest) (list_an
 leaves_whole : (st : Setting) (above : List Owned) (family : List ℕ) → leaves_incomplete st above None ≡ false → leaves_incomplete st above (Some family) ≡ false
 unfolding leaves_incomplete
 leaves_whole st [] family h = refl
-leaves_whole st (nearest ∷ above) family h = rw h (and_false (not (is_of family nearest)))
+leaves_whole st (nearest ∷ above) family h = rw h (and-false (not (is_of family nearest)))
 
 pub no_unit_yet : (family : List ℕ) (above : List Owned) → list_any (is_of family) above ≡ false → list_any (gives_unit family) above ≡ false
 no_unit_yet family above h = none_owned family _ above h
@@ -125,7 +122,7 @@ type_unit : (family : List ℕ) (kind : Kind) (above : List Owned) → list_any 
 unfolding is_bad_unit has_forbidden_unit
 type_unit family kind above h =
     let none : list_any (gives_unit family) (record { family = family; item = items.KindOf family kind } ∷ above) ≡ false = rw (own_name family) (no_unit_yet family above h) in
-    rw none (rw (and_false (is_info_or_state_set (kind_of (record { family = family; item = items.KindOf family kind } ∷ above) family))) refl)
+    rw none (rw (and-false (is_info_or_state_set (kind_of (record { family = family; item = items.KindOf family kind } ∷ above) family))) refl)
 
 -- its TYPE line breaks no rule
 pub type_is_free : (st : Setting) (earlier : List Item) (family : List ℕ) (kind : Kind) → MayBegin st earlier family → item_fault st earlier (items.KindOf family kind) ≡ None

@@ -1,14 +1,14 @@
 -- Lines in blocks of distinct families: the families of a page, and what each of its lines says.
-use Rattle.std.proofs.Common.{◌≡◌, ℕ, Bool, true, false, not, cond, List, [], ◌∷◌, ◌++◌, map, filter, filter_map, Option, None, refl, sym, ap, ◌∙◌, append_assoc}
-use Rattle.std.specs.Prelude.{⊤}
+use Rattle.std.proofs.Common.{◌≡◌, ℕ, false, not, cond, List, [], ◌∷◌, ◌++◌, map, filter, filter_map, Option, None, refl, sym, ap, ◌∙◌, append_assoc}
 use Rattle.std.proofs.lemmas.List.{append-nil}
 use Rattle.std.proofs.lemmas.List.Elements.{filter_map-append}
-use Rattle.std.specs.List.{flat_map, AllByRecursion, cons_option}
+use Rattle.std.specs.List.{flat_map, cons_option}
 use Rattle.std.specs.Str.{bytes_eq}
 use Rattle.std.specs.Cmp.Lexicographic.{bytes_decides}
 use Rattle.label_sets.specs.Lists.{first_of_each}
 use Rattle.page_model.specs.declared.item.Item.{Item}
 use Rattle.page_model.specs.Owners.{Owned, is_of}
+use Rattle.writing_laws.proofs.Among as by_key
 use Rattle.writing_laws.proofs.Blocks.{own, own_name}
 use Rattle.writing_laws.proofs.Turned.{filter-twice}
 
@@ -28,19 +28,15 @@ lines_in bs = flat_map owned_of bs
 
 -- none of the families has this name
 abbrev pub Apart : List ℕ → List Lines → Type 0
-Apart name bs = AllByRecursion (λ (b : Lines). bytes_eq name b.name ≡ false) bs
+Apart name bs = by_key.Apart bytes_eq bytes_decides (λ (b : Lines). b.name) name bs
 
 -- no two families have one name
 abbrev pub Distinct : List Lines → Type 0
-Distinct [] = ⊤
-Distinct (b ∷ bs) = Apart b.name bs × Distinct bs
+Distinct bs = by_key.Distinct bytes_eq bytes_decides (λ (b : Lines). b.name) bs
 
-pub turned : (a b : List ℕ) → bytes_eq a b ≡ false → bytes_eq b a ≡ false
-turned a b e = go (bytes_eq b a) refl
-  where
-    go : (c : Bool) → bytes_eq b a ≡ c → bytes_eq b a ≡ false
-    go false f = f
-    go true f = absurd (let h : bytes_eq a b ≡ true = (bytes_decides a b).1 (sym ((bytes_decides b a).0 f)) in let g : false ≡ true = sym e ∙ h in cc)
+-- the block that stands among others
+abbrev pub IsAmong : Lines → List Lines → Type 0
+IsAmong b bs = by_key.IsAmong bytes_eq bytes_decides (λ (b : Lines). b.name) b bs
 
 -- ---- names
 
@@ -58,16 +54,12 @@ names_append : (os ps : List Owned) → names_of (os ++ ps) ≡ names_of os ++ n
 names_append [] ps = refl
 names_append (o ∷ os) ps = ap (λ ns. o.family ∷ ns) (names_append os ps)
 
-apart_kept : (name : List ℕ) (bs : List Lines) → Apart name bs → filter (λ n. not (bytes_eq name n)) (map (λ (b : Lines). b.name) bs) ≡ map (λ (b : Lines). b.name) bs
-apart_kept name [] a = refl
-apart_kept name (b ∷ bs) a = rw a.0 (ap (λ ns. b.name ∷ ns) (apart_kept name bs a.1))
-
 -- the families of the lines are those of the blocks
 pub names_back : (bs : List Lines) → Distinct bs → first_of_each bytes_eq (names_of (lines_in bs)) ≡ map (λ (b : Lines). b.name) bs
 names_back [] d = refl
 names_back (b ∷ bs) d =
     ap (first_of_each bytes_eq) (names_append (owned_of b) (lines_in bs)) ∙ one_name b.name b.first b.others (names_of (lines_in bs))
-    ∙ ap (λ ns. b.name ∷ filter (λ n. not (bytes_eq b.name n)) ns) (names_back bs d.1) ∙ ap (λ ns. b.name ∷ ns) (apart_kept b.name bs d.0)
+    ∙ ap (λ ns. b.name ∷ filter (λ n. not (bytes_eq b.name n)) ns) (names_back bs d.1) ∙ ap (λ ns. b.name ∷ ns) (by_key.apart_kept bytes_eq bytes_decides (λ (b : Lines). b.name) b.name bs d.0)
 
 -- ---- what the lines of one family say
 
@@ -86,15 +78,7 @@ other_said name other h (i ∷ is) e = rw e (other_said name other h is e)
 none_said : {B : Type 0} (name : List ℕ) (h : Item → Option B) (bs : List Lines) → Apart name bs → filter_map (said_by name h) (lines_in bs) ≡ []
 none_said name h [] a = refl
 none_said name h (b ∷ bs) a = filter_map-append (said_by name h) (owned_of b) (lines_in bs)
-    ∙ ap (λ zs. zs ++ filter_map (said_by name h) (lines_in bs)) (other_said name b.name h (b.first ∷ b.others) (turned name b.name a.0)) ∙ none_said name h bs a.1
-
--- the block that stands among others
-pub record IsAmong (b : Lines) (bs : List Lines) : Type 0 where
-  pub before : List Lines
-  pub behind : List Lines
-  pub is : bs ≡ before ++ b ∷ behind
-  pub first : Apart b.name before
-  pub last : Apart b.name behind
+    ∙ ap (λ zs. zs ++ filter_map (said_by name h) (lines_in bs)) (other_said name b.name h (b.first ∷ b.others) (by_key.turned bytes_eq bytes_decides name b.name a.0)) ∙ none_said name h bs a.1
 
 lines_append : (bs cs : List Lines) → lines_in (bs ++ cs) ≡ lines_in bs ++ lines_in cs
 lines_append [] cs = refl

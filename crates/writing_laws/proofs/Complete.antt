@@ -2,7 +2,7 @@
 use Rattle.std.proofs.Common.{◌≡◌, ℕ, Bool, true, false, not, ◌&&◌, ◌||◌, List, [], ◌∷◌, ◌++◌, map, filter, find, codes, Option, Some, None, refl, sym, ap, ◌∙◌}
 use Rattle.std.specs.List.{list_any, list_all, flat_map, AllByRecursion, IsDistinct}
 use Rattle.std.specs.Str.{bytes_eq}
-use Rattle.std.proofs.lemmas.Bool.{and_parts, and_from, not-true}
+use Rattle.std.proofs.lemmas.Bool.{and_parts, and_from, not-true, or_from, and_left, and_right}
 use Rattle.std.proofs.lemmas.List.Elements.{recursion_from_All}
 use Rattle.label_sets.specs.declared.kind.Kind.{Kind}
 use Rattle.label_sets.specs.declared.kind.Kind.TheVariants.{Counter, Gauge, Histogram, GaugeHistogram, StateSet, Info, Summary, Unknown}
@@ -31,9 +31,9 @@ use Rattle.open_writing.specs.Writing.{bare_sample, number_sample, with_number_l
 use Rattle.open_writing.specs.Forms.{IsFormedNumber, is_plain_value, is_u64, is_next_bucket, rise_to_infinity, IsFormedValue, IsFormedReading, label_sets_of}
 use Rattle.writing_laws.proofs.Turned.{turn, all-map, all-of, all-turn, all-flat, Pairs, any-front, some-turn, any-flat, square, any-behind}
 use Rattle.writing_laws.proofs.Blocks.{GoesOn}
-use Rattle.writing_laws.proofs.GroupedSamples.{same_group, written_threshold}
+use Rattle.writing_laws.proofs.PutLabels.{same_group, written_threshold, without_absent}
 use Rattle.writing_laws.proofs.ValuesBack.{suffix_is}
-use Rattle.writing_laws.proofs.FairParts.{or_none, and_first, and_last, without_absent, NoPlace, IsFair}
+use Rattle.writing_laws.proofs.FairParts.{NoPlace, IsFair}
 use Rattle.writing_laws.proofs.Fair.{no_place_of, fair_reading}
 use Rattle.writing_laws.proofs.Apart.{HasTotals, totals_of, gauge_totals_of, sets_differ}
 
@@ -120,7 +120,7 @@ module _ (limit : ℕ) (family : List ℕ) where
 
   no_count : (n : ℕ) (suffix : List ℕ) (labels : LabelSet) (m : Number) → bytes_eq suffix (codes "_count") ≡ false → bytes_eq suffix (codes "_gcount") ≡ false → HasCount n (bare_sample (family ++ suffix) labels m)
   no_count n suffix labels m e f = λ count.
-      absurd (let other : is_count family (bare_sample (family ++ suffix) labels m) ≡ false = or_none _ _ (suffix_is family suffix (codes "_count") labels m ∙ e) (suffix_is family suffix (codes "_gcount") labels m ∙ f) in
+      absurd (let other : is_count family (bare_sample (family ++ suffix) labels m) ≡ false = or_from _ _ (suffix_is family suffix (codes "_count") labels m ∙ e) (suffix_is family suffix (codes "_gcount") labels m ∙ f) in
       let k : false ≡ true = sym other ∙ count in cc)
 
   buckets_up : (n : ℕ) (labels : LabelSet) (bs : List Bucket) → has_name labels (codes "le") ≡ false → AllByRecursion (λ (b : Bucket). IsFormedNumber b.le) bs → AllByRecursion (λ (b : Bucket). is_up b.le ≡ true → b.count ≡ n) bs
@@ -369,5 +369,5 @@ module _ (limit : ℕ) (family : List ℕ) where
       ap (λ a. leaves_incomplete st a None) g.is ∙ rw (kind_here, samples_are) (whole (is_histogram kind) refl)
     where
       whole : (b : Bool) → is_histogram kind ≡ b → (is_histogram kind && not (list_all (is_complete_at st kind family (turn (flat_map (reading_samples kind family) rs) [])) (turn (flat_map (reading_samples kind family) rs) []))) ≡ false
-      whole false e = and_first _ _ e
-      whole true e = and_last _ _ (ap not (complete_all kind unit name e rs f d))
+      whole false e = and_left _ _ e
+      whole true e = and_right _ _ (ap not (complete_all kind unit name e rs f d))

@@ -1,13 +1,14 @@
 -- Truth values, names and labels: what the samples of a written reading are made of, and what each of them is by itself.
-use Rattle.std.proofs.Common.{◌≡◌, ◌≢◌, ℕ, ◌^◌, ◌<◌, Bool, true, false, cond, ◌&&◌, ◌||◌, List, [], ◌∷◌, ◌++◌, length, drop, codes, refl, sym, ap, subst, ◌∙◌}
+use Rattle.std.proofs.Common.{◌≡◌, ◌≢◌, ℕ, ◌^◌, ◌<◌, Bool, true, false, cond, ◌&&◌, List, [], ◌∷◌, ◌++◌, length, drop, codes, refl, sym, ap, subst, ◌∙◌}
 use Rattle.std.specs.Prelude.{⊤}
 use Rattle.std.specs.List.{list_any, list_all, AllByRecursion, IsDistinct}
 use Rattle.std.specs.List.Sorted.{IsStrictlySortedBy}
 use Rattle.std.specs.Str.{bytes_eq, is_utf8}
 use Rattle.std.specs.Cmp.Lexicographic.{bytes_decides}
+use Rattle.std.proofs.lemmas.List.{append-nil}
 use Rattle.std.proofs.lemmas.Map.Text.{is_eq-slice_cmp}
 use Rattle.std.proofs.Math.Seq.{drop-append_seam}
-use Rattle.label_sets.proofs.Laws.{same_tests, sorted_itself, sorted_ascending, distinct_before, all-weaker}
+use Rattle.label_sets.proofs.Laws.{same_tests, sorted_itself, sorted_ascending, distinct_before, all-weaker, bytes_eq-swap}
 use Rattle.std.proofs.lemmas.Bool.{and_parts, and_from}
 use Rattle.std.proofs.lemmas.List.Folds.{list_all-append}
 use Rattle.std.proofs.lemmas.List.Elements.{All-from_recursion, recursion_from_All}
@@ -18,7 +19,7 @@ use Rattle.label_sets.specs.declared.kind.Kind.TheVariants.{Histogram, GaugeHist
 use Rattle.label_sets.specs.declared.label.Label.{Label}
 use Rattle.label_sets.specs.declared.label_set.LabelSet.{LabelSet}
 use Rattle.label_sets.specs.Names.{is_metric_name, is_metric_start, is_metric_char, is_label_name}
-use Rattle.label_sets.specs.Labels.{name_before, label_inserted, has_name, without_label}
+use Rattle.label_sets.specs.Labels.{name_before, label_inserted, has_name}
 use Rattle.label_sets.specs.Sets.{by_name, IsLabelSet}
 use Rattle.label_sets.specs.Building.{same_name}
 use Rattle.exact_decimal.specs.declared.number.Number.{Number}
@@ -32,28 +33,15 @@ use Rattle.page_model.specs.declared.item.Sample.{Sample}
 use Rattle.page_model.specs.Written.{open_setting}
 use Rattle.page_model.specs.Suffixes.{suffixes, is_sample_name}
 use Rattle.page_model.specs.Owners.{group_of}
-use Rattle.page_model.specs.Rules.{has_bad_value, has_bad_threshold}
+use Rattle.page_model.specs.Rules.{has_bad_value, has_forbidden_value, has_bad_threshold}
 use Rattle.page_model.specs.Readings.{reading_labels}
 use Rattle.open_writing.specs.Writing.{bare_sample, with_number_label}
 use Rattle.open_writing.specs.Forms.{IsFormedNumber, is_text_label}
 use Rattle.writing_laws.proofs.Turned.{any-none}
 use Rattle.writing_laws.proofs.Spelled.{number_text_token, IsWritableSample}
 use Rattle.writing_laws.proofs.LineBytes.{number_line}
-use Rattle.writing_laws.proofs.BlocksBack.{turned}
 
 -- ---- truth values
-
-pub or_none : (a b : Bool) → a ≡ false → b ≡ false → (a || b) ≡ false
-or_none false b e f = f
-or_none true b e f = absurd cc
-
-pub and_first : (a b : Bool) → a ≡ false → (a && b) ≡ false
-and_first false b e = refl
-and_first true b e = absurd cc
-
-pub and_last : (a b : Bool) → b ≡ false → (a && b) ≡ false
-and_last true b e = e
-and_last false b e = refl
 
 pub cond_true : (a b c : Bool) → a ≡ true → b ≡ false → cond a b c ≡ false
 cond_true true b c e f = f
@@ -110,7 +98,7 @@ pub set_inserted : (l : Label) (ls : List Label) → IsLabelSet ls → l.value �
 unfolding IsDistinct
 set_inserted l ls set some new =
     let apart : AllByRecursion (λ (m : Label). same_name l m ≡ false) ls
-    = all-weaker (λ (m : Label). bytes_eq m.name l.name ≡ false) (λ (m : Label). same_name l m ≡ false) (λ m e. is_eq-slice_cmp l.name m.name ∙ turned m.name l.name e) ls (any-none (λ (m : Label). bytes_eq m.name l.name) ls new) in
+    = all-weaker (λ (m : Label). bytes_eq m.name l.name ≡ false) (λ (m : Label). same_name l m ≡ false) (λ m e. is_eq-slice_cmp l.name m.name ∙ bytes_eq-swap l.name m.name ∙ e) ls (any-none (λ (m : Label). bytes_eq m.name l.name) ls new) in
     let distinct : IsDistinct same_name (l ∷ ls) = (apart, distinct_before ls ls (IsPermutation-refl ls) set.ascending) in
     record {
       ascending = subst (IsStrictlySortedBy by_name) (ap (label_inserted l) (sorted_itself ls set.ascending)) (sorted_ascending (l ∷ ls) distinct);
@@ -123,15 +111,6 @@ no_token = refl
 
 pub number_some : (n : Number) → IsFormedNumber n → number_text n ≢ []
 number_some n h = λ e. absurd (let k : false ≡ true = sym no_token ∙ ap is_number_token (sym e) ∙ number_text_token n h in cc)
-
--- a label that isn't there is no loss
-pub without_absent : (name : List ℕ) (ls : List Label) → has_name ls name ≡ false → without_label name ls ≡ ls
-without_absent name [] h = refl
-without_absent name (l ∷ ls) h = go (bytes_eq l.name name) refl h (without_absent name ls)
-  where
-    go : (b : Bool) → bytes_eq l.name name ≡ b → (b || has_name ls name) ≡ false → (has_name ls name ≡ false → without_label name ls ≡ ls) → without_label name (l ∷ ls) ≡ l ∷ ls
-    go true f k ih = absurd (let g : true ≡ false = k in cc)
-    go false f k ih = rw f (ap (λ ms. l ∷ ms) (ih k))
 
 -- ---- fair samples
 
@@ -160,6 +139,42 @@ pub record IsFair (limit : ℕ) (kind : Kind) (family : List ℕ) (labels : Labe
 
 pub can_be : (family suffix : List ℕ) (labels : LabelSet) (n : Number) → Base family labels → list_all is_metric_char suffix ≡ true → IsFormedNumber n → IsWritableSample (bare_sample (family ++ suffix) labels n)
 can_be family suffix labels n base letters formed = record { name = metric_more family suffix base.name letters; labels = base.text; value = formed; no_stamp = refl; no_exemplar = refl }
+
+-- a sample with labels of its own, named like the family with a suffix that its kind has
+pub with_suffix : (limit : ℕ) (kind : Kind) (family suffix : List ℕ) (labels own : LabelSet) (n : Number) → Base family own → IsFormedNumber n
+    → list_any (bytes_eq suffix) (suffixes OpenMetrics kind) ≡ true → list_all is_metric_char suffix ≡ true
+    → has_bad_value OpenMetrics kind family (bare_sample (family ++ suffix) own n) ≡ false → has_bad_threshold kind family (bare_sample (family ++ suffix) own n) ≡ false
+    → reading_labels (open_setting treatments.Written limit) kind family (bare_sample (family ++ suffix) own n) ≡ labels → group_of kind family own ≡ group_of kind family labels
+    → IsFair limit kind family labels (bare_sample (family ++ suffix) own n)
+with_suffix limit kind family suffix labels own n base formed named letters value threshold of group = record {
+  named = named_by family suffix kind named;
+  can = can_be family suffix own n base letters formed;
+  set = base.set;
+  value = value;
+  threshold = threshold;
+  of = of;
+  group = group;
+}
+
+-- and one with the family's own name
+pub with_own_name : (limit : ℕ) (kind : Kind) (family : List ℕ) (labels own : LabelSet) (n : Number) → Base family own → IsFormedNumber n
+    → list_any (bytes_eq []) (suffixes OpenMetrics kind) ≡ true → has_bad_value OpenMetrics kind family (bare_sample family own n) ≡ false → has_bad_threshold kind family (bare_sample family own n) ≡ false
+    → reading_labels (open_setting treatments.Written limit) kind family (bare_sample family own n) ≡ labels → group_of kind family own ≡ group_of kind family labels
+    → IsFair limit kind family labels (bare_sample family own n)
+with_own_name limit kind family labels own n base formed named value threshold of group = record {
+  named = subst (λ name. is_sample_name OpenMetrics kind family name ≡ true) (append-nil family) (named_by family [] kind named);
+  can = subst (λ name. IsWritableSample (bare_sample name own n)) (append-nil family) (can_be family [] own n base refl formed);
+  set = base.set;
+  value = value;
+  threshold = threshold;
+  of = of;
+  group = group;
+}
+
+-- histograms and gauge histograms have the same rules but on names
+pub of_gauge : (limit : ℕ) (family : List ℕ) (labels : LabelSet) (s : Sample) → is_sample_name OpenMetrics GaugeHistogram family s.name ≡ true → IsFair limit Histogram family labels s → IsFair limit GaugeHistogram family labels s
+unfolding has_bad_value has_forbidden_value has_bad_threshold
+of_gauge limit family labels s named fair = record { named = named; can = fair.can; set = fair.set; value = fair.value; threshold = fair.threshold; of = fair.of; group = fair.group }
 
 -- labels with a number in its place
 pub placed : (family name : List ℕ) (labels : LabelSet) (n : Number) → Base family labels → is_label_name name ≡ true → IsFormedNumber n → has_name labels name ≡ false → Base family (with_number_label name n labels)

@@ -6,6 +6,7 @@ use Rattle.std.specs.Option.{option_or}
 use Rattle.std.specs.Str.{bytes_eq}
 use Rattle.std.proofs.lemmas.List.Elements.{recursion_from_All}
 use Rattle.std.proofs.lemmas.List.Sums.{sum_by-cons}
+use Rattle.std.specs.Cmp.Lexicographic.{bytes_decides}
 use Rattle.label_sets.specs.declared.kind.Kind.{Kind}
 use Rattle.label_sets.specs.declared.kind.Kind.TheVariants.{Unknown}
 use Rattle.label_sets.specs.declared.label_set.LabelSet.{LabelSet}
@@ -29,6 +30,7 @@ use Rattle.page_model.specs.Readings.{key_name, reading_labels, value_with, valu
 use Rattle.open_writing.specs.Writing.{value_samples, reading_samples, item_unless_empty, family_samples, family_items, sample_lines, page_with, number_sample}
 use Rattle.open_writing.specs.Forms.{IsFormedReading, IsFormedFamily, label_sets_of}
 use Rattle.open_writing.specs.OpenForms.{IsBareReading}
+use Rattle.writing_laws.proofs.Among.{all_among}
 use Rattle.writing_laws.proofs.Turned.{turn, reverse-turn}
 use Rattle.writing_laws.proofs.BlocksBack as lines
 use Rattle.writing_laws.proofs.BlocksBack.{Lines, owned_of, lines_in, names_back, said_back}
@@ -39,25 +41,7 @@ use Rattle.writing_laws.proofs.Fair.{fair_reading}
 use Rattle.writing_laws.proofs.ValuesRead.{value_back}
 use Rattle.writing_laws.proofs.PagesFree.{reading_filled, owned_page}
 use Rattle.writing_laws.proofs.Heads.{descriptors, family_parts, one_more}
-
--- ---- each among the others
-
--- each of the blocks stands among them
-blocks_among : (bs : List Lines) → lines.Distinct bs → AllByRecursion (λ b. lines.IsAmong b bs) bs
-blocks_among [] d = tt
-blocks_among (b ∷ bs) d = (record { before = []; behind = bs; is = refl; first = tt; last = d.0 }, later bs d.0 (blocks_among bs d.1))
-  where
-    later : (cs : List Lines) → lines.Apart b.name cs → AllByRecursion (λ c. lines.IsAmong c bs) cs → AllByRecursion (λ c. lines.IsAmong c (b ∷ bs)) cs
-    later [] a h = tt
-    later (c ∷ cs) a h = (record { before = b ∷ h.0.before; behind = h.0.behind; is = ap (λ t. b ∷ t) h.0.is; first = (lines.turned b.name c.name a.0, h.0.first); last = h.0.last }, later cs a.1 h.1)
-
-parts_among : (ps : List Part) → parts.Distinct ps → AllByRecursion (λ p. parts.IsAmong p ps) ps
-parts_among [] d = tt
-parts_among (p ∷ ps) d = (record { before = []; behind = ps; is = refl; front = tt; last = d.0 }, later ps d.0 (parts_among ps d.1))
-  where
-    later : (qs : List Part) → parts.Apart p.labels qs → AllByRecursion (λ q. parts.IsAmong q ps) qs → AllByRecursion (λ q. parts.IsAmong q (p ∷ ps)) qs
-    later [] a h = tt
-    later (q ∷ qs) a h = (record { before = p ∷ h.0.before; behind = h.0.behind; is = ap (λ t. p ∷ t) h.0.is; front = (parts.turned p.labels q.labels a.0, h.0.front); last = h.0.last }, later qs a.1 h.1)
+use Rattle.page_model.proofs.Laws.{label_sets_decide}
 
 module _ (limit : ℕ) where
   -- how the page is read
@@ -144,7 +128,7 @@ module _ (limit : ℕ) where
         = ap (λ ss. first_of_each label_sets_eq (map (reading_labels st kind family) ss)) (sym joined) ∙ labels_back st kind family ps share distinct ∙ parts_labels rs f in
         let own : AllByRecursion (λ p. filter (λ s. label_sets_eq (reading_labels st kind family s) p.labels) samples ≡ samples_in p) ps
         = all-weaker (λ p. parts.IsAmong p ps) (λ p. filter (λ s. label_sets_eq (reading_labels st kind family s) p.labels) samples ≡ samples_in p)
-        (λ p among. ap (filter (λ s. label_sets_eq (reading_labels st kind family s) p.labels)) (sym joined) ∙ own_back st kind family p ps share among) ps (parts_among ps distinct) in
+        (λ p among. ap (filter (λ s. label_sets_eq (reading_labels st kind family s) p.labels)) (sym joined) ∙ own_back st kind family p ps share among) ps (all_among label_sets_eq label_sets_decide (λ (p : Part). p.labels) ps distinct) in
         ap (filter_map (reading_of st kind family unit samples)) labels ∙ readings_back (reading_of st kind family unit samples) rs (gives samples rs f bare own)
 
   -- ---- what the lines of a family say
@@ -315,7 +299,7 @@ module _ (limit : ℕ) where
       let all : reverse (owned_lines OpenMetrics (turn (flat_map family_items fs) [])) ≡ lines_in bs = ap reverse owned ∙ reverse-turn (owned_page limit fs) [] ∙ page_blocks fs in
       let blocks = blocks_distinct fs distinct in
       let families : map (family_of st (lines_in bs)) (first_of_each bytes_eq (map (λ (o : Owned). o.family) (lines_in bs))) ≡ fs
-      = ap (map (family_of st (lines_in bs))) (names_back bs blocks) ∙ families_back fs bs (blocks_among bs blocks) forms bare in
+      = ap (map (family_of st (lines_in bs))) (names_back bs blocks) ∙ families_back fs bs (all_among bytes_eq bytes_decides (λ (b : Lines). b.name) bs blocks) forms bare in
       let count : count_by is_sample (items.Eof ∷ turn (flat_map family_items fs) []) ≡ length (flat_map family_samples fs)
       = one_more items.Eof (turn (flat_map family_items fs) []) refl ∙ (let turned = counted-turn (flat_map family_items fs) [] in let own = counted-families fs in omega (arith, turned, own)) in
       let read : map (family_of st (reverse (owned_lines OpenMetrics (turn (flat_map family_items fs) [])))) (first_of_each bytes_eq (map (λ (o : Owned). o.family) (reverse (owned_lines OpenMetrics (turn (flat_map family_items fs) []))))) ≡ fs

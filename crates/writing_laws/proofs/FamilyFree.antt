@@ -3,6 +3,7 @@ use Rattle.std.proofs.Common.{◌≡◌, ℕ, ◌+◌, ◌<◌, ◌≤◌, false
 use Rattle.std.specs.Prelude.{nat_le, count_by, cond}
 use Rattle.std.specs.List.{AllByRecursion}
 use Rattle.std.proofs.lemmas.Bool.Decides.{nat_tests}
+use Rattle.std.proofs.lemmas.Bool.{or_from, and_left, and_right}
 use Rattle.std.proofs.lemmas.List.{append-nil}
 use Rattle.std.proofs.lemmas.List.Sums.{sum_by-cons}
 use Rattle.label_sets.specs.declared.kind.Kind.{Kind}
@@ -21,7 +22,7 @@ use Rattle.page_model.specs.Rules.{is_interleaved, is_duplicate, is_out_of_order
 use Rattle.writing_laws.proofs.Turned.{turn, Each}
 use Rattle.writing_laws.proofs.Blocks.{own, own_name, GoesOn, Fit, block}
 use Rattle.writing_laws.proofs.FamilyBlocks.{IsFree, AreFree}
-use Rattle.writing_laws.proofs.FairParts.{or_none, and_first, and_last, IsFair}
+use Rattle.writing_laws.proofs.FairParts.{IsFair}
 use Rattle.writing_laws.proofs.Together.{NotBack}
 use Rattle.writing_laws.proofs.Apart.{IsApart, OrderOf, Differ, in_order}
 
@@ -62,13 +63,13 @@ module _ (limit : ℕ) (family : List ℕ) (kind : Kind) where
   not_together : (above : List Sample) (s : Sample) → NotBack (map grp above) (grp s) → is_interleaved st kind family above s ≡ false
   unfolding is_interleaved
   not_together [] s h = refl
-  not_together (n ∷ above) s (inl e) = and_first _ _ (ap not e)
-  not_together (n ∷ above) s (inr e) = and_last _ _ (sym (any-map (λ m. label_sets_eq m (grp s)) grp above) ∙ e)
+  not_together (n ∷ above) s (inl e) = and_left _ _ (ap not e)
+  not_together (n ∷ above) s (inr e) = and_right _ _ (sym (any-map (λ m. label_sets_eq m (grp s)) grp above) ∙ e)
 
   not_duplicate : (above : List Sample) (s : Sample) (others : List Owned) → AllByRecursion (λ t. Differ limit family t s) above → is_duplicate st others s ≡ false → is_duplicate st (own family (map items.Sample above) ++ others) s ≡ false
   unfolding is_duplicate
   not_duplicate [] s others h e = e
-  not_duplicate (t ∷ above) s others h e = or_none _ _ h.0 (not_duplicate above s others h.1 e)
+  not_duplicate (t ∷ above) s others h e = or_from _ _ h.0 (not_duplicate above s others h.1 e)
 
   module _ (head : List Item) (none : samples_of (owned_lines OpenMetrics head) family ≡ []) (goes : GoesOn family kind (owned_lines OpenMetrics head)) where
     pub samples_here : (above : List Sample) → Fit OpenMetrics family kind above → samples_of (owned_lines OpenMetrics (map items.Sample above ++ head)) family ≡ above

@@ -5,7 +5,7 @@ use Rattle.std.specs.List.{sum_by, AllByRecursion, IsDistinct, cons_option}
 use Rattle.std.specs.Str.{bytes_eq}
 use Rattle.std.specs.Cmp.Lexicographic.{bytes_decides}
 use Rattle.std.proofs.lemmas.Bool.{not-true}
-use Rattle.std.proofs.lemmas.List.{reverse-append}
+use Rattle.std.proofs.lemmas.List.{reverse-append, length-map}
 use Rattle.std.proofs.lemmas.List.Sums.{sum_by-cons}
 use Rattle.label_sets.specs.declared.kind.Kind.{Kind}
 use Rattle.label_sets.specs.declared.kind.Kind.TheVariants.{Counter, Histogram, GaugeHistogram, Info, Summary}
@@ -173,10 +173,6 @@ module _ (family : List ℕ) where
   either_le None b = omega arith
   either_le (Some n) b = omega arith
 
-  one_at_most : (o : Option Number) → option_count o ≤ 1
-  one_at_most None = omega arith
-  one_at_most (Some n) = omega arith
-
   whole_le : (o : Option Number) → option_count (option_and_then whole o) ≤ option_count o
   whole_le None = omega arith
   whole_le (Some n) = go (whole n)
@@ -184,10 +180,6 @@ module _ (family : List ℕ) where
       go : (o : Option ℕ) → option_count o ≤ 1
       go None = omega arith
       go (Some k) = omega arith
-
-  length-mapped : {A B : Type 0} (f : A → B) (xs : List A) → length (map f xs) ≡ length xs
-  length-mapped f [] = refl
-  length-mapped f (x ∷ xs) = let rest = length-mapped f xs in omega (arith, rest)
 
   length-kept : {A B : Type 0} (h : A → Option B) (xs : List A) → length (filter_map h xs) ≤ length xs
   length-kept h [] = omega arith
@@ -232,7 +224,7 @@ module _ (family : List ℕ) where
   bucket_lines : (own : List Sample) → lines_with (Some (values.Buckets (buckets_of family own) (sum_of family own))) (value_with family (codes "_created") own) ≤ length own + length own
   unfolding buckets_of sum_of
   bucket_lines own =
-      let mapped = length-mapped bucket_of (filter (has_suffix family (codes "_bucket")) own) in
+      let mapped = length-map (filter (has_suffix family (codes "_bucket")) own) bucket_of in
       let buckets = length-filtered (has_suffix family (codes "_bucket")) own in
       let sums = either_le (value_with family (codes "_sum") own) (value_with family (codes "_gsum") own) in
       let sum = found_some (codes "_sum") own in

@@ -1,7 +1,8 @@
 -- The descriptors of a written family behind other families break no rule, and its samples may follow.
-use Rattle.std.proofs.Common.{◌≡◌, ℕ, ◌+◌, Bool, true, false, not, cond, ◌&&◌, ◌||◌, List, [], ◌∷◌, ◌++◌, map, None, refl, sym, ap, ◌∙◌, append_assoc, arith}
+use Rattle.std.proofs.Common.{◌≡◌, ℕ, ◌+◌, Bool, true, false, not, cond, ◌&&◌, ◌||◌, List, [], ◌∷◌, ◌++◌, map, None, refl, sym, ap, ◌∙◌, append_assoc, arith, subst}
 use Rattle.std.specs.Prelude.{count_by}
 use Rattle.std.specs.List.{list_any, AllByRecursion}
+use Rattle.std.proofs.lemmas.Bool.{or_from}
 use Rattle.std.proofs.lemmas.List.Sums.{sum_by-cons}
 use Rattle.label_sets.specs.declared.kind.Kind.{Kind}
 use Rattle.page_model.specs.declared.format.Format.TheVariants.{OpenMetrics}
@@ -10,7 +11,7 @@ use Rattle.page_model.specs.declared.item.Item.{Item}
 use Rattle.page_model.specs.declared.item.Item.TheVariants as items
 use Rattle.page_model.specs.declared.page.Family.{Family}
 use Rattle.page_model.specs.Written.{Setting, open_setting}
-use Rattle.page_model.specs.Items.{is_eof, is_sample, are_one_sort, sample_of_line}
+use Rattle.page_model.specs.Items.{is_eof, is_sample, are_one_sort, sample_of_line, kind_of_line}
 use Rattle.page_model.specs.Owners.{Owned, is_of, kind_of, owned_lines, samples_of}
 use Rattle.page_model.specs.Rules.{is_after_eof, is_late_descriptor, is_bad_unit, has_forbidden_unit, is_unit, is_foreign_unit, gives_unit, is_info_or_state_set}
 use Rattle.page_model.specs.Faults.{owned_breaks, item_breaks, item_fault}
@@ -60,15 +61,19 @@ pub family_turned : (f : Family) (earlier : List Item) → turn (family_items f)
 family_turned f earlier =
     ap (λ t. turn t earlier) (family_parts f) ∙ turn-append (descriptors f) (map items.Sample (family_samples f)) earlier ∙ turn-map items.Sample (family_samples f) [] (turn (descriptors f) earlier)
 
+-- how it stands behind descriptors of a family, of which there is no sample yet
+pub record Stands (st : Setting) (earlier : List Item) (family : List ℕ) (kind : Kind) (above : List Item) : Type 0 where
+  pub faultless : AreFaultless st above
+  pub no_eof : list_any is_eof above ≡ false
+  pub goes : GoesOn family kind (owned_lines st.format above)
+  pub none : samples_of (owned_lines st.format above) family ≡ []
+  pub count : count_by is_sample above ≡ count_by is_sample earlier
+
 -- the lines above a family's samples, the last first
 pub record IsHead (st : Setting) (earlier : List Item) (family : List ℕ) (kind : Kind) (ds : List Item) : Type 0 where
-  pub faultless : AreFaultless st (turn ds earlier)
-  pub no_eof : list_any is_eof (turn ds earlier) ≡ false
-  pub goes : GoesOn family kind (owned_lines st.format (turn ds earlier))
-  pub none : samples_of (owned_lines st.format (turn ds earlier)) family ≡ []
+  pub stands : Stands st earlier family kind (turn ds earlier)
   pub owned : owned_lines st.format (turn ds earlier) ≡ turn (own family ds) (owned_lines st.format earlier)
   pub plain : AllByRecursion (λ item. sample_of_line item ≡ None) ds
-  pub count : count_by is_sample (turn ds earlier) ≡ count_by is_sample earlier
 
 -- a family that may begin has no samples yet
 no_samples : (family : List ℕ) (above : List Owned) → list_any (is_of family) above ≡ false → samples_of above family ≡ []
@@ -90,66 +95,52 @@ one_more item earlier e =
     let zero : ◌≡◌ {A = ℕ} (cond (is_sample item) 1 0) 0 = rw e refl in
     omega (arith, step, zero)
 
-pub head_is : (limit : ℕ) (earlier : List Item) (f : Family) → AreFaultless (open_setting treatments.Written limit) earlier → MayBegin (open_setting treatments.Written limit) earlier f.name
-    → is_foreign_unit f.name f.unit ≡ false → (is_info_or_state_set f.kind && is_unit f.unit) ≡ false → IsHead (open_setting treatments.Written limit) earlier f.name f.kind (descriptors f)
-unfolding owned_lines
-head_is limit earlier f free m foreign allowed = go (is_unit f.unit) (is_unit f.help)
-  where
-    go : (a b : Bool) → IsHead (open_setting treatments.Written limit) earlier f.name f.kind (items.KindOf f.name f.kind ∷ (cond a (items.Unit f.name f.unit ∷ []) [] ++ cond b (items.Help f.name f.help ∷ []) []))
-    go false false =
-        let st = open_setting treatments.Written limit in
-        let above = owned_lines OpenMetrics earlier in
-        let none = no_sample f.name (items.KindOf f.name f.kind) above refl (no_samples f.name above m.new) in
-        record {
-          faultless = (type_is_free st earlier f.name f.kind m, free);
-          no_eof = m.no_eof;
-          goes = begins f.name f.kind above;
-          none = none;
-          owned = refl;
-          plain = (refl, tt);
-          count = one_more (items.KindOf f.name f.kind) earlier refl;
-        }
-    go true false =
-        let st = open_setting treatments.Written limit in
-        let above = owned_lines OpenMetrics earlier in
-        let typed : List Owned = record { family = f.name; item = items.KindOf f.name f.kind } ∷ above in
-        let none = no_sample f.name (items.KindOf f.name f.kind) above refl (no_samples f.name above m.new) in
-        record {
-          faultless = (unit_is_free st earlier f.name f.unit f.kind m foreign allowed, (type_is_free st earlier f.name f.kind m, free));
-          no_eof = m.no_eof;
-          goes = goes_further f.name f.kind (items.Unit f.name f.unit) typed refl (begins f.name f.kind above);
-          none = no_sample f.name (items.Unit f.name f.unit) typed refl none;
-          owned = refl;
-          plain = (refl, (refl, tt));
-          count = one_more (items.Unit f.name f.unit) (items.KindOf f.name f.kind ∷ earlier) refl ∙ one_more (items.KindOf f.name f.kind) earlier refl;
-        }
-    go false true =
-        let st = open_setting treatments.Written limit in
-        let above = owned_lines OpenMetrics earlier in
-        let typed : List Owned = record { family = f.name; item = items.KindOf f.name f.kind } ∷ above in
-        let none = no_sample f.name (items.KindOf f.name f.kind) above refl (no_samples f.name above m.new) in
-        record {
-          faultless = (help_is_free st earlier f.name f.help f.kind m, (type_is_free st earlier f.name f.kind m, free));
-          no_eof = m.no_eof;
-          goes = goes_further f.name f.kind (items.Help f.name f.help) typed refl (begins f.name f.kind above);
-          none = no_sample f.name (items.Help f.name f.help) typed refl none;
-          owned = refl;
-          plain = (refl, (refl, tt));
-          count = one_more (items.Help f.name f.help) (items.KindOf f.name f.kind ∷ earlier) refl ∙ one_more (items.KindOf f.name f.kind) earlier refl;
-        }
-    go true true =
-        let st = open_setting treatments.Written limit in
-        let above = owned_lines OpenMetrics earlier in
-        let typed : List Owned = record { family = f.name; item = items.KindOf f.name f.kind } ∷ above in
-        let united : List Owned = record { family = f.name; item = items.Unit f.name f.unit } ∷ typed in
-        let none = no_sample f.name (items.Unit f.name f.unit) typed refl (no_sample f.name (items.KindOf f.name f.kind) above refl (no_samples f.name above m.new)) in
-        record {
-          faultless = (help_behind_unit st earlier f.name f.unit f.help f.kind m, (unit_is_free st earlier f.name f.unit f.kind m foreign allowed, (type_is_free st earlier f.name f.kind m, free)));
-          no_eof = m.no_eof;
-          goes = goes_further f.name f.kind (items.Help f.name f.help) united refl (goes_further f.name f.kind (items.Unit f.name f.unit) typed refl (begins f.name f.kind above));
-          none = no_sample f.name (items.Help f.name f.help) united refl none;
-          owned = refl;
-          plain = (refl, (refl, (refl, tt)));
-          count = one_more (items.Help f.name f.help) (items.Unit f.name f.unit ∷ items.KindOf f.name f.kind ∷ earlier) refl
-              ∙ one_more (items.Unit f.name f.unit) (items.KindOf f.name f.kind ∷ earlier) refl ∙ one_more (items.KindOf f.name f.kind) earlier refl;
-        }
+-- one descriptor more
+stands_more : (st : Setting) (earlier : List Item) (family : List ℕ) (kind : Kind) (item : Item) (above : List Item) → item_fault st above item ≡ None
+    → is_eof item ≡ false → is_sample item ≡ false → kind_of_line item ≡ None → sample_of_line item ≡ None → owned_lines st.format (item ∷ above) ≡ record { family = family; item = item } ∷ owned_lines st.format above
+    → Stands st earlier family kind above → Stands st earlier family kind (item ∷ above)
+stands_more st earlier family kind item above free goes_on other no_kind nothing owned s = record {
+  faultless = (free, s.faultless);
+  no_eof = or_from (is_eof item) (list_any is_eof above) goes_on s.no_eof;
+  goes = subst (GoesOn family kind) (sym owned) (goes_further family kind item (owned_lines st.format above) no_kind s.goes);
+  none = ap (λ ls. samples_of ls family) owned ∙ no_sample family item (owned_lines st.format above) nothing s.none;
+  count = one_more item above other ∙ s.count;
+}
+
+module _ (limit : ℕ) (earlier : List Item) (f : Family) (free : AreFaultless (open_setting treatments.Written limit) earlier) (m : MayBegin (open_setting treatments.Written limit) earlier f.name)
+    (foreign : is_foreign_unit f.name f.unit ≡ false) (allowed : (is_info_or_state_set f.kind && is_unit f.unit) ≡ false) where
+  -- how the page is read
+  abbrev st : Setting
+  st = open_setting treatments.Written limit
+
+  typed : Stands st earlier f.name f.kind (with_type f.name f.kind earlier)
+  unfolding owned_lines
+  typed = record {
+    faultless = (type_is_free st earlier f.name f.kind m, free);
+    no_eof = m.no_eof;
+    goes = begins f.name f.kind (owned_lines OpenMetrics earlier);
+    none = no_sample f.name (items.KindOf f.name f.kind) (owned_lines OpenMetrics earlier) refl (no_samples f.name (owned_lines OpenMetrics earlier) m.new);
+    count = one_more (items.KindOf f.name f.kind) earlier refl;
+  }
+
+  united : Stands st earlier f.name f.kind (items.Unit f.name f.unit ∷ with_type f.name f.kind earlier)
+  unfolding owned_lines
+  united = stands_more st earlier f.name f.kind (items.Unit f.name f.unit) (with_type f.name f.kind earlier) (unit_is_free st earlier f.name f.unit f.kind m foreign allowed) refl refl refl refl refl typed
+
+  helped : (above : List Item) → item_fault st above (items.Help f.name f.help) ≡ None → Stands st earlier f.name f.kind above → Stands st earlier f.name f.kind (items.Help f.name f.help ∷ above)
+  unfolding owned_lines
+  helped above none s = stands_more st earlier f.name f.kind (items.Help f.name f.help) above none refl refl refl refl refl s
+
+  pub head_is : IsHead st earlier f.name f.kind (descriptors f)
+  unfolding owned_lines
+  head_is = go (is_unit f.unit) (is_unit f.help)
+    where
+      go : (a b : Bool) → IsHead st earlier f.name f.kind (items.KindOf f.name f.kind ∷ (cond a (items.Unit f.name f.unit ∷ []) [] ++ cond b (items.Help f.name f.help ∷ []) []))
+      go false false = record { stands = typed; owned = refl; plain = (refl, tt) }
+      go true false = record { stands = united; owned = refl; plain = (refl, (refl, tt)) }
+      go false true = record { stands = helped (with_type f.name f.kind earlier) (help_is_free st earlier f.name f.help f.kind m) typed; owned = refl; plain = (refl, (refl, tt)) }
+      go true true = record {
+        stands = helped (items.Unit f.name f.unit ∷ with_type f.name f.kind earlier) (help_behind_unit st earlier f.name f.unit f.help f.kind m) united;
+        owned = refl;
+        plain = (refl, (refl, (refl, tt)));
+      }

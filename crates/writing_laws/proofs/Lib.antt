@@ -6,8 +6,9 @@ pub mod LineRules
 pub mod TextOfItems
 pub mod Blocks
 pub mod FamilyBlocks
-pub mod GroupedSamples
+pub mod PutLabels
 pub mod BucketRules
+pub mod Among
 pub mod BlocksBack
 pub mod ReadingsBack
 pub mod ValuesBack

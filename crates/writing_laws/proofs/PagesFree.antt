@@ -4,7 +4,7 @@ use Rattle.std.specs.Prelude.{count_by}
 use Rattle.std.specs.List.{list_any, list_all, flat_map, AllByRecursion, IsDistinct}
 use Rattle.std.specs.Str.{bytes_eq}
 use Rattle.std.specs.Cmp.Lexicographic.{bytes_decides}
-use Rattle.std.proofs.lemmas.Bool.{and_parts, not-true}
+use Rattle.std.proofs.lemmas.Bool.{and_parts, not-true, or_from, and_left}
 use Rattle.std.proofs.lemmas.List.Elements.{recursion_from_All}
 use Rattle.std.proofs.lemmas.Str.{IsUtf8-from_is_utf8}
 use Rattle.label_sets.specs.declared.kind.Kind.{Kind}
@@ -39,7 +39,7 @@ use Rattle.writing_laws.proofs.LineRules.{HasText, HasLabelSet}
 use Rattle.writing_laws.proofs.TextOfItems.{IsWritableLine, AreWritableLines}
 use Rattle.writing_laws.proofs.Blocks.{own, block, MayBegin, not_behind_eof}
 use Rattle.writing_laws.proofs.FamilyBlocks.{no_eof_behind, samples_are_free}
-use Rattle.writing_laws.proofs.FairParts.{or_none, and_first, IsFair}
+use Rattle.writing_laws.proofs.FairParts.{IsFair}
 use Rattle.writing_laws.proofs.Fair.{fair_reading}
 use Rattle.writing_laws.proofs.Together.{NotBack, IsRun, samples_together}
 use Rattle.writing_laws.proofs.Apart.{IsApart, family_pairs}
@@ -117,7 +117,7 @@ shared_parts j k e = go (bytes_eq j.name k.name) (share_sample_name j k) e
 
 not_own : (family other : List ℕ) (is : List Item) → bytes_eq family other ≡ false → list_any (is_of other) (own family is) ≡ false
 not_own family other [] e = refl
-not_own family other (i ∷ is) e = or_none _ _ e (not_own family other is e)
+not_own family other (i ∷ is) e = or_from _ _ e (not_own family other is e)
 
 module _ (limit : ℕ) where
   -- how the page is read
@@ -186,8 +186,8 @@ module _ (limit : ℕ) where
       → list_any (λ o. some_passes (is_same_series st s) (sample_of_line o.item)) (own f.name (map items.Sample above)) ≡ false
   not_of_others f g s [] sep fs fa = refl
   not_of_others f g s (t ∷ above) sep fs fa =
-      or_none _ _
-      (and_first _ _ (names_apart (family_key f) (family_key g) t.name s.name (shared_parts (family_key f) (family_key g) sep.keys) (named_so f.kind f.name t.name f.unit fa.0.1.named) (named_so g.kind g.name s.name g.unit fs.1.named)))
+      or_from _ _
+      (and_left _ _ (names_apart (family_key f) (family_key g) t.name s.name (shared_parts (family_key f) (family_key g) sep.keys) (named_so f.kind f.name t.name f.unit fa.0.1.named) (named_so g.kind g.name s.name g.unit fs.1.named)))
       (not_of_others f g s above sep fs fa.1)
 
   no_series : (family : List ℕ) (s : Sample) (ds : List Item) → AllByRecursion (λ item. sample_of_line item ≡ None) ds → list_any (λ o. some_passes (is_same_series st s) (sample_of_line o.item)) (own family ds) ≡ false
@@ -228,7 +228,7 @@ module _ (limit : ℕ) where
   pub owned_family : (f : Family) (earlier : List Item) → IsHead st earlier f.name f.kind (descriptors f) → AllByRecursion (HasFair limit f.name f.kind) (turn (family_samples f) [])
       → owned_lines OpenMetrics (map items.Sample (turn (family_samples f) []) ++ turn (descriptors f) earlier) ≡ own f.name (map items.Sample (turn (family_samples f) [])) ++ turn (own f.name (descriptors f)) (owned_lines OpenMetrics earlier)
   owned_family f earlier head fair =
-      (block OpenMetrics f.name f.kind (turn (family_samples f) []) (turn (descriptors f) earlier) (fit_fair limit f.name f.kind (turn (family_samples f) []) fair) head.goes).0
+      (block OpenMetrics f.name f.kind (turn (family_samples f) []) (turn (descriptors f) earlier) (fit_fair limit f.name f.kind (turn (family_samples f) []) fair) head.stands.goes).0
       ∙ ap (λ os. own f.name (map items.Sample (turn (family_samples f) [])) ++ os) head.owned
 
   behind_head : (f : Family) (earlier : List Item) → IsHead st earlier f.name f.kind (descriptors f) → (s : Sample) → is_duplicate st (owned_lines OpenMetrics earlier) s ≡ false → is_duplicate st (owned_lines OpenMetrics (turn (descriptors f) earlier)) s ≡ false
@@ -264,17 +264,17 @@ module _ (limit : ℕ) where
       let fair_above = all-turn (HasFair limit f.name f.kind) ss [] fair tt in
       let owned = owned_family f earlier head fair_above in
       let sizes = length-append ss (flat_map family_samples fs) in
-      let count_head = head.count in
+      let count_head = head.stands.count in
       let few_here : count_by is_sample (turn (descriptors f) earlier) + length {A = Sample} [] + length ss ≤ limit = omega (arith, may.few, sizes, count_head) in
       let new_here = new_behind f earlier head may.clear.0.samples in
-      let free = family_free limit f.name f.kind (turn (descriptors f) earlier) head.none head.goes [] ss tt tt fair (stays_together f form) (stays_apart f form) new_here few_here in
+      let free = family_free limit f.name f.kind (turn (descriptors f) earlier) head.stands.none head.stands.goes [] ss tt tt fair (stays_together f form) (stays_apart f form) new_here few_here in
       let counted = samples_counted above (turn (descriptors f) earlier) in
       let turned = length-turn ss [] in
-      let goes = (block OpenMetrics f.name f.kind above (turn (descriptors f) earlier) (fit_fair limit f.name f.kind above fair_above) head.goes).1 in
-      let here = samples_here limit f.name f.kind (turn (descriptors f) earlier) head.none head.goes above (fit_fair limit f.name f.kind above fair_above) in (
+      let goes = (block OpenMetrics f.name f.kind above (turn (descriptors f) earlier) (fit_fair limit f.name f.kind above fair_above) head.stands.goes).1 in
+      let here = samples_here limit f.name f.kind (turn (descriptors f) earlier) head.stands.none head.stands.goes above (fit_fair limit f.name f.kind above fair_above) in (
         record {
-          faultless = samples_are_free st (turn (descriptors f) earlier) f.name f.kind above head.no_eof head.goes head.faultless free;
-          no_eof = no_eof_behind above (turn (descriptors f) earlier) head.no_eof;
+          faultless = samples_are_free st (turn (descriptors f) earlier) f.name f.kind above head.stands.no_eof head.stands.goes head.stands.faultless free;
+          no_eof = no_eof_behind above (turn (descriptors f) earlier) head.stands.no_eof;
           complete = leaves_whole limit f.name f.kind f.unit f.readings (owned_lines OpenMetrics (map items.Sample above ++ turn (descriptors f) earlier)) form.name (formed_readings f form) form.distinct goes here;
           clear = clears f fs earlier above forms seps fair_above head owned may.clear.1;
           few = omega (arith, may.few, sizes, count_head, counted, turned);

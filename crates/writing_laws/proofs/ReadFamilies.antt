@@ -21,7 +21,6 @@ use Rattle.page_model.specs.declared.format.Treatment.{Treatment}
 use Rattle.page_model.specs.declared.item.Item.{Item}
 use Rattle.page_model.specs.declared.item.Item.TheVariants as items
 use Rattle.page_model.specs.declared.item.Sample.{Sample}
-use Rattle.page_model.specs.declared.rule.Rule.TheVariants as rules
 use Rattle.page_model.specs.Written.{Setting}
 use Rattle.page_model.specs.Items.{sample_of_line, kind_of_line, help_of_line, unit_of_line}
 use Rattle.page_model.specs.Owners.{Owned, is_of, kind_of, sample_in, samples_of}

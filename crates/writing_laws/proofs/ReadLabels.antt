@@ -5,6 +5,7 @@ use Rattle.std.specs.List.{list_all}
 use Rattle.std.specs.Str.{bytes_eq, is_utf8}
 use Rattle.std.specs.Cmp.Lexicographic.{bytes_decides}
 use Rattle.std.proofs.lemmas.Bool.{and_parts, and_from, or_left, or_right}
+use Rattle.std.proofs.lemmas.List.{length-map}
 use Rattle.label_sets.specs.declared.label.Label.{Label}
 use Rattle.label_sets.specs.declared.label_set.LabelSet.{LabelSet}
 use Rattle.label_sets.specs.Names.{is_label_name}
@@ -43,10 +44,6 @@ length_filtered q (x ∷ xs) = go (q x) (length_filtered q xs)
 length_sorted : (ls : List Label) → length (labels_sorted ls) ≡ length ls
 length_sorted [] = refl
 length_sorted (l ∷ ls) = length-inserted l (labels_sorted ls) ∙ ap suc (length_sorted ls)
-
-length_mapped : {A B : Type 0} (f : A → B) (xs : List A) → length (map f xs) ≡ length xs
-length_mapped f [] = refl
-length_mapped f (x ∷ xs) = ap suc (length_mapped f xs)
 
 -- ---- the set of written labels
 
@@ -185,7 +182,7 @@ kept_set Scraped ls h = IsLabelSet-renamed ls h
 
 pub length_kept : (t : Treatment) (ls : LabelSet) → length (kept_labels t ls) ≡ length ls
 length_kept Written ls = refl
-length_kept Scraped ls = length_sorted (map (label_renamed ls) ls) ∙ length_mapped (label_renamed ls) ls
+length_kept Scraped ls = length_sorted (map (label_renamed ls) ls) ∙ length-map ls (label_renamed ls)
 
 -- ---- without one label
 

@@ -1,11 +1,12 @@
 -- Each page that a text says has the form, also where readings, timestamps and exemplars are taken out.
-use Rattle.std.proofs.Common.{◌≡◌, ℕ, ◌+◌, ◌≤◌, Bool, true, false, cond, not, ◌&&◌, List, [], ◌∷◌, ◌++◌, map, filter, filter_map, reverse, length, codes, Option, Some, None, option_map, option_and_then, refl, sym, ap, subst, ◌∙◌, arith, inl, inr}
+use Rattle.std.proofs.Common.{◌≡◌, ℕ, ◌≤◌, Bool, true, false, cond, not, ◌&&◌, List, [], ◌∷◌, ◌++◌, map, filter, filter_map, reverse, length, codes, Option, Some, None, option_map, option_and_then, refl, sym, ap, subst, ◌∙◌, arith, inl, inr}
 use Rattle.std.specs.Prelude.{unwrap_or}
 use Rattle.std.specs.List.{list_any, list_all, cons_option, AllByRecursion, IsDistinct}
 use Rattle.std.specs.Str.{bytes_eq}
 use Rattle.std.proofs.lemmas.Bool.{and_from, not_from_false}
 use Rattle.std.proofs.lemmas.Option.{same_Some}
 use Rattle.std.proofs.lemmas.List.Elements.{All-from_recursion, recursion_from_All}
+use Rattle.std.proofs.lemmas.Simd.{map-map}
 use Rattle.label_sets.specs.declared.kind.Kind.{Kind}
 use Rattle.label_sets.specs.declared.kind.Kind.TheVariants.{Counter, Gauge, Histogram, GaugeHistogram, StateSet, Info, Summary, Unknown}
 use Rattle.label_sets.specs.declared.label_set.LabelSet.{LabelSet}
@@ -44,7 +45,7 @@ use Rattle.open_writing.specs.Writing.{number_sample, with_number_label, bucket_
 use Rattle.open_writing.specs.Forms.{is_kind_in, stand_together, label_sets_of, IsFormedReading, IsFormedFamily, AreFormed}
 use Rattle.writing_laws.specs.WritingLaws.{ReadPagesAreFormed, OpenFormsAreWritable, OpenFormsReadBack}
 use Rattle.writing_laws.proofs.Turned.{all-map, all-of, any-none, none-any, Pairs}
-use Rattle.writing_laws.proofs.FairParts.{NoPlace, without_absent}
+use Rattle.writing_laws.proofs.FairParts.{NoPlace}
 use Rattle.writing_laws.proofs.FewLines.{firsts_distinct}
 use Rattle.writing_laws.proofs.ReadBack.{reads_back}
 use Rattle.writing_laws.proofs.ThinnerPages.{some_all, some_distinct, some_mapped, some_together, thin_forms, thin_same}
@@ -53,6 +54,7 @@ use Rattle.writing_laws.proofs.ReadFamilies.{pairs-reverse, formed_kind, formed_
 use Rattle.writing_laws.proofs.ReadParts.{IsKeptSet, kept_reading, no_place_in, IsPart}
 use Rattle.writing_laws.proofs.ReadValues.{formed_time, IsReadBucket, read_buckets}
 use Rattle.writing_laws.proofs.ReadSummaries.{IsReadQuantile, read_quantiles, Placed, formed_value}
+use Rattle.writing_laws.proofs.PutLabels.{without_absent}
 
 -- ---- lists of which some elements are left
 
@@ -82,10 +84,6 @@ pairs_filter R p (x ∷ xs) h = go (p x) (pairs_filter R p xs h.1)
     go : (b : Bool) → Pairs R (filter p xs) → Pairs R (cond b (x ∷ filter p xs) (filter p xs))
     go true ih = (all-filter (R x) p xs h.0, ih)
     go false ih = ih
-
-map_twice : {A B C : Type 0} (f : B → C) (g : A → B) (xs : List A) → map f (map g xs) ≡ map (λ x. f (g x)) xs
-map_twice f g [] = refl
-map_twice f g (x ∷ xs) = ap (λ l. f (g x) ∷ l) (map_twice f g xs)
 
 distinct_together : (gs : List LabelSet) → IsDistinct label_sets_eq gs → stand_together gs ≡ true
 unfolding IsDistinct stand_together
@@ -321,7 +319,7 @@ together st StateSet family ss ls in_format runs h d some =
     let labels : List LabelSet = map (reading_labels st StateSet family) (reverse ss) in
     let firsts : List LabelSet = first_of_each label_sets_eq labels in
     let whole_list : stand_together (map (group_of StateSet family) labels) ≡ true =
-    ap stand_together (map_twice (group_of StateSet family) (reading_labels st StateSet family) (reverse ss)) ∙ samples_together st StateSet family (open_state st.format in_format) ss runs in
+    ap stand_together (map-map (group_of StateSet family) (reading_labels st StateSet family) (reverse ss)) ∙ samples_together st StateSet family (open_state st.format in_format) ss runs in
     some_together (map (group_of StateSet family) firsts) (map (group_of StateSet family) ls) (some_mapped (λ a b. b ≡ a) (group_of StateSet family) (λ a b e. ap (group_of StateSet family) e) firsts ls some)
     (some_together (map (group_of StateSet family) labels) (map (group_of StateSet family) firsts)
     (some_mapped (λ a b. b ≡ a) (group_of StateSet family) (λ a b e. ap (group_of StateSet family) e) labels firsts (firsts_some label_sets_eq labels)) whole_list)

@@ -1,5 +1,5 @@
 -- The samples of which a reading of lines without a fault is made, and its labels.
-use Rattle.std.proofs.Common.{◌≡◌, ℕ, ◌+◌, ◌≤◌, Bool, true, false, cond, not, ◌||◌, List, [], ◌∷◌, ◌++◌, find, length, drop, codes, Some, is_some, option_map, refl, sym, ap, ◌∙◌, arith}
+use Rattle.std.proofs.Common.{◌≡◌, ℕ, ◌≤◌, Bool, true, false, cond, not, ◌||◌, List, [], ◌∷◌, ◌++◌, find, length, drop, codes, Some, is_some, option_map, refl, sym, ap, ◌∙◌, arith}
 use Rattle.std.specs.List.{list_any, list_all, AllByRecursion}
 use Rattle.std.specs.Str.{bytes_eq}
 use Rattle.std.specs.Cmp.Lexicographic.{bytes_decides}
@@ -14,7 +14,6 @@ use Rattle.label_sets.specs.Labels.{without_label}
 use Rattle.label_sets.specs.Sets.{IsLabelSet}
 use Rattle.label_sets.proofs.Laws.{IsLabelSet-without}
 use Rattle.exact_decimal.specs.declared.number.Number.{Number}
-use Rattle.exact_decimal.specs.Order.{same}
 use Rattle.page_model.specs.declared.format.Treatment.{Treatment}
 use Rattle.page_model.specs.declared.item.Sample.{Sample}
 use Rattle.page_model.specs.Written.{Setting, label_limit}

@@ -1,5 +1,5 @@
 -- What is read of a line in UTF-8 is UTF-8: the texts of HELP lines and the values of labels.
-use Rattle.std.proofs.Common.{◌≡◌, ℕ, zero, suc, ◌+◌, ◌-◌, ◌<◌, ◌≤◌, Bool, true, List, [], ◌∷◌, ◌++◌, length, take, get_or, reverse, codes, append_assoc, refl, sym, ap, subst, ◌∙◌, arith, IsUtf8, inl, inr, ◌⊎◌}
+use Rattle.std.proofs.Common.{◌≡◌, ℕ, zero, suc, ◌-◌, ◌<◌, ◌≤◌, Bool, true, List, [], ◌∷◌, ◌++◌, length, take, get_or, reverse, codes, append_assoc, refl, sym, ap, subst, ◌∙◌, arith, IsUtf8, inl, inr, ◌⊎◌}
 use Rattle.std.specs.Prelude.{nat_lt}
 use Rattle.std.specs.List.{list_all, suffix_len}
 use Rattle.std.specs.Str.{is_utf8}

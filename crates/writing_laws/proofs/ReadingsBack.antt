@@ -3,6 +3,7 @@ use Rattle.std.proofs.Common.{◌≡◌, ℕ, Bool, true, false, not, List, [], 
 use Rattle.std.specs.Prelude.{⊤}
 use Rattle.std.proofs.lemmas.List.{append-nil}
 use Rattle.std.proofs.lemmas.List.Elements.{filter-append}
+use Rattle.writing_laws.proofs.Among as by_key
 use Rattle.writing_laws.proofs.Turned.{map-append, filter-twice}
 use Rattle.std.specs.List.{flat_map, AllByRecursion, cons_option}
 use Rattle.label_sets.specs.declared.kind.Kind.{Kind}
@@ -31,30 +32,18 @@ samples_of_all ps = flat_map samples_in ps
 
 -- none of the parts has these labels
 abbrev pub Apart : LabelSet → List Part → Type 0
-Apart labels ps = AllByRecursion (λ (p : Part). label_sets_eq labels p.labels ≡ false) ps
+Apart labels ps = by_key.Apart label_sets_eq label_sets_decide (λ (p : Part). p.labels) labels ps
 
 -- no two parts have the same labels
 abbrev pub Distinct : List Part → Type 0
-Distinct [] = ⊤
-Distinct (p ∷ ps) = Apart p.labels ps × Distinct ps
+Distinct ps = by_key.Distinct label_sets_eq label_sets_decide (λ (p : Part). p.labels) ps
 
-pub turned : (a b : LabelSet) → label_sets_eq a b ≡ false → label_sets_eq b a ≡ false
-turned a b e = go (label_sets_eq b a) refl
-  where
-    go : (c : Bool) → label_sets_eq b a ≡ c → label_sets_eq b a ≡ false
-    go false f = f
-    go true f = absurd (let h : label_sets_eq a b ≡ true = (label_sets_decide a b).1 (sym ((label_sets_decide b a).0 f)) in let g : false ≡ true = sym e ∙ h in cc)
+-- the part that stands among others
+abbrev pub IsAmong : Part → List Part → Type 0
+IsAmong p ps = by_key.IsAmong label_sets_eq label_sets_decide (λ (p : Part). p.labels) p ps
 
 itself : (a : LabelSet) → label_sets_eq a a ≡ true
 itself a = (label_sets_decide a a).1 refl
-
--- the part that stands among others
-pub record IsAmong (p : Part) (ps : List Part) : Type 0 where
-  pub before : List Part
-  pub behind : List Part
-  pub is : ps ≡ before ++ p ∷ behind
-  pub front : Apart p.labels before
-  pub last : Apart p.labels behind
 
 module _ (st : Setting) (kind : Kind) (family : List ℕ) where
   -- the labels of a sample's reading
@@ -79,16 +68,12 @@ module _ (st : Setting) (kind : Kind) (family : List ℕ) where
       ∙ ap (λ m. m ∷ filter (λ n. not (label_sets_eq m n)) (l ∷ filter (λ n. not (label_sets_eq l n)) (first_of_each label_sets_eq rest))) h.0
       ∙ ap (λ ns. l ∷ ns) (rw (itself l) (filter-twice (λ m. not (label_sets_eq l m)) (first_of_each label_sets_eq rest)))
 
-  apart_kept : (l : LabelSet) (ps : List Part) → Apart l ps → filter (λ m. not (label_sets_eq l m)) (map (λ (p : Part). p.labels) ps) ≡ map (λ (p : Part). p.labels) ps
-  apart_kept l [] a = refl
-  apart_kept l (p ∷ ps) a = rw a.0 (ap (λ ms. p.labels ∷ ms) (apart_kept l ps a.1))
-
   -- the labels of the samples in the order of their first lines are those of the parts
   pub labels_back : (ps : List Part) → AllShare ps → Distinct ps → first_of_each label_sets_eq (map labels_of (samples_of_all ps)) ≡ map (λ (p : Part). p.labels) ps
   labels_back [] h d = refl
   labels_back (p ∷ ps) h d =
       ap (first_of_each label_sets_eq) (map-append labels_of (samples_in p) (samples_of_all ps)) ∙ one_set p.labels p.first p.others (map labels_of (samples_of_all ps)) h.0
-      ∙ ap (λ ms. p.labels ∷ filter (λ m. not (label_sets_eq p.labels m)) ms) (labels_back ps h.1 d.1) ∙ ap (λ ms. p.labels ∷ ms) (apart_kept p.labels ps d.0)
+      ∙ ap (λ ms. p.labels ∷ filter (λ m. not (label_sets_eq p.labels m)) ms) (labels_back ps h.1 d.1) ∙ ap (λ ms. p.labels ∷ ms) (by_key.apart_kept label_sets_eq label_sets_decide (λ (p : Part). p.labels) p.labels ps d.0)
 
   -- ---- the samples of a reading
 
@@ -99,7 +84,7 @@ module _ (st : Setting) (kind : Kind) (family : List ℕ) where
   others_dropped : (l m : LabelSet) (ss : List Sample) → AllByRecursion (λ s. labels_of s ≡ m) ss → label_sets_eq l m ≡ false → filter (λ s. label_sets_eq (labels_of s) l) ss ≡ []
   others_dropped l m [] h e = refl
   others_dropped l m (s ∷ ss) h e =
-      let apart : label_sets_eq (labels_of s) l ≡ false = ap (λ n. label_sets_eq n l) h.0 ∙ turned l m e in
+      let apart : label_sets_eq (labels_of s) l ≡ false = ap (λ n. label_sets_eq n l) h.0 ∙ by_key.turned label_sets_eq label_sets_decide l m e in
       rw apart (others_dropped l m ss h.1 e)
 
   all_dropped : (l : LabelSet) (ps : List Part) → AllShare ps → Apart l ps → filter (λ s. label_sets_eq (labels_of s) l) (samples_of_all ps) ≡ []
@@ -127,7 +112,7 @@ module _ (st : Setting) (kind : Kind) (family : List ℕ) where
       let test : Sample → Bool = λ s. label_sets_eq (labels_of s) p.labels in
       ap (λ qs. filter test (samples_of_all qs)) among.is ∙ ap (filter test) (samples_append among.before (p ∷ among.behind))
       ∙ filter-append test (samples_of_all among.before) (samples_of_all (p ∷ among.behind))
-      ∙ ap (λ ts. ts ++ filter test (samples_of_all (p ∷ among.behind))) (all_dropped p.labels among.before (share_front among.before (p ∷ among.behind) share) among.front)
+      ∙ ap (λ ts. ts ++ filter test (samples_of_all (p ∷ among.behind))) (all_dropped p.labels among.before (share_front among.before (p ∷ among.behind) share) among.first)
       ∙ filter-append test (samples_in p) (samples_of_all among.behind)
       ∙ ap (λ ts. ts ++ filter test (samples_of_all among.behind)) (own_kept p.labels (samples_in p) behind.0)
       ∙ ap (λ ts. samples_in p ++ ts) (all_dropped p.labels among.behind behind.1 among.last) ∙ append-nil (samples_in p)

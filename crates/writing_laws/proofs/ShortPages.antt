@@ -15,7 +15,7 @@ use Rattle.label_sets.specs.declared.label_set.LabelSet.{LabelSet}
 use Rattle.label_sets.specs.Labels.{has_name, without_label, exported_name, label_renamed}
 use Rattle.label_sets.specs.Sets.{IsLabelSet}
 use Rattle.label_sets.specs.Building.{same_name}
-use Rattle.label_sets.proofs.Laws.{distinct_before, all-append, all-weaker, length-inserted}
+use Rattle.label_sets.proofs.Laws.{distinct_before, all-append, all-weaker, length-inserted, bytes_eq-swap}
 use Rattle.exact_decimal.specs.declared.number.Number.{Number}
 use Rattle.exact_decimal.specs.declared.number.Number.TheVariants.{Finite}
 use Rattle.exact_decimal.specs.Numbers.{number_of}
@@ -35,7 +35,6 @@ use Rattle.page_model.specs.Owners.{kept_labels}
 use Rattle.page_model.specs.Readings.{key_name}
 use Rattle.open_writing.specs.Writing.{bare_sample, number_sample, with_number_label, bucket_sample, quantile_sample, count_suffix, sum_suffix, observations, total_samples, value_samples, reading_samples, escaped_char, escaped, open_label_text, more_labels_text, labels_text, sample_text}
 use Rattle.open_writing.specs.Forms.{IsFormedNumber, IsFormedOption, is_u64_option, IsFormedValue, IsFormedTime, IsFormedReading}
-use Rattle.writing_laws.proofs.BlocksBack.{turned}
 use Rattle.writing_laws.proofs.FairParts.{counted}
 use Rattle.writing_laws.proofs.Fair.{IsFairBucket, fair_of, few_observations}
 use Rattle.writing_laws.proofs.FewLines.{total, nothing_else}
@@ -97,7 +96,7 @@ grown_once k name (l ∷ ls) d = go (bytes_eq l.name name) refl (grown_once k na
   where
     others : l.name ≡ name → (ms : List Label) → AllByRecursion (λ m. same_name l m ≡ false) ms → AllByRecursion (λ (m : Label). bytes_eq m.name name ≡ false) ms
     others e [] h = tt
-    others e (m ∷ ms) h = (ap (λ n. bytes_eq m.name n) (sym e) ∙ turned l.name m.name (sym (is_eq-slice_cmp l.name m.name) ∙ h.0), others e ms h.1)
+    others e (m ∷ ms) h = (ap (λ n. bytes_eq m.name n) (sym e) ∙ bytes_eq-swap m.name l.name ∙ sym (is_eq-slice_cmp l.name m.name) ∙ h.0, others e ms h.1)
 
     go : (b : Bool) → bytes_eq l.name name ≡ b → total (growth k name) ls ≤ k → cond b k 0 + total (growth k name) ls ≤ k
     go false e ih = omega (arith, ih)

@@ -1,18 +1,14 @@
 -- The text of written items says their page, where they break no rule.
-use Rattle.std.proofs.Common.{◌≡◌, ℕ, suc, ◌+◌, ◌≤◌, Bool, true, false, List, [], ◌∷◌, ◌++◌, length, reverse, Option, Some, None, refl, sym, ap, subst, ◌∙◌, append_assoc, arith}
-use Rattle.std.specs.Option.{option_or, option_map}
-use Rattle.std.specs.List.{fold, flat_map, slice_split}
+use Rattle.std.proofs.Common.{◌≡◌, ℕ, ◌≤◌, true, List, [], ◌∷◌, ◌++◌, length, reverse, None, sym, ap, subst, ◌∙◌}
+use Rattle.std.specs.List.{flat_map}
 use Rattle.std.proofs.lemmas.List.{append-nil, reverse-append}
-use Rattle.std.proofs.lemmas.List.Elements.{All-tail}
 use Rattle.std.proofs.lemmas.Grind.{flat_map-append}
-use Rattle.page_lines.specs.Lines.{is_line_feed, Plain, without_empty_last, lines_of, ends_clean}
-use Rattle.page_model.specs.declared.format.Format.{Format}
 use Rattle.page_model.specs.declared.format.Treatment.TheVariants as treatments
 use Rattle.page_model.specs.declared.item.Item.{Item}
-use Rattle.page_model.specs.Written.{Setting, open_setting, item_of}
-use Rattle.page_model.specs.Faults.{Line, Fault, own_fault, item_fault, line_fault, end_fault, lines_fault, with_line, with_lines, fault_from, fault_of}
+use Rattle.page_model.specs.Written.{open_setting}
+use Rattle.page_model.specs.Faults.{end_fault}
 use Rattle.page_model.specs.Readings.{page_of}
-use Rattle.page_model.specs.Pages.{AreLines, items_of, IsItemOfLine, AreFaultless, IsPageOf}
+use Rattle.page_model.specs.Pages.{AreFaultless, IsPageOf}
 use Rattle.page_model.proofs.Laws.{Made, nothing_made, made_more, made_says}
 use Rattle.open_writing.specs.Writing.{item_text, line_text}
 use Rattle.writing_laws.proofs.Spelled.{IsWritableItem}

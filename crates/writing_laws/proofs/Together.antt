@@ -2,14 +2,13 @@
 use Rattle.std.proofs.Common.{◌≡◌, Bool, true, false, not, ◌||◌, List, [], ◌∷◌, map, refl, sym, ap, subst, ◌∙◌, inl, inr, ◌⊎◌}
 use Rattle.std.specs.Prelude.{⊤}
 use Rattle.std.specs.List.{list_any, flat_map, AllByRecursion}
-use Rattle.std.proofs.lemmas.Bool.{and_parts, not-true, or_parts}
+use Rattle.std.proofs.lemmas.Bool.{and_parts, not-true, or_parts, or_from}
 use Rattle.label_sets.specs.declared.label_set.LabelSet.{LabelSet}
 use Rattle.label_sets.specs.Lists.{rest_while}
 use Rattle.label_sets.specs.Labels.{label_sets_eq}
 use Rattle.page_model.proofs.Laws.{label_sets_decide}
 use Rattle.open_writing.specs.Forms.{stand_together}
 use Rattle.writing_laws.proofs.Turned.{turn, Each, all-map, turn-mapped, each-mapped, each-append, map-append}
-use Rattle.writing_laws.proofs.FairParts.{or_none}
 
 -- the nearest group is this one, or no other above it is
 abbrev pub NotBack : List LabelSet → LabelSet → Type 0
@@ -58,7 +57,7 @@ others_done n g (a ∷ rest) gs h d = (one h.0, others_done n g rest gs h.1 d)
 -- none of the others is one that is not the nearest
 not_among : (n g : LabelSet) (rest gs : List LabelSet) → AllByRecursion (IsDone n (g ∷ gs)) rest → label_sets_eq n g ≡ false → list_any (λ m. label_sets_eq m g) rest ≡ false
 not_among n g [] gs h e = refl
-not_among n g (a ∷ rest) gs h e = or_none (label_sets_eq a g) _ (one h.0) (not_among n g rest gs h.1 e)
+not_among n g (a ∷ rest) gs h e = or_from (label_sets_eq a g) _ (one h.0) (not_among n g rest gs h.1 e)
   where
     one : IsDone n (g ∷ gs) a → label_sets_eq a g ≡ false
     one (inl f) = ap (λ x. label_sets_eq x g) f ∙ e
@@ -108,7 +107,7 @@ turned_run : (h : LabelSet) (above gs : List LabelSet) → AllByRecursion (λ g.
 turned_run h above [] all g e = e
 turned_run h above (x ∷ gs) all g e =
     let both = or_parts (label_sets_eq h g) (list_any (λ m. label_sets_eq m g) above) e in
-    subst (λ y. list_any (λ m. label_sets_eq m g) (turn gs (y ∷ h ∷ above)) ≡ false) (sym all.0) (turned_run h (h ∷ above) gs all.1 g (or_none (label_sets_eq h g) _ both.0 e))
+    subst (λ y. list_any (λ m. label_sets_eq m g) (turn gs (y ∷ h ∷ above)) ≡ false) (sym all.0) (turned_run h (h ∷ above) gs all.1 g (or_from (label_sets_eq h g) _ both.0 e))
 
 -- the nearest behind the part is of its group
 record IsFrontOf (h : LabelSet) (above : List LabelSet) : Type 0 where
@@ -125,7 +124,7 @@ tied_more h parts elements x gs tied all =
     let front = front_of h elements gs all.1 in
     let absent : (g : LabelSet) → list_any (λ m. label_sets_eq m g) (h ∷ parts) ≡ false → list_any (λ m. label_sets_eq m g) (turn gs (h ∷ elements)) ≡ false
     = λ g e. let both = or_parts (label_sets_eq h g) (list_any (λ m. label_sets_eq m g) parts) e in
-    turned_run h elements gs all.1 g (or_none (label_sets_eq h g) _ both.0 (tied.none g both.1)) in
+    turned_run h elements gs all.1 g (or_from (label_sets_eq h g) _ both.0 (tied.none g both.1)) in
     record {
       first = λ g back. subst (λ t. NotBack t g) (sym start) (subst (λ t. NotBack t g) (sym front.is) (begins g front.others (absent g) front.is back));
       none = λ g e. ap (list_any (λ m. label_sets_eq m g)) start ∙ absent g e;
@@ -139,7 +138,7 @@ tied_more h parts elements x gs tied all =
         go : ((label_sets_eq h g ≡ true) ⊎ (label_sets_eq h g ≡ false)) → NotBack (h ∷ others) g
         go (inl f) = inl f
         go (inr f) =
-            let k : (label_sets_eq h g || list_any (λ m. label_sets_eq m g) others) ≡ false = ap (list_any (λ m. label_sets_eq m g)) (sym is) ∙ absent (or_none (label_sets_eq h g) _ f e) in
+            let k : (label_sets_eq h g || list_any (λ m. label_sets_eq m g) others) ≡ false = ap (list_any (λ m. label_sets_eq m g)) (sym is) ∙ absent (or_from (label_sets_eq h g) _ f e) in
             inr (or_parts (label_sets_eq h g) _ k).1
 
 -- the groups of a part's elements, of which there is one at least

@@ -18,10 +18,6 @@ pub turn-map : {A B : Type 0} (f : A → B) (xs above : List A) (rest : List B) 
 turn-map f [] above rest = refl
 turn-map f (x ∷ xs) above rest = turn-map f xs (x ∷ above) rest
 
-pub turn-front : {A : Type 0} (xs above rest : List A) → turn xs (above ++ rest) ≡ turn xs above ++ rest
-turn-front [] above rest = refl
-turn-front (x ∷ xs) above rest = turn-front xs (x ∷ above) rest
-
 pub reverse-turn : {A : Type 0} (xs above : List A) → reverse (turn xs above) ≡ reverse above ++ xs
 reverse-turn [] above = sym (append-nil (reverse above))
 reverse-turn (x ∷ xs) above = reverse-turn xs (x ∷ above) ∙ ap (λ t. t ++ xs) (reverse-append (x ∷ []) above) ∙ append_assoc (reverse above) (x ∷ []) xs
@@ -131,10 +127,6 @@ each-pairs R above (x ∷ xs) h p = (heads above h, each-pairs R (x ∷ above) x
     tails : (a : List _) → AllByRecursion (λ t. AllByRecursion (R t) (x ∷ xs)) a → AllByRecursion (λ t. AllByRecursion (R t) xs) a
     tails [] h = tt
     tails (t ∷ a) h = (h.0.1, tails a h.1)
-
-pub each-weaker : {A : Type 0} (P Q : List A → A → Type 0) → ((above : List A) (x : A) → P above x → Q above x) → (above xs : List A) → Each P above xs → Each Q above xs
-each-weaker P Q more above [] h = tt
-each-weaker P Q more above (x ∷ xs) h = (more above x h.0, each-weaker P Q more (x ∷ above) xs h.1)
 
 pub each-append : {A : Type 0} (P : List A → A → Type 0) (above xs ys : List A) → Each P above xs → Each P (turn xs above) ys → Each P above (xs ++ ys)
 each-append P above [] ys h k = k

@@ -7,7 +7,7 @@ use Rattle.std.specs.Str.{bytes_eq}
 use Rattle.std.proofs.lemmas.List.{append-nil}
 use Rattle.std.proofs.lemmas.List.Folds.{find-append}
 use Rattle.std.proofs.lemmas.List.Elements.{filter-append}
-use Rattle.label_sets.specs.declared.kind.Kind.TheVariants.{Counter, Histogram, Unknown}
+use Rattle.label_sets.specs.declared.kind.Kind.TheVariants.{Counter, Histogram}
 use Rattle.label_sets.specs.declared.label_set.LabelSet.{LabelSet}
 use Rattle.label_sets.specs.Labels.{has_name}
 use Rattle.exact_decimal.specs.declared.number.Number.{Number}
@@ -22,7 +22,7 @@ use Rattle.page_model.specs.Rules.{has_suffix, is_bucket}
 use Rattle.page_model.specs.Readings.{value_with, either_value, bucket_of, buckets_of, sum_of, value_of}
 use Rattle.open_writing.specs.Writing.{bare_sample, number_sample, with_number_label, bucket_sample, total_samples, observations}
 use Rattle.open_writing.specs.Forms.{IsFormedNumber}
-use Rattle.writing_laws.proofs.GroupedSamples.{written_threshold}
+use Rattle.writing_laws.proofs.PutLabels.{written_threshold}
 use Rattle.writing_laws.proofs.BucketRules.{suffix_read}
 use Rattle.exact_decimal.proofs.Laws.{whole_back}
 
@@ -84,11 +84,6 @@ counter_back family labels n created = (
   ap (option_map values.Plain) (before_back family (codes "_total") labels (Some n) (number_sample (family ++ codes "_created") labels created) (number_lacks family (codes "_created") (codes "_total") labels created refl) refl),
   behind_back family (codes "_created") labels created (bare_sample (family ++ codes "_total") labels n ∷ []) (suffix_is family (codes "_total") (codes "_created") labels n ∙ refl, tt) refl,
 )
-
--- a reading of one sample that is named like its family
-pub plain_back : (family : List ℕ) (labels : LabelSet) (n : Number) → value_of OpenMetrics Unknown family (bare_sample family labels n ∷ []) ≡ Some (values.Plain n)
-unfolding value_of value_with
-plain_back family labels n = rw (no_suffix family [] labels n) refl
 
 -- ---- histograms
 

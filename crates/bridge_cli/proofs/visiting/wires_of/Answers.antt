@@ -1,7 +1,8 @@
 use Rattle.std.proofs.Common.{sym, subst, arith}
 use Rattle.std.specs.List.{AllZip}
+use Rattle.std.proofs.lemmas.List.{nil_from_length}
 use Rattle.bridge_cli.specs.Rounds.{AreWiresOf}
-use Rattle.bridge_cli.proofs.VisitLaws.{nothing_left, wires_more, wires_all}
+use Rattle.bridge_cli.proofs.VisitLaws.{wires_more, wires_all}
 use Rattle.bridge_cli.proofs.visiting.wires_of.Goals as goal
 
 pub loop-preserved : goal.loop-preserved
@@ -15,5 +16,5 @@ loop-preserved c = (
 
 pub returns : goal.returns
 returns c =
-    let none = nothing_left c.loop.left.items (omega (arith, c.loop.left.ok.0, c.loop.invariant.1, c.loop-test.false, c.len-end.ensures)) in
+    let none = nil_from_length c.loop.left.items (omega (arith, c.loop.left.ok.0, c.loop.invariant.1, c.loop-test.false, c.len-end.ensures)) in
     subst (AllZip AreWiresOf c.args.tracks.items) (sym c.reverse.ensures.items) (wires_all c.args.tracks.items c.loop.left.items c.loop.wires.items c.loop.invariant.0 none)

@@ -1,8 +1,9 @@
 use Rattle.std.proofs.Common.{None, Some, sym, ap, ◌∙◌, arith, ◌&&◌, ◌≡◌, true, false, take, nat_le}
 use Rattle.std.proofs.lemmas.Bool.{and_from, le-leb}
+use Rattle.std.proofs.Math.Bool.{and-false}
 use Rattle.label_sets.specs.Lists.{when_true}
 use Rattle.plain_words.specs.Places.{is_visible_word, is_port}
-use Rattle.plain_words.proofs.Finding.{no_place, parted_with, and_false}
+use Rattle.plain_words.proofs.Finding.{no_place, parted_with}
 use Rattle.plain_words.proofs.places.parted.Goals as goal
 
 pub returns-in-None : goal.returns-in-None
@@ -14,7 +15,7 @@ returns-in-None-number c = sym (parted_with c.args.most c.args.word.now c.in-Som
 pub returns-then-port-eq0 : goal.returns-then-port-eq0
 returns-then-port-eq0 c =
     let visible = is_visible_word c.args.most (take c.in-Some.colon c.args.word.now) in
-    let no : (visible && is_port c.in-Some-number.port) ≡ false = ap (λ p. visible && is_port p) c.if-port-eq0.true ∙ and_false visible in
+    let no : (visible && is_port c.in-Some-number.port) ≡ false = ap (λ p. visible && is_port p) c.if-port-eq0.true ∙ and-false visible in
     sym (parted_with c.args.most c.args.word.now c.in-Some.colon (Some c.in-Some-number.port) c.in-Some.ensures (sym c.in-Some-number.is ∙ c.number.ensures.only)
     ∙ ap (λ b. when_true b (take c.in-Some.colon c.args.word.now, c.in-Some-number.port)) no)
 

@@ -1,4 +1,4 @@
-use Rattle.std.proofs.Common.{◌≡◌, ◌+◌, length, refl, sym, subst, arith}
+use Rattle.std.proofs.Common.{◌≡◌, ◌+◌, length, sym, subst, arith}
 use Rattle.series_table.specs.HttpTalks.{talking}
 use Rattle.scraper_pool.proofs.Lettered.{AreLettered, IsLettered, lettered, one_more, are_tracks, are_unvisited, is_right_run}
 use Rattle.scraper_pool.proofs.tests.new_tracks.Goals as goal

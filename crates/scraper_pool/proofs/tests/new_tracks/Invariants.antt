@@ -1,4 +1,4 @@
-use Rattle.std.proofs.Common.{◌≡◌, ◌≤◌, length}
+use Rattle.std.proofs.Common.{◌≡◌, ◌≤◌}
 use Rattle.series_table.specs.HttpTalks.{talking}
 use Rattle.scraper_pool.proofs.Lettered.{AreLettered}
 use Rattle.scraper_pool.proofs.tests.new_tracks.Given as goal

@@ -1,7 +1,8 @@
 use Rattle.std.proofs.Common.{◌≡◌, ◌≢◌, ◌+◌, ◌-◌, ◌*◌, ◌^◌, ◌%◌, ◌<◌, ◌≤◌, refl, sym, subst, arith}
 use Rattle.exact_decimal.proofs.Kept.{Keeps-leading, Keeps-zero, Keeps-other, digit_is}
-use Rattle.exact_decimal.proofs.Powers.{ten_fits, push_fits, low_push, high_push, last_push}
+use Rattle.exact_decimal.proofs.Powers.{push_fits, low_push, high_push, last_push}
 use Rattle.exact_decimal.proofs.digits.Kept.push.Goals as goal
+use Rattle.exact_decimal.proofs.Tens.{fits_128}
 
 pub returns-then-self-eq0-clause-keeps : goal.returns-then-self-eq0-clause-keeps
 returns-then-self-eq0-clause-keeps c = λ ds k. Keeps-leading ds _ _ _ _ k c.if-digit-eq48.true c.if-self-eq0.true
@@ -13,7 +14,7 @@ pub returns-then-places-gt-MOST_PLACES-clause-keeps : goal.returns-then-places-g
 returns-then-places-gt-MOST_PLACES-clause-keeps c = λ ds k. let next = Keeps-other ds _ _ _ _ k c.requires.digit c.if-digit-eq48.false in omega (arith, next.places_are)
 
 pub pow-requires : goal.pow-requires
-pow-requires c = ten_fits _ (omega arith)
+pow-requires c = fits_128 _ (omega arith)
 
 pub overflow_mul-digits : goal.overflow_mul-digits
 overflow_mul-digits c = rw c.pow.ensures (omega (arith, push_fits 0 _ _ _ c.args.self.high (omega arith) c.if-places-gt-MOST_PLACES.false))

@@ -1,8 +1,9 @@
 use Rattle.std.proofs.Common.{◌∙◌, sym}
 use Rattle.page_model.specs.declared.rule.Rule.TheVariants as rules
 use Rattle.std.proofs.Common.{cond, Some}
+use Rattle.std.proofs.lemmas.Result.{IfOk-weaker}
 use Rattle.family_rules.specs.Samples.{is_told_back, is_back, part_stop, sample_stop}
-use Rattle.family_rules.proofs.Taking.{if_ok, if_ok_both}
+use Rattle.family_rules.proofs.Taking.{if_ok_both}
 use Rattle.family_rules.proofs.Sampled.{added_stop, told_back_stop, added_more}
 use Rattle.family_rules.proofs.checker.ItemChecker.add_keyed.Goals as goal
 
@@ -16,7 +17,7 @@ returns-then-met-clause-broken c =
 
 pub returns-clause-broken : goal.returns-clause-broken
 returns-clause-broken c =
-    if_ok _ _ c.add_key.result (λ answer stop.
+    IfOk-weaker c.add_key.result _ _ (λ answer stop.
     added_stop c.args.self.now c.enter.new.self c.add_told.new.self c.args.kind c.args.key.labels c.args.told c.own_samples-own.result c.args.key c.in_ok-met.met.broken
     (c.in_ok-back.ensures.entered c.if-back.false) c.in_ok-met.ensures.rest c.in_ok-met.ensures.told.broken answer stop
     (sym c.in_ok-back.ensures.back ∙ c.if-back.false) (sym c.in_ok-met.ensures.told.back ∙ c.if-met.false)
