@@ -10,7 +10,7 @@ use Rattle.bridge_cli.specs.declared.stop.Stop.TheVariants.{NoForm, Refused, Bad
 use Rattle.bridge_cli.specs.declared.words.Command.{Command}
 use Rattle.bridge_cli.specs.Statuses.{code_of, IsTold, IsUntold}
 use Rattle.bridge_cli.specs.CommandWords.{IsCommand, FitNoForm}
-use Rattle.bridge_cli.specs.Inputs.{TookAtMost, IsReadThrough}
+use Rattle.bridge_ports.specs.Inputs.{TookAtMost, IsReadThrough}
 use Rattle.bridge_cli.specs.Stops.{StopCause, no_form_text}
 use Rattle.bridge_cli.specs.PageInputs.{StopLeaves}
 use Rattle.bridge_cli.specs.Answers.{IsFixedAnswer, Answers, IsAnswer, no_form, answers}

@@ -19,7 +19,7 @@ use Rattle.target_core.specs.Events.{event_request}
 use Rattle.otlp_json.specs.Texts.{request_text}
 use Rattle.bridge_cli.specs.Statuses.{code_of}
 use Rattle.bridge_cli.specs.CommandWords.{words_of, IsInLimits, IsCommand, FitNoForm, AskFor, reads_input, prints_pieces, takes_memory}
-use Rattle.bridge_cli.specs.Inputs.{IsInput}
+use Rattle.bridge_ports.specs.Inputs.{IsInput}
 use Rattle.bridge_cli.specs.PageAnswers.{page_setting}
 use Rattle.bridge_cli.specs.CheckTexts.{checked_text}
 use Rattle.bridge_cli.specs.ConvertTexts.{converted_text}

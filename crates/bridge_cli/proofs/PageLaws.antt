@@ -20,10 +20,10 @@ use Rattle.bridge_cli.specs.declared.pages.FedPage.TheVariants.{Reading}
 use Rattle.bridge_cli.specs.declared.stop.Stop.{Stop}
 use Rattle.bridge_cli.specs.declared.stop.Stop.TheVariants.{Read, Memory}
 use Rattle.bridge_cli.specs.declared.status.Status.TheVariants.{Done, TooLong}
-use Rattle.bridge_cli.specs.Limits.{most_page, most_samples, most_block}
+use Rattle.bridge_cli.specs.Limits.{most_page, most_samples}
 use Rattle.bridge_cli.specs.Statuses.{code_of}
 use Rattle.bridge_cli.specs.Stops.{too_long_text, stop_of}
-use Rattle.bridge_cli.specs.Inputs.{Took, EndsWithin, IsOverlong}
+use Rattle.bridge_ports.specs.Inputs.{most_block, Took, EndsWithin, IsOverlong}
 use Rattle.bridge_cli.specs.PageAnswers.{page_setting, IsPageAnswer, page_done, page_refused, page_too_long}
 use Rattle.bridge_cli.specs.PageInputs.{IsFed, WasFed, IsFedWhole, HoldsPage, HoldsCounts, StopLeaves, Leaves}
 use Rattle.bridge_cli.specs.ProgramOutputs.{HasAnswer}

@@ -9,34 +9,16 @@ use Rattle.replay_script.specs.Scripts.{IsScript}
 use Rattle.replay_script.specs.Progresses.{IsFaultOf}
 use Rattle.replay_script.proofs.Laws.{scripts_are_right}
 use Rattle.bridge_cli.specs.declared.status.Status.TheVariants.{TooLong}
-use Rattle.bridge_cli.specs.Limits.{most_script, most_block}
+use Rattle.bridge_cli.specs.Limits.{most_script}
 use Rattle.bridge_cli.specs.Statuses.{code_of}
 use Rattle.bridge_cli.specs.Stops.{too_long_text, script_stop}
-use Rattle.bridge_cli.specs.Inputs.{TookAtMost, IsOverlong}
+use Rattle.bridge_ports.specs.Inputs.{IsOverlong}
 use Rattle.bridge_cli.specs.Answers.{IsScriptAnswer, script_refused, script_too_long}
 use Rattle.bridge_cli.specs.Replays.{IsReplayWith}
 use Rattle.bridge_cli.specs.ProgramOutputs.{HasAnswer}
 use Rattle.bridge_cli.specs.StopAnswers.{StopsAs}
 use Rattle.bridge_cli.specs.Printed.{HoldsBytes, HoldsScript}
 use Rattle.bridge_ports.proofs.Laws.{consumes_twice}
-
--- a block more is too much
-pub block_too_much : (most : ℕ) (a b c : Option (List ℕ)) (bytes block : List ℕ) (count : ℕ) → Consumes a b bytes → Consumes b c (take count block) → length bytes ≤ most → count ≤ length block
-    → most < length bytes + count → count ≤ most_block → IsOverlong most a c
-block_too_much most a b c bytes block count was more few inside many small = record {
-  bytes = bytes ++ take count block;
-  from = consumes_twice a b c bytes (take count block) was more;
-  many = omega (arith, length-append bytes (take count block), length-take count block, many, inside);
-  soon = omega (arith, length-append bytes (take count block), length-take count block, few, small);
-}
-
--- a block more was taken
-pub block_more : (most : ℕ) (a b c : Option (List ℕ)) (bytes block : List ℕ) (count : ℕ) → Consumes a b bytes → Consumes b c (take count block) → count ≤ length block → length bytes + count ≤ most → TookAtMost most a c
-block_more most a b c bytes block count was more inside few = record {
-  bytes = bytes ++ take count block;
-  from = consumes_twice a b c bytes (take count block) was more;
-  few = omega (arith, length-append bytes (take count block), length-take count block, few);
-}
 
 -- the answer to an input that is too long
 pub too_long_script : (page : Bool) (left after : Option (List ℕ)) → IsOverlong most_script left after → HasAnswer (IsScriptAnswer (IsReplayWith page)) left (code_of TooLong) too_long_text

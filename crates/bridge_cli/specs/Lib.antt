@@ -1,7 +1,6 @@
 pub mod Limits
 pub mod Statuses
 pub mod CommandWords
-pub mod Inputs
 pub mod Stops
 pub mod HelpTexts
 pub mod PageAnswers

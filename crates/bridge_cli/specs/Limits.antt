@@ -9,10 +9,6 @@ most_page = 2 ^ 26
 abbrev pub most_script : ℕ
 most_script = 2 ^ 28
 
--- the most bytes that one read takes: 64 KiB
-abbrev pub most_block : ℕ
-most_block = 2 ^ 16
-
 -- the most scrapers that visit the targets of a script at once
 abbrev pub most_scrapers : ℕ
 most_scrapers = 4

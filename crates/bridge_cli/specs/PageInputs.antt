@@ -13,7 +13,7 @@ use Rattle.bridge_cli.specs.declared.stop.Stop.{Stop}
 use Rattle.bridge_cli.specs.declared.stop.Stop.TheVariants as stops
 use Rattle.bridge_cli.specs.Stops.{StopCause}
 use Rattle.bridge_cli.specs.Limits.{most_page, most_samples}
-use Rattle.bridge_cli.specs.Inputs.{IsInput, Took, TookAtMost, EndsWithin, IsOverlong}
+use Rattle.bridge_ports.specs.Inputs.{IsInput, Took, TookAtMost, EndsWithin, IsOverlong}
 use Rattle.bridge_cli.specs.PageAnswers.{page_setting, IsPageInput}
 
 -- a page of this format was fed these bytes: it has no fault yet, or this one however the bytes go on

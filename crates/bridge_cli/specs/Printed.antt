@@ -28,7 +28,7 @@ use Rattle.bridge_cli.specs.Replays.{script_tracking, IsReplyEvent, AreEvents, b
 use Rattle.bridge_cli.specs.declared.stop.Stop.{Stop}
 use Rattle.bridge_cli.specs.declared.words.Command.{Command}
 use Rattle.bridge_cli.specs.CommandWords.{IsCommand, AskForNo, prints_pieces}
-use Rattle.bridge_cli.specs.Inputs.{IsInput}
+use Rattle.bridge_ports.specs.Inputs.{IsInput}
 use Rattle.load_pages.specs.GeneratedScripts.{TakesAllBodies}
 use Rattle.run_report.specs.declared.target_end.TargetEnd.{TargetEnd}
 use Rattle.run_report.specs.Ends.{some_halted}

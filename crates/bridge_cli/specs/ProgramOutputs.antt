@@ -4,7 +4,7 @@ use Rattle.std.specs.Io.KnownBytes.{Appends}
 use Rattle.bridge_ports.specs.Causes.{Rose}
 use Rattle.bridge_ports.specs.Writing.{WroteFront}
 use Rattle.bridge_cli.specs.CommandWords.{AskFor, reads_input}
-use Rattle.bridge_cli.specs.Inputs.{IsInput}
+use Rattle.bridge_ports.specs.Inputs.{IsInput}
 use Rattle.bridge_ports.specs.Worlds.{ShelvedPair}
 use Rattle.replay_script.specs.declared.script.Script.{Script}
 use Rattle.bridge_cli.specs.declared.words.Command.{Command}

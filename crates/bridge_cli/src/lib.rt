@@ -23,6 +23,3 @@ pub use commands::{HELP, VERSION};
 pub use program::bridge;
 pub use status::Status;
 pub use words::Command;
-
-#[cfg(test)]
-mod tests;

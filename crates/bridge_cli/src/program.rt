@@ -4,7 +4,7 @@ ghost use Rattle.bridge_cli.specs.declared.words.Command.{Command as AnyCommand}
 ghost use Rattle.bridge_cli.specs.declared.status.Status.TheVariants.{Done, NoForm, ReadFailed, WriteFailed, WantOfMemory, TooLong};
 ghost use Rattle.bridge_cli.specs.Answers.{IsAnswer};
 ghost use Rattle.bridge_cli.specs.CommandWords.{IsCommand, FitNoForm, AskForNo, WhereRead, reads_input, prints_pieces, takes_memory};
-ghost use Rattle.bridge_cli.specs.Inputs.{TookAtMost, IsReadThrough};
+ghost use Rattle.bridge_ports.specs.Inputs.{TookAtMost, IsReadThrough};
 ghost use Rattle.bridge_cli.specs.PageInputs.{Leaves};
 ghost use Rattle.bridge_cli.specs.Printed.{IsPrintedFor, IsPrintable, IsNothing, IsWhole, IsShelved, Ended};
 ghost use Rattle.bridge_cli.specs.ProgramOutputs.{Answered, AnsweredInPart, AnsweredInPieces, IsOnlyAnswer, ShelvesVisits, TellsFault};

@@ -1,3 +1,4 @@
+mod InputLaws
 mod KnownLaws
 pub mod Laws
 mod PlanCases

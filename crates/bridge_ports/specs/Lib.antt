@@ -1,10 +1,12 @@
 pub mod Causes
+pub mod Inputs
 pub mod Edges
 pub mod InMemory
 pub mod Targets
 pub mod Talks
 pub mod Keeping
 pub mod Plans
+pub mod Connections
 pub mod Doors
 pub mod Worlds
 pub mod MemoryWorlds

@@ -4,6 +4,7 @@
 #![tactic(auto)]
 
 mod all_bytes;
+mod conn;
 mod copy_front;
 mod door;
 mod kept;
@@ -23,6 +24,7 @@ mod world;
 mod writing;
 
 pub use all_bytes::{AllBytes, Piece};
+pub use conn::Conn;
 pub use door::Door;
 pub use memory_door::{MemoryConn, MemoryDoor};
 pub use memory_sink::MemorySink;

@@ -1,2 +1,1 @@
 pub mod RunEnds
-mod Worlds

@@ -4,7 +4,5 @@
 mod program;
 mod run_end;
 mod run_words;
-#[cfg(test)]
-mod tests;
 
 pub use program::bridge;

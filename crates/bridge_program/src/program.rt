@@ -4,7 +4,7 @@ ghost use Rattle.std.specs.Cow.{cow_slice_items};
 ghost use Rattle.bridge_cli.specs.declared.words.Command.{Command as AnyCommand};
 ghost use Rattle.bridge_cli.specs.declared.status.Status.TheVariants.{Done, NoForm, ReadFailed, WriteFailed, WantOfMemory};
 ghost use Rattle.bridge_cli.specs.CommandWords.{IsCommand, FitNoForm, AskForNo, WhereRead, reads_input, prints_pieces, takes_memory};
-ghost use Rattle.bridge_cli.specs.Inputs.{TookAtMost, IsReadThrough};
+ghost use Rattle.bridge_ports.specs.Inputs.{TookAtMost, IsReadThrough};
 ghost use Rattle.bridge_cli.specs.ProgramOutputs.{Answered, AnsweredInPart, AnsweredInPieces, IsOnlyAnswer, ShelvesVisits, TellsFault};
 ghost use Rattle.bridge_cli.specs.Shelves.{KeepsAllButShelf};
 ghost use Rattle.bridge_cli.specs.Statuses.{code_of, IsStatus, IsTold, IsUntold};
@@ -16,11 +16,10 @@ ghost use Rattle.bridge_program.specs.RunAnswers.{IsUnasked, IsWritten, RunAnswe
 use crate::run_end::{RunEnd, run_end};
 use crate::run_words::run_path;
 use bridge_cli::{Status, bridge as bridge_streams};
-use bridge_ports::{Door, Failed, Sink, Source, World, write_all};
+use bridge_ports::{Conn, Door, Failed, Sink, Source, World, write_all};
 use std::alloc::Global;
 use std::sync::Wait;
 use std::thread::Threads;
-use world_run::Conn;
 
 /// Writes what a run prints, and gives the status of the process.
 fn print_end<O: Sink>(end: &RunEnd, output: &mut O) -> u8

@@ -11,7 +11,7 @@ ghost use Rattle.bridge_program.specs.RunAnswers.{IsRunAnswer, IsStopEnd, AsksAt
 
 use bridge_cli::Status;
 use bridge_config::{ConfigFault, push_line};
-use bridge_ports::{Door, World};
+use bridge_ports::{Conn, Door, World};
 use config_file::FileStop;
 use label_sets::{Memory, Text};
 use run_command::{Report, run};
@@ -19,7 +19,6 @@ use std::alloc::{AllocError, Global};
 use std::borrow::CowSlice;
 use std::sync::Wait;
 use std::thread::Threads;
-use world_run::Conn;
 
 /// The status of a run whose configuration has a fault.
 const CONFIG_REFUSED: u8 = 5;

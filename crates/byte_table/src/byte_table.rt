@@ -5,9 +5,6 @@ ghost use Rattle.std.specs.Option.{option_copied};
 ghost use Rattle.std.specs.Str.{bytes_eq};
 ghost use Rattle.byte_table.specs.Hashes.{hash_of};
 
-#[cfg(test)]
-mod tests;
-
 use crate::chains::Chains;
 use crate::hashes::hash_of;
 use crate::ordered::Ordered;

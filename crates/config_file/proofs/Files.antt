@@ -5,7 +5,7 @@ use Rattle.std.specs.Io.KnownBytes.{Consumes, IsAtEnd}
 use Rattle.bridge_ports.specs.Worlds.{WorldState, OpenFile, FileReadsFrom}
 use Rattle.config_file.specs.declared.file_stop.FileStop.{FileStop}
 use Rattle.config_file.specs.ConfigFiles.{most_config, IsTooLong, StopsReadingFile, LeavesFile, left_of}
-use Rattle.bridge_cli.specs.Inputs.{IsOverlong}
+use Rattle.bridge_ports.specs.Inputs.{IsOverlong}
 
 -- ---- one read
 

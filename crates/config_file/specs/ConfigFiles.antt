@@ -9,7 +9,7 @@ use Rattle.bridge_config.specs.declared.fault.ConfigFault.TheVariants as faults
 use Rattle.bridge_config.specs.ConfigFaults.{IsConfiguration, HasConfigFault}
 use Rattle.config_file.specs.declared.file_stop.FileStop.{FileStop}
 use Rattle.config_file.specs.declared.file_stop.FileStop.TheVariants.{TooLong, Read, Fault, Memory}
-use Rattle.bridge_cli.specs.Inputs.{IsInput, TookAtMost, EndsWithin, IsOverlong}
+use Rattle.bridge_ports.specs.Inputs.{IsInput, TookAtMost, EndsWithin, IsOverlong}
 
 -- the most bytes of a configuration: 1 MiB
 abbrev pub most_config : ℕ

@@ -114,6 +114,3 @@ fn difference_len(up: usize, down: usize) -> usize
         b"-".len() + digit_count((down - up) as u64)
     }
 }
-
-#[cfg(test)]
-mod tests;

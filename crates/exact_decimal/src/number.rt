@@ -12,9 +12,6 @@ use crate::digits::Kept;
 use crate::short::short_decimal;
 use crate::token::{Real, scan, split_sign};
 
-#[cfg(test)]
-mod tests;
-
 /// The most bytes that a token may have.
 const MOST_BYTES: usize = 128;
 

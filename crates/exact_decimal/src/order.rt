@@ -135,6 +135,3 @@ fn in_64_bits(n: u128) -> Option<u64>
         None
     }
 }
-
-#[cfg(test)]
-mod tests;

@@ -145,6 +145,3 @@ fn push_difference(up: usize, down: usize, to: &mut Buffer)
         to.push(printed.format(down - up).as_bytes());
     }
 }
-
-#[cfg(test)]
-mod tests;

@@ -13,8 +13,6 @@ mod pages;
 mod rare_text;
 mod runs;
 mod sample_values;
-#[cfg(test)]
-mod tests;
 mod unit;
 
 pub use page_checker::Checker;

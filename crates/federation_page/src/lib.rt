@@ -19,8 +19,6 @@ mod pages;
 mod rooms;
 mod target_sets;
 mod targets;
-#[cfg(test)]
-mod tests;
 
 use label_sets::Memory;
 use page_model::{Page, Shown};

@@ -6,9 +6,3 @@
 mod histogram_layout_calls;
 #[cfg(test)]
 mod otlp_json_calls;
-#[cfg(test)]
-mod staleness_calls;
-#[cfg(test)]
-mod start_times_calls;
-#[cfg(test)]
-mod target_core_calls;

@@ -19,11 +19,35 @@ fn text(alloc: Global, text: &str) -> Result<Text, Memory> {
     Text::from_str(alloc, text)
 }
 
-fn string_attribute(alloc: Global, key: &str, value: &str) -> Result<Attribute, Memory> {
-    Ok(Attribute {
-        key: text(alloc, key)?,
-        value: AttributeValue::Str(text(alloc, value)?),
+fn attribute(alloc: Global, key: &str, value: AttributeValue) -> Result<Attribute, Memory> {
+    let key = text(alloc, key)?;
+    Ok(Attribute { key, value })
+}
+
+// The attributes of a job and of a port.
+fn resource(alloc: Global) -> Result<List<Attribute>, Memory> {
+    let job = AttributeValue::Str(text(alloc, "j")?);
+    let name = attribute(alloc, "service.name", job)?;
+    let port = attribute(alloc, "server.port", AttributeValue::Int(u64::MAX))?;
+    list(alloc, [name, port])
+}
+
+// A metric of this name, description and unit.
+fn metric(alloc: Global, words: [&str; 3], shape: Shape) -> Result<Metric, Memory> {
+    let name = text(alloc, words[0])?;
+    let description = text(alloc, words[1])?;
+    let unit = text(alloc, words[2])?;
+    Ok(Metric {
+        name,
+        description,
+        unit,
+        shape,
     })
+}
+
+fn scope(alloc: Global, name: &str, metrics: List<Metric>) -> Result<ScopeMetrics, Memory> {
+    let name = text(alloc, name)?;
+    Ok(ScopeMetrics { name, metrics })
 }
 
 fn marker(alloc: Global, start: Option<u64>) -> NumberPoint {
@@ -35,38 +59,39 @@ fn marker(alloc: Global, start: Option<u64>) -> NumberPoint {
     }
 }
 
+// A sum whose description has each sort of character that is written in its own way.
+fn sum(alloc: Global) -> Result<Metric, Memory> {
+    let points = list(alloc, [marker(alloc, Some(10)), marker(alloc, Some(20))])?;
+    let shape = Shape::Sum {
+        points,
+        monotonic: true,
+    };
+    metric(alloc, ["q", "a \"b\" \\ é\u{7f}\n", "By"], shape)
+}
+
+fn gauge(alloc: Global) -> Result<Metric, Memory> {
+    let points = list(alloc, [marker(alloc, None)])?;
+    metric(alloc, ["q", "", ""], Shape::Gauge(points))
+}
+
+// The scope of a sum and a gauge.
+fn plain_scope(alloc: Global) -> Result<ScopeMetrics, Memory> {
+    let sum = sum(alloc)?;
+    let gauge = gauge(alloc)?;
+    scope(alloc, "bridge", list(alloc, [sum, gauge])?)
+}
+
+// Two scopes, of which the second has no metrics.
+fn scopes(alloc: Global) -> Result<List<ScopeMetrics>, Memory> {
+    let metrics = plain_scope(alloc)?;
+    let nothing = scope(alloc, "bridge.target", List::new(alloc))?;
+    list(alloc, [metrics, nothing])
+}
+
 fn sample(alloc: Global) -> Result<Request, Memory> {
-    let port = Attribute {
-        key: text(alloc, "server.port")?,
-        value: AttributeValue::Int(u64::MAX),
-    };
-    let sum = Metric {
-        name: text(alloc, "q")?,
-        description: text(alloc, "a \"b\" \\ é\u{7f}\n")?,
-        unit: text(alloc, "By")?,
-        shape: Shape::Sum {
-            points: list(alloc, [marker(alloc, Some(10)), marker(alloc, Some(20))])?,
-            monotonic: true,
-        },
-    };
-    let gauge = Metric {
-        name: text(alloc, "q")?,
-        description: text(alloc, "")?,
-        unit: text(alloc, "")?,
-        shape: Shape::Gauge(list(alloc, [marker(alloc, None)])?),
-    };
-    let metrics = ScopeMetrics {
-        name: text(alloc, "bridge")?,
-        metrics: list(alloc, [sum, gauge])?,
-    };
-    let nothing = ScopeMetrics {
-        name: text(alloc, "bridge.target")?,
-        metrics: List::new(alloc),
-    };
-    Ok(Request {
-        resource: list(alloc, [string_attribute(alloc, "service.name", "j")?, port])?,
-        scopes: list(alloc, [metrics, nothing])?,
-    })
+    let resource = resource(alloc)?;
+    let scopes = scopes(alloc)?;
+    Ok(Request { resource, scopes })
 }
 
 // The text as a model in another language writes it.
@@ -121,35 +146,43 @@ fn histogram(alloc: Global, value: Option<HistogramValue>) -> HistogramPoint {
     }
 }
 
-// A histogram with a sum, one without, and one that has no value any more.
-fn histograms(alloc: Global) -> Result<Metric, Memory> {
-    let summed = HistogramValue {
+// A value with a sum, of five observations.
+fn summed(alloc: Global) -> Result<HistogramValue, Memory> {
+    let bounds = List::from_vec(decimals(alloc, &["0.1", "1"])?)?;
+    let counts = list(alloc, [2, 3, 0])?;
+    Ok(HistogramValue {
         layout: Layout {
-            bounds: List::from_vec(decimals(alloc, &["0.1", "1"])?)?,
-            counts: list(alloc, [2, 3, 0])?,
+            bounds,
+            counts,
             count: 5,
         },
         sum: Some(number("1.5")),
-    };
-    let plain = HistogramValue {
+    })
+}
+
+// A value without a sum, of one observation.
+fn plain(alloc: Global) -> Result<HistogramValue, Memory> {
+    let counts = list(alloc, [1])?;
+    Ok(HistogramValue {
         layout: Layout {
             bounds: List::new(alloc),
-            counts: list(alloc, [1])?,
+            counts,
             count: 1,
         },
         sum: None,
-    };
+    })
+}
+
+// A histogram with a sum, one without, and one that has no value any more.
+fn histograms(alloc: Global) -> Result<Metric, Memory> {
+    let summed = summed(alloc)?;
+    let plain = plain(alloc)?;
     let points = [
         histogram(alloc, Some(summed)),
         histogram(alloc, Some(plain)),
         histogram(alloc, None),
     ];
-    Ok(Metric {
-        name: text(alloc, "h")?,
-        description: text(alloc, "")?,
-        unit: text(alloc, "")?,
-        shape: Shape::Histogram(list(alloc, points)?),
-    })
+    metric(alloc, ["h", "", ""], Shape::Histogram(list(alloc, points)?))
 }
 
 fn summary(alloc: Global, value: Option<SummaryValue>) -> SummaryPoint {
@@ -161,8 +194,8 @@ fn summary(alloc: Global, value: Option<SummaryValue>) -> SummaryPoint {
     }
 }
 
-// A summary without observations, and one that has no value any more.
-fn summaries(alloc: Global) -> Result<Metric, Memory> {
+// Quantiles without a value.
+fn quantiles(alloc: Global) -> Result<List<Quantile>, Memory> {
     let mut quantiles = Vec::new(alloc);
     for at in decimals(alloc, &["0.5", "0.9", "0.99"])? {
         quantiles.push(Quantile {
@@ -170,17 +203,36 @@ fn summaries(alloc: Global) -> Result<Metric, Memory> {
             value: Number::NotANumber,
         })?;
     }
+    List::from_vec(quantiles)
+}
+
+// A summary without observations, and one that has no value any more.
+fn summaries(alloc: Global) -> Result<Metric, Memory> {
     let value = SummaryValue {
         count: 0,
         sum: number("0"),
-        quantiles: List::from_vec(quantiles)?,
+        quantiles: quantiles(alloc)?,
     };
-    let points = [summary(alloc, Some(value)), summary(alloc, None)];
-    Ok(Metric {
-        name: text(alloc, "rpc_durations_seconds")?,
-        description: text(alloc, "RPC latency distributions.")?,
-        unit: text(alloc, "")?,
-        shape: Shape::Summary(list(alloc, points)?),
+    let points = list(alloc, [summary(alloc, Some(value)), summary(alloc, None)])?;
+    metric(
+        alloc,
+        ["rpc_durations_seconds", "RPC latency distributions.", ""],
+        Shape::Summary(points),
+    )
+}
+
+// The scope of the histograms and the summaries.
+fn observed_scope(alloc: Global) -> Result<ScopeMetrics, Memory> {
+    let histograms = histograms(alloc)?;
+    let summaries = summaries(alloc)?;
+    scope(alloc, "bridge", list(alloc, [histograms, summaries])?)
+}
+
+fn observed(alloc: Global) -> Result<Request, Memory> {
+    let scope = observed_scope(alloc)?;
+    Ok(Request {
+        resource: List::new(alloc),
+        scopes: list(alloc, [scope])?,
     })
 }
 
@@ -199,16 +251,8 @@ const OBSERVED: &str = concat!(
 
 #[test]
 fn writes_histograms_and_summaries(rt: HostRuntime) -> Result<(), AllocError> {
-    let alloc = rt.alloc();
-    let scope = ScopeMetrics {
-        name: text(alloc, "bridge")?,
-        metrics: list(alloc, [histograms(alloc)?, summaries(alloc)?])?,
-    };
-    let request = Request {
-        resource: List::new(alloc),
-        scopes: list(alloc, [scope])?,
-    };
-    let mut out = Vec::new(alloc);
+    let request = observed(rt.alloc())?;
+    let mut out = Vec::new(rt.alloc());
     write(&request, &mut out)?;
     assert_eq!(rt; std::str::from_utf8(&out), Ok(OBSERVED));
     assert_eq!(rt; length(&request), OBSERVED.len() as u64);
@@ -227,8 +271,11 @@ fn prints_a_line(rt: HostRuntime) -> Result<(), AllocError> {
     for room in [0u64, 1, 30, 69, 70, 71, 1000] {
         let mut out = MemorySink::new(rt.alloc(), room, List::new(rt.alloc()))?;
         let printed = print_line(&request, &mut out);
-        assert_eq!(rt; printed.is_ok(), LINE.len() as u64 <= room);
-        assert_eq!(rt; out.held(), &LINE[..LINE.len().min(room as usize)]);
+        let kept = &LINE[..LINE.len().min(room as usize)];
+        assert_eq!(rt;
+            (printed.is_ok(), out.held()),
+            (LINE.len() as u64 <= room, kept)
+        );
     }
     Ok(())
 }

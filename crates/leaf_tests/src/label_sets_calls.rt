@@ -31,50 +31,87 @@ fn shown(alloc: Global, set: &LabelSet) -> Result<String, AllocError> {
     Ok(text)
 }
 
-#[test]
-fn drops_empty_values_and_sorts(rt: HostRuntime) -> Result<(), LabelFault> {
-    let alloc = rt.alloc();
-    let first = set(alloc, &[("b", "1"), ("a", "2")])?;
-    let second = set(alloc, &[("a", "2"), ("b", "1"), ("c", "")])?;
-    assert_eq!(rt; shown(alloc, &first)?.as_str(), "a=2,b=1");
-    assert!(rt;
-        first == second,
-        "an empty value says that the label is absent"
-    );
-    assert!(rt; first.copy()? == first, "a copy is equal");
-    let rest = first.without(alloc, b"a")?;
-    assert_eq!(rt; shown(alloc, &rest)?.as_str(), "b=1");
-    assert!(rt; first.is_without(b"a", &rest), "the label left out");
-    assert!(rt; rest.is_without(b"a", &rest), "no label of this name");
-    assert!(rt; !first.is_without(b"b", &rest), "another label left out");
-    assert!(rt; !rest.is_without(b"b", &rest), "a label too many");
-    Ok(())
+/// The labels of a set that is built of these.
+fn built(alloc: Global, written: &[(&str, &str)]) -> Result<String, LabelFault> {
+    let set = set(alloc, written)?;
+    Ok(shown(alloc, &set)?)
 }
 
 #[test]
-fn renames(rt: HostRuntime) -> Result<(), LabelFault> {
-    let alloc = rt.alloc();
-    let one = set(alloc, &[("job", "a"), ("zone", "z")])?.renamed(alloc)?;
-    assert_eq!(rt; shown(alloc, &one)?.as_str(), "exported_job=a,zone=z");
-    let two = set(alloc, &[("job", "a"), ("exported_job", "b")])?.renamed(alloc)?;
-    assert_eq!(rt;
-        shown(alloc, &two)?.as_str(),
-        "exported_exported_job=a,exported_job=b"
-    );
-    let three = set(
-        alloc,
+fn sets_are_sorted_without_empty_values(rt: HostRuntime) -> Result<(), LabelFault> {
+    for written in [
+        [("b", "1"), ("a", "2"), ("c", "")].as_slice(),
+        [("a", "2"), ("b", "1")].as_slice(),
+    ] {
+        let built = built(rt.alloc(), written)?;
+        assert_eq!(rt; built.as_str(), "a=2,b=1");
+    }
+    Ok(())
+}
+
+/// Whether a set equals its copy, and one that was built with an empty value more.
+fn equals_its_copies(alloc: Global) -> Result<[bool; 2], LabelFault> {
+    let first = set(alloc, &[("b", "1"), ("a", "2")])?;
+    let second = set(alloc, &[("a", "2"), ("b", "1"), ("c", "")])?;
+    let copy = first.copy()?;
+    Ok([first == second, first == copy])
+}
+
+#[test]
+fn sets_of_the_same_labels_are_equal(rt: HostRuntime) -> Result<(), LabelFault> {
+    assert_eq!(rt; equals_its_copies(rt.alloc())?, [true, true]);
+    Ok(())
+}
+
+/// Whether `b=1` is a set with two labels without its `a`, itself without an `a`, the set without its `b`, and itself
+/// without its `b`.
+fn are_without(alloc: Global) -> Result<[bool; 4], LabelFault> {
+    let both = set(alloc, &[("b", "1"), ("a", "2")])?;
+    let rest = both.without(alloc, b"a")?;
+    Ok([
+        both.is_without(b"a", &rest),
+        rest.is_without(b"a", &rest),
+        both.is_without(b"b", &rest),
+        rest.is_without(b"b", &rest),
+    ])
+}
+
+#[test]
+fn a_label_is_left_out(rt: HostRuntime) -> Result<(), LabelFault> {
+    assert_eq!(rt; are_without(rt.alloc())?, [true, true, false, false]);
+    Ok(())
+}
+
+/// The labels of a set of these, as those of a page are renamed.
+fn renamed(alloc: Global, written: &[(&str, &str)]) -> Result<String, LabelFault> {
+    let renamed = set(alloc, written)?.renamed(alloc)?;
+    Ok(shown(alloc, &renamed)?)
+}
+
+// Labels of a page, and what they become.
+const RENAMED: [(&[(&str, &str)], &str); 3] = [
+    (&[("job", "a"), ("zone", "z")], "exported_job=a,zone=z"),
+    (
+        &[("job", "a"), ("exported_job", "b")],
+        "exported_exported_job=a,exported_job=b",
+    ),
+    (
         &[
             ("job", "a"),
             ("instance", "i"),
             ("exported_job", "b"),
             ("exported_exported_job", "c"),
         ],
-    )?
-    .renamed(alloc)?;
-    assert_eq!(rt;
-        shown(alloc, &three)?.as_str(),
-        "exported_exported_exported_job=a,exported_exported_job=c,exported_instance=i,exported_job=b"
-    );
+        "exported_exported_exported_job=a,exported_exported_job=c,exported_instance=i,exported_job=b",
+    ),
+];
+
+#[test]
+fn labels_of_the_target_are_renamed(rt: HostRuntime) -> Result<(), LabelFault> {
+    for (written, shown) in &RENAMED {
+        let renamed = renamed(rt.alloc(), written)?;
+        assert_eq!(rt; renamed.as_str(), *shown);
+    }
     Ok(())
 }
 
@@ -89,21 +126,36 @@ fn many(alloc: Global, count: u32) -> Result<Vec<Label>, AllocError> {
     Ok(labels)
 }
 
+/// How many labels a set of so many has, and whether they are sorted.
+fn of_many(alloc: Global, count: u32) -> Result<(usize, bool), LabelFault> {
+    let set = LabelSet::build(alloc, many(alloc, count)?, 64)?;
+    let first = set.labels().first();
+    Ok((
+        set.len(),
+        first.is_some_and(|label| label.name.as_str() == "l000"),
+    ))
+}
+
 #[test]
-fn limits(rt: HostRuntime) -> Result<(), LabelFault> {
+fn a_set_has_64_labels_at_most(rt: HostRuntime) -> Result<(), LabelFault> {
+    assert_eq!(rt; of_many(rt.alloc(), 64)?, (64, true));
+    assert_eq!(rt; of_many(rt.alloc(), 65).err(), Some(LabelFault::TooMany));
+    Ok(())
+}
+
+/// Forty labels, and one of a name that one of them has.
+fn one_twice(alloc: Global) -> Result<Vec<Label>, AllocError> {
+    let mut labels = many(alloc, 40)?;
+    let name = Name::from_str(alloc, "l036")?;
+    let value = Text::from_str(alloc, "v")?;
+    labels.push(Label { name, value })?;
+    Ok(labels)
+}
+
+#[test]
+fn a_name_comes_once(rt: HostRuntime) -> Result<(), LabelFault> {
     let alloc = rt.alloc();
-    let most = LabelSet::build(alloc, many(alloc, 64)?, 64)?;
-    assert_eq!(rt; most.len(), 64);
-    assert!(rt; most.labels()[0].name.as_str() == "l000", "sorted");
-    let over = LabelSet::build(alloc, many(alloc, 65)?, 64);
-    assert_eq!(rt; over.err(), Some(LabelFault::TooMany));
-    let mut twice = many(alloc, 40)?;
-    let again = Label {
-        name: Name::from_str(alloc, "l036")?,
-        value: Text::from_str(alloc, "v")?,
-    };
-    assert!(rt; twice.push(again).is_ok(), "ample memory");
-    let twice = LabelSet::build(alloc, twice, 64);
+    let twice = LabelSet::build(alloc, one_twice(alloc)?, 64);
     assert_eq!(rt; twice.err(), Some(LabelFault::Twice(40)));
     let few = set(alloc, &[("a", ""), ("b", "1"), ("a", "2"), ("b", "3")]);
     assert_eq!(rt; few.err(), Some(LabelFault::Twice(2)));
@@ -119,52 +171,96 @@ fn key(alloc: Global, name: &str, kind: Kind, value: &str) -> Result<SeriesKey, 
     })
 }
 
-#[test]
-fn keys_of_maps(rt: HostRuntime) -> Result<(), LabelFault> {
-    let alloc = rt.alloc();
-    let mut tree = BTreeMap::new(alloc);
-    let mut table = HashMap::new(alloc);
+// Names and kinds of series, the last of which stands first in a map.
+const SERIES: [(&str, Kind); 3] = [("b", Kind::Gauge), ("a", Kind::Gauge), ("a", Kind::Counter)];
+
+/// Which of the series has this name, this kind and a label of this value, by a map in order.
+fn place_in_order(alloc: Global, value: &str) -> Result<Option<u32>, LabelFault> {
+    let mut places = BTreeMap::new(alloc);
     let mut count = 0u32;
-    for (name, kind) in [("b", Kind::Gauge), ("a", Kind::Gauge), ("a", Kind::Counter)] {
-        let first = key(alloc, name, kind, "1")?;
-        let second = key(alloc, name, kind, "1")?;
-        assert!(rt; tree.insert(first, count).is_ok(), "ample memory");
-        assert!(rt; table.insert(second, count).is_ok(), "ample memory");
+    for (name, kind) in &SERIES {
+        if places.insert(key(alloc, name, *kind, "1")?, count).is_err() {
+            return Err(LabelFault::Memory);
+        }
         count = count.wrapping_add(1);
     }
-    let sought = key(alloc, "a", Kind::Counter, "1")?;
-    assert_eq!(rt; tree.get(&sought).copied(), Some(2));
-    assert_eq!(rt; table.get(&sought).copied(), Some(2));
-    let absent = key(alloc, "a", Kind::Counter, "2")?;
-    assert_eq!(rt; tree.get(&absent).copied(), None);
-    assert!(rt; table.get(&absent).is_none(), "another label");
-    let first = tree.keys().next();
-    assert!(rt; first == Some(&sought), "by name, then kind");
+    let sought = key(alloc, "a", Kind::Counter, value)?;
+    Ok(places.get(&sought).copied())
+}
+
+/// The same by a table of hashes.
+fn place_by_hash(alloc: Global, value: &str) -> Result<Option<u32>, LabelFault> {
+    let mut places = HashMap::new(alloc);
+    let mut count = 0u32;
+    for (name, kind) in &SERIES {
+        if places.insert(key(alloc, name, *kind, "1")?, count).is_err() {
+            return Err(LabelFault::Memory);
+        }
+        count = count.wrapping_add(1);
+    }
+    let sought = key(alloc, "a", Kind::Counter, value)?;
+    Ok(places.get(&sought).copied())
+}
+
+#[test]
+fn keys_of_maps(rt: HostRuntime) -> Result<(), LabelFault> {
+    for (value, place) in [("1", Some(2)), ("2", None)] {
+        assert_eq!(rt; place_in_order(rt.alloc(), value)?, place);
+        assert_eq!(rt; place_by_hash(rt.alloc(), value)?, place);
+    }
     Ok(())
+}
+
+/// Whether the first of the series in order is that of the lesser name and the lesser kind.
+fn is_first_by_name_and_kind(alloc: Global) -> Result<bool, LabelFault> {
+    let mut keys = BTreeSet::new(alloc);
+    for (name, kind) in &SERIES {
+        if keys.insert(key(alloc, name, *kind, "1")?).is_err() {
+            return Err(LabelFault::Memory);
+        }
+    }
+    let least = key(alloc, "a", Kind::Counter, "1")?;
+    Ok(keys.iter().next() == Some(&least))
+}
+
+#[test]
+fn keys_are_in_order_by_name_and_then_kind(rt: HostRuntime) -> Result<(), LabelFault> {
+    assert!(rt; is_first_by_name_and_kind(rt.alloc())?);
+    Ok(())
+}
+
+/// The text of bytes, where they are one, as long as it is.
+fn length_of_text(alloc: Global, bytes: &[u8]) -> Result<Option<usize>, AllocError> {
+    let text = Text::from_bytes(alloc, bytes)?;
+    Ok(text.map(|text| text.as_str().chars().count()))
 }
 
 #[test]
 fn texts_of_bytes(rt: HostRuntime) -> Result<(), AllocError> {
     let alloc = rt.alloc();
-    let text = Text::from_bytes(alloc, &[0x71, 0xc3, 0xa9])?;
-    assert!(rt;
-        text.is_some_and(|text| text.as_str() == "qé"),
-        "two bytes of one character"
-    );
-    assert!(rt;
-        Name::from_bytes(alloc, &[0x61, 0xff])?.is_none(),
-        "no UTF-8"
-    );
+    assert_eq!(rt; length_of_text(alloc, &[0x71, 0xc3, 0xa9])?, Some(2));
+    assert_eq!(rt; length_of_text(alloc, &[0x61, 0xff])?, None);
+    Ok(())
+}
+
+/// Whether bytes that are no UTF-8 are no name, and an equal name is found in a set.
+fn names_are_told(alloc: Global) -> Result<[bool; 2], AllocError> {
+    let none = Name::from_bytes(alloc, &[0x61, 0xff])?.is_none();
     let mut names = BTreeSet::new(alloc);
-    assert!(rt;
-        names.insert(Name::from_str(alloc, "a")?).is_ok(),
-        "ample memory"
-    );
-    assert!(rt;
-        names.contains(&Name::from_str(alloc, "a")?),
-        "an equal name"
-    );
-    let copies = List::from_vec(vec![in alloc; 7u64]?)?.copy()?;
+    let _is_new = names.insert(Name::from_str(alloc, "a")?)?;
+    let again = Name::from_str(alloc, "a")?;
+    Ok([none, names.contains(&again)])
+}
+
+#[test]
+fn names_of_bytes(rt: HostRuntime) -> Result<(), AllocError> {
+    assert_eq!(rt; names_are_told(rt.alloc())?, [true, true]);
+    Ok(())
+}
+
+#[test]
+fn a_copy_of_a_list_has_its_values(rt: HostRuntime) -> Result<(), AllocError> {
+    let copies = List::from_vec(vec![in rt.alloc(); 7u64]?)?.copy()?;
     assert_eq!(rt; copies.as_slice(), [7].as_slice());
     Ok(())
 }

@@ -3,6 +3,10 @@
 #![tactic(auto)]
 
 #[cfg(test)]
+mod byte_table_calls;
+#[cfg(test)]
+mod exact_decimal_calls;
+#[cfg(test)]
 mod label_sets_calls;
 #[cfg(test)]
 mod line_scan_calls;

@@ -124,14 +124,24 @@ fn sets_are_seen_without_a_label(rt: HostRuntime) -> Result<(), Fail> {
     Ok(())
 }
 
+/// Where a name was put in before, where it was; it is put in.
+fn put_name(alloc: Global, seen: &mut SeenNames, name: &str) -> Result<Option<usize>, Memory> {
+    let name = Name::from_str(alloc, name)?;
+    seen.insert(&name)
+}
+
+/// Where a name was put in, where it was.
+fn find_name(alloc: Global, seen: &SeenNames, name: &str) -> Result<Option<usize>, Memory> {
+    let name = Name::from_str(alloc, name)?;
+    Ok(seen.find(&name))
+}
+
 /// Puts in two names, the first once more, and answers what each call finds.
 fn two_names(alloc: Global, seen: &mut SeenNames) -> Result<[Option<usize>; 4], Memory> {
-    let first = Name::from_str(alloc, "requests")?;
-    let second = Name::from_str(alloc, "request")?;
-    let new = seen.insert(&first)?;
-    let unknown = seen.find(&second);
-    let other = seen.insert(&second)?;
-    let known = seen.insert(&first)?;
+    let new = put_name(alloc, seen, "requests")?;
+    let unknown = find_name(alloc, seen, "request")?;
+    let other = put_name(alloc, seen, "request")?;
+    let known = put_name(alloc, seen, "requests")?;
     Ok([new, unknown, other, known])
 }
 
@@ -182,18 +192,29 @@ fn place_of(
     places.find(alloc, &key)
 }
 
+// Names and kinds, one after the other, and where each stands among counters of ten names.
+const SOUGHT: [(&str, Kind, Option<usize>); 9] = [
+    ("f", Kind::Counter, Some(5)),
+    ("b", Kind::Gauge, None),
+    ("h", Kind::Gauge, None),
+    ("b", Kind::Counter, Some(1)),
+    ("j", Kind::Counter, Some(9)),
+    ("j", Kind::Unknown, None),
+    ("k", Kind::Counter, None),
+    ("j", Kind::Gauge, None),
+    ("a", Kind::Counter, Some(0)),
+];
+
 #[test]
 fn keys_of_a_kind_that_is_lacking_stand_nowhere(rt: HostRuntime) -> Result<(), Fail> {
     let alloc = rt.alloc();
     let mut places = places_of_counters(alloc, "a b c d e f g h i j")?;
-    assert_eq!(rt; place_of(alloc, &mut places, "f", Kind::Counter)?, Some(5));
-    assert_eq!(rt; place_of(alloc, &mut places, "b", Kind::Gauge)?, None);
-    assert_eq!(rt; place_of(alloc, &mut places, "h", Kind::Gauge)?, None);
-    assert_eq!(rt; place_of(alloc, &mut places, "b", Kind::Counter)?, Some(1));
-    assert_eq!(rt; place_of(alloc, &mut places, "j", Kind::Counter)?, Some(9));
-    assert_eq!(rt; place_of(alloc, &mut places, "j", Kind::Unknown)?, None);
-    assert_eq!(rt; place_of(alloc, &mut places, "k", Kind::Counter)?, None);
-    assert_eq!(rt; place_of(alloc, &mut places, "j", Kind::Gauge)?, None);
-    assert_eq!(rt; place_of(alloc, &mut places, "a", Kind::Counter)?, Some(0));
+    for (name, kind, place) in &SOUGHT {
+        assert_eq!(rt;
+            place_of(alloc, &mut places, name, *kind)?,
+            *place,
+            "{name}"
+        );
+    }
     Ok(())
 }

@@ -12,8 +12,6 @@ mod labels;
 mod readings;
 mod samples;
 mod strings;
-#[cfg(test)]
-mod tests;
 
 use families::FamiliesText;
 use label_sets::{List, Memory};

@@ -6,7 +6,7 @@ use borrow.Rule.Slice.PartMut.{put_mid}
 use Rattle.bridge_ports.proofs.Laws.{appends_keeps, appends_twice, consumes_twice}
 use Rattle.http_talk.proofs.Laws.{take_past, got_front}
 use Rattle.bridge_ports.specs.Causes.{Rose}
-use Rattle.page_server.specs.Connections.{ConnSeen, IsHeard, IsSaid, WereTaken, WereWritten, WereCutOff}
+use Rattle.bridge_ports.specs.Connections.{ConnSeen, IsHeard, IsSaid, WereTaken, WereWritten, WereCutOff}
 
 -- ---- reading
 

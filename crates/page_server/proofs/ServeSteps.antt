@@ -8,7 +8,7 @@ use Rattle.httparse.specs.declared.spans.RequestSpans.{RequestSpans}
 use Rattle.bridge_ports.specs.Causes.{Rose}
 use Rattle.page_server.specs.declared.status.ReplyStatus.{ReplyStatus}
 use Rattle.page_server.specs.declared.status.ReplyStatus.TheVariants as statuses
-use Rattle.page_server.specs.Connections.{ConnSeen, IsHeard, WereTaken, WereCutOff}
+use Rattle.bridge_ports.specs.Connections.{ConnSeen, IsHeard, WereTaken, WereCutOff}
 use Rattle.page_server.specs.RequestHeads.{waiting, refused, asked, RequestIs}
 use Rattle.page_server.specs.Serving.{status_of_request, HasStatus, IsAsked, IsReplyWith, IsAnsweredWith, IsPartlyServed}
 use Rattle.page_server.proofs.ConnSteps.{end_taken}

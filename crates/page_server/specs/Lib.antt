@@ -1,4 +1,3 @@
-pub mod Connections
 pub mod RequestHeads
 pub mod Serving
 pub mod ServingLaws

@@ -10,7 +10,7 @@ use Rattle.page_server.specs.declared.status.ReplyStatus.{ReplyStatus}
 use Rattle.page_server.specs.declared.status.ReplyStatus.TheVariants as statuses
 use Rattle.page_server.specs.declared.status.ServeFault.{ServeFault}
 use Rattle.page_server.specs.declared.status.ServeFault.TheVariants as faults
-use Rattle.page_server.specs.Connections.{ConnSeen, WereTaken}
+use Rattle.bridge_ports.specs.Connections.{ConnSeen, WereTaken}
 use Rattle.page_server.specs.RequestHeads.{RequestRead, waiting, refused, asked, RequestIs}
 
 -- ---- the status

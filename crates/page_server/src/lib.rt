@@ -1,7 +1,6 @@
 //! One connection that asks for a page: the head of its request, read within its limits, and the reply.
 #![tactic(auto)]
 
-mod conn;
 mod reply;
 mod request;
 mod served;
@@ -9,7 +8,6 @@ pub mod serving_laws;
 mod shown_page;
 mod status;
 
-pub use conn::Conn;
 pub use reply::{reply_head, say_both};
 pub use request::asked_status;
 pub use served::serve_one;

@@ -2,12 +2,11 @@
 ghost use Rattle.std.specs.Prelude.{◌≡◌, ◌++◌, IfOk, OnOk, OnErr, codes, fold};
 ghost use Rattle.std.specs.Fmt.{decimal};
 ghost use Rattle.http_talk.specs.Requests.{line};
-ghost use Rattle.page_server.specs.Connections.{WereWritten, WereCutOff};
+ghost use Rattle.bridge_ports.specs.Connections.{WereWritten, WereCutOff};
 ghost use Rattle.page_server.specs.Serving.{first_lines, reply_head};
 
-use crate::conn::Conn;
 use crate::status::ReplyStatus;
-use bridge_ports::Failed;
+use bridge_ports::{Conn, Failed};
 use label_sets::Memory;
 use std::alloc::Global;
 use text_emitter::{Emit, Emitter};

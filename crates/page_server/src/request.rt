@@ -3,9 +3,8 @@ ghost use Rattle.std.specs.Prelude.{◌≡◌, ◌≤◌, length, bytes_eq, IfOk
 ghost use Rattle.http_talk.specs.Heads.{head_limit};
 ghost use Rattle.page_server.specs.Serving.{status_of_request, Decides, IsAsked, IsUnheard};
 
-use crate::conn::Conn;
 use crate::status::ReplyStatus;
-use bridge_ports::Failed;
+use bridge_ports::{Conn, Failed};
 use httparse::Status;
 use httparse::spans::{EMPTY_HEADER_SPAN, parse_request};
 

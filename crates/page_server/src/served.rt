@@ -2,12 +2,11 @@
 ghost use Rattle.std.specs.Prelude.{◌≡◌, length, IfOk};
 ghost use Rattle.page_server.specs.Serving.{IsPageFor, IsReplyWith, ServeAnswer};
 
-use crate::conn::Conn;
 use crate::reply::{reply_head, say_both};
 use crate::request::asked_status;
 use crate::shown_page::ShownPage;
 use crate::status::{ReplyStatus, ServeFault};
-use bridge_ports::Failed;
+use bridge_ports::{Conn, Failed};
 use label_sets::Memory;
 use std::alloc::{AllocError, Global};
 

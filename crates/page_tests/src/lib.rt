@@ -3,7 +3,13 @@
 #![tactic(auto)]
 
 #[cfg(test)]
+mod family_rules_calls;
+#[cfg(test)]
+mod open_writing_calls;
+#[cfg(test)]
 mod openmetrics_grammar_calls;
+#[cfg(test)]
+mod pages;
 #[cfg(test)]
 mod sample_groups_calls;
 #[cfg(test)]

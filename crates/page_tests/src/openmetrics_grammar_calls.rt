@@ -158,15 +158,23 @@ fn told(alloc: Global, line: &[u8]) -> Result<String, Memory> {
     }
 }
 
+const DESCRIPTORS: [(&str, &str); 5] = [
+    (
+        "# HELP x a\\nb\\\\c\\\"d\"e\\q ",
+        "help x a\nb\\c\"d\"e\\q ",
+    ),
+    ("# HELP x ", "help x "),
+    ("# UNIT x_s s", "unit x_s s"),
+    ("# TYPE x stateset", "state set x"),
+    ("# EOF", "end"),
+];
+
 #[test]
 fn descriptors(rt: HostRuntime) -> Result<(), Memory> {
-    let alloc = rt.alloc();
-    let help = told(alloc, b"# HELP x a\\nb\\\\c\\\"d\"e\\q ")?;
-    assert_eq!(rt; help.as_str(), "help x a\nb\\c\"d\"e\\q ");
-    assert_eq!(rt; told(alloc, b"# HELP x ")?.as_str(), "help x ");
-    assert_eq!(rt; told(alloc, b"# UNIT x_s s")?.as_str(), "unit x_s s");
-    assert_eq!(rt; told(alloc, b"# TYPE x stateset")?.as_str(), "state set x");
-    assert_eq!(rt; told(alloc, b"# EOF")?.as_str(), "end");
+    for (line, text) in &DESCRIPTORS {
+        let told = told(rt.alloc(), line.as_bytes())?;
+        assert_eq!(rt; told.as_str(), *text);
+    }
     Ok(())
 }
 
@@ -191,46 +199,85 @@ fn is_one(labels: &LabelSet, name: &[u8], value: &[u8]) -> bool {
     }
 }
 
+/// Whether a sample has this name, value and time, and an exemplar with this value and time.
+fn is_sample(sample: &Sample, name: &str, numbers: [Option<Number>; 4]) -> bool {
+    let [value, stamp, exemplar_value, exemplar_stamp] = numbers;
+    let has_exemplar = match &sample.exemplar {
+        Some(exemplar) => Some(exemplar.value) == exemplar_value
+            && exemplar.stamp == exemplar_stamp,
+        None => false,
+    };
+    sample.name.as_str() == name
+        && Some(sample.value) == value
+        && sample.stamp == stamp
+        && has_exemplar
+}
+
+/// Whether a sample has one label with this name and value, and its exemplar another one.
+fn has_labels(sample: &Sample, own: (&[u8], &[u8]), other: (&[u8], &[u8])) -> bool {
+    let on_exemplar = match &sample.exemplar {
+        Some(exemplar) => is_one(&exemplar.labels, other.0, other.1),
+        None => false,
+    };
+    is_one(&sample.labels, own.0, own.1) && on_exemplar
+}
+
 #[test]
 fn samples(rt: HostRuntime) -> Result<(), Memory> {
     let line = b"x{b=\"\",a=\"p\\n\\\"\\\\\\q\"} 1.50 2.5 # {t=\"\xc3\xbc\"} 3 4";
     let sample = sample(rt.alloc(), line)?.expect(&rt, "a sample");
-    assert_eq!(rt; sample.name.as_str(), "x");
-    assert!(rt; is_one(&sample.labels, b"a", b"p\n\"\\\\q"));
-    assert!(rt; Some(sample.value) == number(b"1.5"));
-    assert!(rt; sample.stamp == number(b"2.5"));
-    let exemplar = sample.exemplar.expect(&rt, "an exemplar");
-    assert!(rt; is_one(&exemplar.labels, b"t", b"\xc3\xbc"));
-    assert!(rt; Some(exemplar.value) == number(b"3"));
-    assert!(rt; exemplar.stamp == number(b"4"));
+    let numbers = [number(b"1.5"), number(b"2.5"), number(b"3"), number(b"4")];
+    assert!(rt; is_sample(&sample, "x", numbers));
+    assert!(rt; has_labels(&sample, (b"a", b"p\n\"\\\\q"), (b"t", b"\xc3\xbc")));
     Ok(())
 }
 
 #[test]
 fn plain_samples(rt: HostRuntime) -> Result<(), Memory> {
     let sample = sample(rt.alloc(), b"x:y -inf # {} NaN")?.expect(&rt, "a sample");
-    assert_eq!(rt; sample.name.as_str(), "x:y");
+    assert!(rt;
+        is_sample(
+            &sample,
+            "x:y",
+            [number(b"-Inf"), None, number(b"nan"), None]
+        )
+    );
     assert!(rt; sample.labels.is_empty());
-    assert!(rt; Some(sample.value) == number(b"-Inf"));
-    assert!(rt; sample.stamp.is_none());
-    let exemplar = sample.exemplar.expect(&rt, "an exemplar");
-    assert!(rt; Some(exemplar.value) == number(b"nan"));
-    assert!(rt; exemplar.stamp.is_none());
     Ok(())
+}
+
+/// So many labels without a value, and what follows them.
+fn labels_and(alloc: Global, count: u32, more: &str) -> Result<String, Memory> {
+    let mut labels = String::from_str(alloc, "a0=\"\"")?;
+    for place in 1..count {
+        write!(labels, ",a{place}=\"\"")?;
+    }
+    labels.push_str(more)?;
+    Ok(labels)
+}
+
+/// The rule that refuses a line of this front, of so many labels, and of this end.
+fn refusal_of_many(
+    alloc: Global,
+    front: &str,
+    count: u32,
+    end: &str,
+) -> Result<Option<Rule>, Memory> {
+    let mut line = String::from_str(alloc, front)?;
+    line.push_str(labels_and(alloc, count, end)?.as_str())?;
+    refusal(alloc, line.as_bytes())
 }
 
 /// The most labels that a target's sample may have, and one more.
 #[test]
 fn many_labels(rt: HostRuntime) -> Result<(), Memory> {
-    let mut labels = String::from_str(rt.alloc(), "a0=\"\"")?;
-    for place in 1..64 {
-        labels.push_str(format!(in rt.alloc(); ",a{place}=\"\"")?.as_str())?;
+    for (front, count, end, rule) in [
+        ("x{", 64, "} 1", None),
+        ("x{", 65, "} 1", Some(Rule::Labels)),
+        ("x 1 # {", 65, "} 1", Some(Rule::Labels)),
+    ] {
+        let refusal = refusal_of_many(rt.alloc(), front, count, end)?;
+        assert!(rt; refusal == rule, "{front} {count}");
     }
-    let within = format!(in rt.alloc(); "x{{{labels}}} 1")?;
-    let above = format!(in rt.alloc(); "x{{{labels},b=\"\"}} 1")?;
-    let on_exemplar = format!(in rt.alloc(); "x 1 # {{b=\"\",{labels}}} 1")?;
-    assert!(rt; refusal(rt.alloc(), within.as_bytes())?.is_none());
-    assert!(rt; refusal(rt.alloc(), above.as_bytes())? == Some(Rule::Labels));
-    assert!(rt; refusal(rt.alloc(), on_exemplar.as_bytes())? == Some(Rule::Labels));
     Ok(())
 }

@@ -1,7 +1,7 @@
 //! Tests of `sample_groups`.
 use exact_decimal::{Number, read};
-use label_sets::{Kind, Label, LabelSet, Memory, Name, Text};
-use page_model::{Format, Rule, Sample, Value};
+use label_sets::{Kind, Label, LabelSet, List, Memory, Name, Text};
+use page_model::{Bucket, Format, Quantile, Reading, Rule, Sample, Value};
 use sample_groups::{Groups, is_grouped, part_of};
 use std::alloc::{AllocError, Global};
 
@@ -68,148 +68,206 @@ fn gather(
     Ok(None)
 }
 
-#[test]
-fn makes_the_readings_of_a_histogram(rt: HostRuntime) -> Result<(), Memory> {
-    let alloc = rt.alloc();
-    let mut groups = Groups::new(alloc);
-    let rows = [
-        ("h_bucket", "", "0.1", "2"),
-        ("h_bucket", "", "1", "5"),
-        ("h_bucket", "a", "1", "7"),
-        ("h_bucket", "", "+Inf", "5"),
-        ("h_sum", "", "", "1.5"),
-        ("h_count", "", "", "5"),
-    ];
-    assert!(rt; gather(alloc, Kind::Histogram, &rows, &mut groups)?.is_none());
-    assert!(rt; !groups.are_whole());
-    let rest = [("h_bucket", "a", "+Inf", "8")];
-    assert!(rt; gather(alloc, Kind::Histogram, &rest, &mut groups)?.is_none());
-    assert!(rt; groups.are_whole());
-
+/// The readings of the family `h` that its groups come to.
+fn readings_of(
+    alloc: Global,
+    format: Format,
+    kind: Kind,
+    groups: Groups,
+) -> Result<List<Reading>, Memory> {
     let family = Name::from_str(alloc, "h")?;
-    let unit = Text::from_str(alloc, "")?;
-    let readings = groups.into_readings(alloc, Format::Text, Kind::Histogram, &family, &unit)?;
-    let [plain, coded] = readings.as_slice() else {
-        panic!(rt; "not two readings");
+    let unit = Text::empty();
+    groups.into_readings(alloc, format, kind, &family, &unit)
+}
+
+/// The readings of the family `h` that these rows come to, where none breaks a rule.
+fn gathered(
+    alloc: Global,
+    format: Format,
+    kind: Kind,
+    rows: &[Row<'_>],
+) -> Result<List<Reading>, Memory> {
+    let mut groups = Groups::new(alloc);
+    if gather(alloc, kind, rows, &mut groups)?.is_some() {
+        return Ok(List::new(alloc));
+    }
+    readings_of(alloc, format, kind, groups)
+}
+
+/// Whether a bucket has this bound and this count.
+fn is_bucket(bucket: &Bucket, le: &str, count: u64) -> bool {
+    bucket.le == number(le) && bucket.count == count
+}
+
+const HISTOGRAM: [Row<'_>; 7] = [
+    ("h_bucket", "", "0.1", "2"),
+    ("h_bucket", "", "1", "5"),
+    ("h_bucket", "a", "1", "7"),
+    ("h_bucket", "", "+Inf", "5"),
+    ("h_sum", "", "", "1.5"),
+    ("h_count", "", "", "5"),
+    ("h_bucket", "a", "+Inf", "8"),
+];
+
+/// Whether the groups are whole before the last row of the histogram, and behind it.
+fn are_whole(alloc: Global) -> Result<[bool; 2], Memory> {
+    let mut groups = Groups::new(alloc);
+    let first = gather(alloc, Kind::Histogram, &HISTOGRAM[..6], &mut groups)?.is_none();
+    let before = groups.are_whole();
+    let last = gather(alloc, Kind::Histogram, &HISTOGRAM[6..], &mut groups)?.is_none();
+    Ok([first && before, last && groups.are_whole()])
+}
+
+#[test]
+fn groups_are_whole_once_each_has_its_last_bucket(rt: HostRuntime) -> Result<(), Memory> {
+    assert_eq!(rt; are_whole(rt.alloc())?, [false, true]);
+    Ok(())
+}
+
+/// Whether the first reading of the histogram has the family's name, no labels, its buckets and its sum, and the
+/// second one a label, which is not that of buckets.
+fn is_histogram(readings: &[Reading]) -> bool {
+    let [plain, coded] = readings else {
+        return false;
     };
-    assert!(rt; plain.key.labels.is_empty() && plain.key.name == family);
-    assert!(rt; coded.key.labels.value(b"le").is_none());
     let Value::Buckets { buckets, sum } = &plain.value else {
-        panic!(rt; "no buckets");
+        return false;
     };
     let [low, middle, high] = buckets.as_slice() else {
-        panic!(rt; "not three buckets");
+        return false;
     };
-    assert!(rt; low.le == number("0.1") && low.count == 2);
-    assert!(rt; middle.le == number("1") && middle.count == 5);
-    assert!(rt; high.le == Number::Up && high.count == 5);
-    assert!(rt; *sum == Some(number("1.5")));
+    plain.key.labels.is_empty()
+        && plain.key.name.as_str() == "h"
+        && coded.key.labels.len() == 1
+        && coded.key.labels.value(b"le").is_none()
+        && is_bucket(low, "0.1", 2)
+        && is_bucket(middle, "1", 5)
+        && is_bucket(high, "+Inf", 5)
+        && *sum == Some(number("1.5"))
+}
+
+#[test]
+fn makes_the_readings_of_a_histogram(rt: HostRuntime) -> Result<(), Memory> {
+    let readings = gathered(rt.alloc(), Format::Text, Kind::Histogram, &HISTOGRAM)?;
+    assert!(rt; is_histogram(readings.as_slice()));
     Ok(())
+}
+
+const SUMMARY: [Row<'_>; 3] = [
+    ("h", "", "0.99", "3"),
+    ("h_count", "", "", "4"),
+    ("h", "", "0.5", "2"),
+];
+
+/// Whether a quantile is at this place and has this value.
+fn is_quantile(quantile: &Quantile, at: &str, value: &str) -> bool {
+    Number::Finite(quantile.at) == number(at) && quantile.value == number(value)
+}
+
+/// Whether the reading of the summary has its quantiles in the order of the page, its count, and no sum.
+fn is_summary(readings: &[Reading]) -> bool {
+    let [reading] = readings else {
+        return false;
+    };
+    let Value::Quantiles { list, count, sum } = &reading.value else {
+        return false;
+    };
+    let [high, middle] = list.as_slice() else {
+        return false;
+    };
+    reading.key.name.as_str() == "h"
+        && is_quantile(high, "0.99", "3")
+        && is_quantile(middle, "0.5", "2")
+        && *count == Some(4)
+        && sum.is_none()
 }
 
 #[test]
 fn makes_the_reading_of_a_summary(rt: HostRuntime) -> Result<(), Memory> {
-    let alloc = rt.alloc();
-    let mut groups = Groups::new(alloc);
-    let rows = [
-        ("h", "", "0.99", "3"),
-        ("h_count", "", "", "4"),
-        ("h", "", "0.5", "2"),
-    ];
-    assert!(rt; gather(alloc, Kind::Summary, &rows, &mut groups)?.is_none());
-    let family = Name::from_str(alloc, "h")?;
-    let unit = Text::from_str(alloc, "")?;
-    let readings = groups.into_readings(alloc, Format::Text, Kind::Summary, &family, &unit)?;
-    let [reading] = readings.as_slice() else {
-        panic!(rt; "not one reading");
-    };
-    let Value::Quantiles { list, count, sum } = &reading.value else {
-        panic!(rt; "no quantiles");
-    };
-    let [high, middle] = list.as_slice() else {
-        panic!(rt; "not two quantiles");
-    };
-    assert!(rt; Number::Finite(high.at) == number("0.99") && high.value == number("3"));
-    assert!(rt; Number::Finite(middle.at) == number("0.5") && middle.value == number("2"));
-    assert!(rt; *count == Some(4) && sum.is_none());
+    let readings = gathered(rt.alloc(), Format::Text, Kind::Summary, &SUMMARY)?;
+    assert!(rt; is_summary(readings.as_slice()));
     Ok(())
+}
+
+const COUNTERS: [Row<'_>; 5] = [
+    ("h_total", "a", "", "5"),
+    ("h_created", "a", "", "1.5"),
+    ("h_total", "a", "1", "+Inf"),
+    ("h_created", "b", "", "2"),
+    ("h_total", "a", "2", "0"),
+];
+
+/// Whether a reading of a counter has this value, so many labels, and this created time.
+fn is_counter(reading: &Reading, value: &str, labels: usize, created: Option<&str>) -> bool {
+    reading.key.name.as_str() == "h_total"
+        && reading.key.labels.len() == labels
+        && is_plain(&reading.value, value)
+        && reading.created == created.map(|token| number(token))
+}
+
+/// Whether the readings are those of the counters, of which the first one alone has a created time.
+fn are_counters(readings: &[Reading]) -> bool {
+    let [first, second, third] = readings else {
+        return false;
+    };
+    is_counter(first, "5", 1, Some("1.5"))
+        && is_counter(second, "+Inf", 2, None)
+        && is_counter(third, "0", 2, None)
 }
 
 #[test]
 fn makes_the_readings_of_a_counter(rt: HostRuntime) -> Result<(), Memory> {
-    let alloc = rt.alloc();
-    assert!(rt; !is_grouped(Format::Text, Kind::Counter));
-    let mut groups = Groups::new(alloc);
-    let rows = [
-        ("h_total", "a", "", "5"),
-        ("h_created", "a", "", "1.5"),
-        ("h_total", "a", "1", "+Inf"),
-        ("h_created", "b", "", "2"),
-        ("h_total", "a", "2", "0"),
-    ];
-    assert!(rt; gather(alloc, Kind::Counter, &rows, &mut groups)?.is_none());
-    let family = Name::from_str(alloc, "h")?;
-    let unit = Text::from_str(alloc, "")?;
-    let readings = groups.into_readings(alloc, Format::OpenMetrics, Kind::Counter, &family, &unit)?;
-    let [first, second, third] = readings.as_slice() else {
-        panic!(rt; "not three readings");
-    };
-    assert!(rt; first.key.name.as_str() == "h_total" && first.key.labels.len() == 1);
-    assert!(rt; is_plain(&first.value, "5") && first.created == Some(number("1.5")));
-    assert!(rt; is_plain(&second.value, "+Inf") && second.created.is_none());
-    assert!(rt; is_plain(&third.value, "0") && third.key.labels.len() == 2);
+    let readings = gathered(rt.alloc(), Format::OpenMetrics, Kind::Counter, &COUNTERS)?;
+    assert!(rt; are_counters(readings.as_slice()));
     Ok(())
 }
 
 #[test]
+fn counters_of_a_text_page_have_no_groups(rt: HostRuntime) {
+    assert!(rt; !is_grouped(Format::Text, Kind::Counter));
+}
+
+/// The created time of the only reading that these rows come to, and whether there is one.
+fn created_of(
+    alloc: Global,
+    kind: Kind,
+    rows: &[Row<'_>],
+) -> Result<Option<Option<Number>>, Memory> {
+    let readings = gathered(alloc, Format::OpenMetrics, kind, rows)?;
+    Ok(match readings.as_slice() {
+        [reading] => Some(reading.created),
+        _ => None,
+    })
+}
+
+// A group with nothing but a created time makes no reading, and of two created times the first one counts.
+#[test]
 fn takes_created_times(rt: HostRuntime) -> Result<(), Memory> {
     let alloc = rt.alloc();
-    let family = Name::from_str(alloc, "h")?;
-    let unit = Text::from_str(alloc, "")?;
-    let mut summaries = Groups::new(alloc);
-    let rows = [("h_created", "a", "", "3"), ("h_sum", "b", "", "4")];
-    assert!(rt; gather(alloc, Kind::Summary, &rows, &mut summaries)?.is_none());
-    let readings = summaries.into_readings(
-        alloc,
-        Format::OpenMetrics,
-        Kind::Summary,
-        &family,
-        &unit,
-    )?;
-    let [summary] = readings.as_slice() else {
-        panic!(rt; "not one reading");
-    };
-    assert!(rt; summary.created.is_none() && summary.key.name == family);
-
-    let mut histograms = Groups::new(alloc);
-    let rows = [
+    let summaries = [("h_created", "a", "", "3"), ("h_sum", "b", "", "4")];
+    assert_eq!(rt; created_of(alloc, Kind::Summary, &summaries)?, Some(None));
+    let histograms = [
         ("h_created", "", "", "3"),
         ("h_bucket", "", "+Inf", "4"),
         ("h_created", "", "", "5"),
     ];
-    assert!(rt; gather(alloc, Kind::Histogram, &rows, &mut histograms)?.is_none());
-    let readings = histograms.into_readings(
-        alloc,
-        Format::OpenMetrics,
-        Kind::Histogram,
-        &family,
-        &unit,
-    )?;
-    let [histogram] = readings.as_slice() else {
-        panic!(rt; "not one reading");
-    };
-    assert!(rt; histogram.created == Some(number("3")));
+    let created = created_of(alloc, Kind::Histogram, &histograms)?;
+    assert_eq!(rt; created, Some(Some(number("3"))));
     Ok(())
+}
+
+/// Whether a gauge histogram with this count beside a last bucket of 4 is whole.
+fn is_whole_with(alloc: Global, count: &str) -> Result<bool, Memory> {
+    let rows = [("h_bucket", "", "+Inf", "4"), ("h_gcount", "", "", count)];
+    let mut groups = Groups::new(alloc);
+    let fits = gather(alloc, Kind::GaugeHistogram, &rows, &mut groups)?.is_none();
+    Ok(fits && groups.are_whole())
 }
 
 #[test]
 fn tells_a_whole_gauge_histogram(rt: HostRuntime) -> Result<(), Memory> {
-    let alloc = rt.alloc();
     for (count, whole) in [("4", true), ("5", false)] {
-        let mut groups = Groups::new(alloc);
-        let rows = [("h_bucket", "", "+Inf", "4"), ("h_gcount", "", "", count)];
-        assert!(rt; gather(alloc, Kind::GaugeHistogram, &rows, &mut groups)?.is_none());
-        assert!(rt; groups.are_whole() == whole);
+        assert_eq!(rt; is_whole_with(rt.alloc(), count)?, whole);
     }
     Ok(())
 }

@@ -3,7 +3,7 @@ use Rattle.std.proofs.Common.{◌≡◌, ℕ, List, Option, Result, Ok, Err, sym
 use Rattle.std.specs.Prelude.{IfErr, IsErrAnd}
 use Rattle.bridge_ports.specs.Worlds.{WorldState, OpenFile}
 use Rattle.bridge_config.specs.declared.config.Config.{Config}
-use Rattle.bridge_cli.specs.Inputs.{EndsWithin}
+use Rattle.bridge_ports.specs.Inputs.{EndsWithin}
 use Rattle.config_file.specs.declared.file_stop.FileStop.{FileStop}
 use Rattle.config_file.specs.declared.file_stop.FileStop.TheVariants.{Memory}
 use Rattle.config_file.specs.ConfigFiles.{HoldsConfig, IsFileAsked, LeavesFile, StopsReadingFile, left_of, most_config}

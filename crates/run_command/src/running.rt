@@ -6,13 +6,13 @@ ghost use Rattle.world_run.specs.Outside.{seen_home, outside_of, AreUnused};
 ghost use Rattle.run_command.specs.RunReports.{IsReportOfRun, LeavesPairs, IsRunAsked, MayKeepComing};
 
 use crate::report::{Report, report_of};
-use bridge_ports::{Door, World};
+use bridge_ports::{Conn, Door, World};
 use config_file::{FileStop, config_in};
 use label_sets::Text;
 use std::alloc::Global;
 use std::sync::Wait;
 use std::thread::Threads;
-use world_run::{Conn, run_config};
+use world_run::run_config;
 
 /// Reads the configuration in the file of a path, visits its targets over the wires of the world, beside its door where
 /// it has one, and gives the report.

@@ -1,4 +1,3 @@
 mod Counted
-mod Lettered
 mod Federated
 mod Served

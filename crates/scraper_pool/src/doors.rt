@@ -4,8 +4,8 @@ ghost use Rattle.bridge_ports.specs.Doors.{most_handed};
 ghost use Rattle.scraper_pool.specs.Serving.{served_count, ServedSome, HasRefused, IsUnopened, HasServed};
 
 use crate::pool::Pool;
-use bridge_ports::{Door, Failed, Wire};
-use page_server::{Conn, ReplyStatus, ServeFault};
+use bridge_ports::{Conn, Door, Failed, Wire};
+use page_server::{ReplyStatus, ServeFault};
 use std::alloc::Global;
 use std::sync::Wait;
 use target_table::{Lane, RunName};

@@ -7,12 +7,10 @@ mod pool;
 pub mod pool_laws;
 mod run;
 mod serving;
-#[cfg(test)]
-mod tests;
 mod turn;
 mod workers;
 
-pub use page_server::{Conn, ReplyStatus, ServeFault};
+pub use page_server::{ReplyStatus, ServeFault};
 pub use pool::Pool;
 pub use run::{Ended, RunFault, run_targets, run_with_door};
 pub use target_table::{Counts, Lane, RunName, Seat, Share, Shares, TableFault, Track};

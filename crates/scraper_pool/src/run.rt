@@ -9,8 +9,7 @@ ghost use Rattle.scraper_pool.specs.Serving.{IsUnopened, ServesAt};
 ghost use Rattle.scraper_pool.specs.Turns.{IsFreeLane, run_of};
 
 use crate::pool::Pool;
-use bridge_ports::{Door, MemoryConn, MemoryDoor, Wire};
-use page_server::Conn;
+use bridge_ports::{Conn, Door, MemoryConn, MemoryDoor, Wire};
 use std::alloc::Global;
 use std::marker::Brand;
 use std::sync::Wait;

@@ -5,9 +5,9 @@ ghost use Rattle.page_server.specs.Serving.{IsPageFor, IsReplyWith, ServeAnswer}
 ghost use Rattle.scraper_pool.specs.Federating.{IsSeenPage};
 
 use crate::pool::Pool;
-use bridge_ports::{Failed, Wire};
+use bridge_ports::{Conn, Failed, Wire};
 use label_sets::Memory;
-use page_server::{Conn, ReplyStatus, ServeFault, asked_status, reply_head, say_both};
+use page_server::{ReplyStatus, ServeFault, asked_status, reply_head, say_both};
 use std::alloc::{AllocError, Global};
 use std::sync::Wait;
 use target_table::{Lane, RunName};

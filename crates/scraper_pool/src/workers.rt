@@ -6,8 +6,7 @@ ghost use Rattle.scraper_pool.specs.Turns.{IsFreeLane, IsWork, seated};
 
 use crate::pool::Pool;
 use crate::turn::Turn;
-use bridge_ports::{Door, Wire};
-use page_server::Conn;
+use bridge_ports::{Conn, Door, Wire};
 use std::alloc::Global;
 use std::sync::Wait;
 use std::thread::{Threads, join};

@@ -9,16 +9,19 @@ use memory_world::MemoryWorld;
 use std::alloc::Global;
 use std::test::Fail;
 
+/// A file of four bytes.
+fn file(alloc: Global) -> Result<MemoryFile, Memory> {
+    let path = Text::from_str(alloc, "a")?;
+    let bytes = Bytes::from_slice(alloc, b"text")?;
+    Ok(MemoryFile { path, bytes })
+}
+
 /// A world of one file, in which these calls fail.
 fn world(alloc: Global, failing: &[u64]) -> Result<MemoryWorld, Memory>
     ensures fresh { IfOk result (λ world. world.world ≡ fresh_world) }
     ensures bare { IfOk result (λ world. world.pairs ≡ []) }
 {
-    let file = MemoryFile {
-        path: Text::from_str(alloc, "a")?,
-        bytes: Bytes::from_slice(alloc, b"text")?,
-    };
-    let files = List::from_vec(Vec::from_array(alloc, [file])?)?;
+    let files = List::from_vec(Vec::from_array(alloc, [file(alloc)?])?)?;
     let failing = List::from_vec(Vec::from_slice(alloc, failing)?)?;
     Ok(MemoryWorld::new(alloc, files, Vec::new(alloc), Vec::new(alloc), failing))
 }
@@ -61,11 +64,24 @@ fn pair_goes_out_and_comes_back(rt: HostRuntime) -> Result<(), Fail> {
     let alloc = rt.alloc();
     let to = address(alloc)?;
     let mut world = world(alloc, &[])?;
-    assert!(rt; world.home(7).is_none());
+    let before = world.home(7).is_some();
     let (scrape, post) = world.wires(alloc, 7, &to, &to)?;
-    assert!(rt; world.home(7).is_none());
+    let out = world.home(7).is_some();
     world.back(7, scrape, post);
-    assert!(rt; world.home(7).is_some());
+    assert_eq!(rt;
+        [before, out, world.home(7).is_some()],
+        [false, false, true]
+    );
+    Ok(())
+}
+
+#[test]
+fn pair_that_came_back_is_shelved(rt: HostRuntime) -> Result<(), Fail> {
+    let alloc = rt.alloc();
+    let to = address(alloc)?;
+    let mut world = world(alloc, &[])?;
+    let (scrape, post) = world.wires(alloc, 7, &to, &to)?;
+    world.back(7, scrape, post);
     let (scrape, post) = world.wires(alloc, 7, &to, &to)?;
     world.shelve(alloc, scrape, post)?;
     assert_eq!(rt; world.shelf().len(), 1);

@@ -1,7 +1,8 @@
 //! Tests of `replay_script`.
 use bridge_ports::End;
-use replay_script::{ScriptFault, collector, default_reply, read, scripts_are_right};
+use replay_script::{Script, ScriptFault, collector, default_reply, read, scripts_are_right};
 use std::alloc::Global;
+use std::test::Fail;
 
 const FALLS: &[u8] =
     b"bridge-script 1\nkeep 1\nlimit 7\nrounds 2\ntarget j h:1 /metrics\npage 10 text 4\nx 1\n\npage 20 openmetrics 6\n# EOF\n\n";
@@ -13,42 +14,94 @@ fn line(alloc: Global, script: &[u8]) -> Option<u64> {
     }
 }
 
+/// The times for which a series is kept, the limit of samples and the rounds that a script names, and how many
+/// targets it has.
+fn head(script: &Script) -> (u32, u32, u32, usize) {
+    (
+        script.header.keep,
+        script.header.limit,
+        script.header.rounds,
+        script.targets.len(),
+    )
+}
+
+/// The job and the instance of the target at this place.
+fn named(script: &Script, place: usize) -> Option<(&[u8], &[u8])> {
+    let target = &script.targets.as_slice().get(place)?.target;
+    Some((target.job().as_bytes(), target.instance().as_bytes()))
+}
+
+/// How many scrapes and posts the target at this place has.
+fn counts(script: &Script, place: usize) -> Option<(usize, usize)> {
+    let target = script.targets.as_slice().get(place)?;
+    Some((target.scrapes.len(), target.posts.len()))
+}
+
+/// When a scrape of the target at this place comes, and how its talk ends.
+fn scraped(script: &Script, place: usize, scrape: usize) -> Option<(u64, End)> {
+    let target = script.targets.as_slice().get(place)?;
+    let reply = target.scrapes.as_slice().get(scrape)?;
+    Some((reply.at, reply.end))
+}
+
+/// The bytes of the first scrape of the first target.
+fn first_bytes(script: &Script) -> Option<&[u8]> {
+    let target = script.targets.as_slice().first()?;
+    let reply = target.scrapes.as_slice().first()?;
+    Some(reply.got.as_slice())
+}
+
+/// How the talk of the first post of the first target ends.
+fn first_post(script: &Script) -> Option<End> {
+    let target = script.targets.as_slice().first()?;
+    let reply = target.posts.as_slice().first()?;
+    Some(reply.end)
+}
+
 #[test]
-fn one_script(rt: HostRuntime) {
+fn one_script_has_its_head_and_target(rt: HostRuntime) {
     let script = read(rt.alloc(), FALLS).expect(&rt, "a script");
-    assert_eq!(rt; script.header.keep, 1);
-    assert_eq!(rt; script.header.limit, 7);
-    assert_eq!(rt; script.header.rounds, 2);
-    assert_eq!(rt; script.targets.len(), 1);
-    let target = &script.targets.as_slice()[0];
-    assert!(rt; target.target.instance().as_bytes() == b"h:1".as_slice());
-    assert_eq!(rt; target.scrapes.len(), 2);
-    assert_eq!(rt; target.scrapes.as_slice()[1].at, 20);
-    assert!(rt;
-        target.scrapes.as_slice()[0].got.as_slice()
-            == b"HTTP/1.1 200 OK\r\nContent-Type: text/plain; version=0.0.4\r\nContent-Length: 4\r\n\r\nx 1\n".as_slice()
+    assert_eq!(rt; head(&script), (1, 7, 2, 1));
+    assert_eq!(rt;
+        named(&script, 0),
+        Some((b"j".as_slice(), b"h:1".as_slice()))
     );
-    assert!(rt; target.scrapes.as_slice()[1].end == End::Ended);
-    assert_eq!(rt; target.posts.len(), 0);
     scripts_are_right();
 }
 
 #[test]
-fn raw_replies(rt: HostRuntime) {
-    let script = read(
-        rt.alloc(),
-        b"bridge-script 1\ntries 1\nrounds 1\ntarget j h:1 /m\nscrape 7 read 2\nHT\npost 8 connect 0\n\n",
-    )
-    .expect(&rt, "a script");
-    assert_eq!(rt; script.targets.len(), 1);
-    let target = &script.targets.as_slice()[0];
-    assert_eq!(rt; target.scrapes.len(), 1);
-    let scraped = &target.scrapes.as_slice()[0];
-    assert_eq!(rt; scraped.at, 7);
-    assert!(rt; scraped.got.as_slice() == b"HT".as_slice());
-    assert!(rt; scraped.end == End::ReadFailed);
-    assert_eq!(rt; target.posts.len(), 1);
-    assert!(rt; target.posts.as_slice()[0].end == End::ConnectFailed);
+fn one_script_has_its_replies(rt: HostRuntime) {
+    let script = read(rt.alloc(), FALLS).expect(&rt, "a script");
+    assert_eq!(rt;
+        (counts(&script, 0), scraped(&script, 0, 1)),
+        (Some((2, 0)), Some((20, End::Ended)))
+    );
+    assert_eq!(rt;
+        first_bytes(&script),
+        Some(
+            b"HTTP/1.1 200 OK\r\nContent-Type: text/plain; version=0.0.4\r\nContent-Length: 4\r\n\r\nx 1\n".as_slice()
+        )
+    );
+}
+
+const RAW: &[u8] =
+    b"bridge-script 1\ntries 1\nrounds 1\ntarget j h:1 /m\nscrape 7 read 2\nHT\npost 8 connect 0\n\n";
+
+#[test]
+fn raw_scrape_has_its_time_its_end_and_its_bytes(rt: HostRuntime) {
+    let script = read(rt.alloc(), RAW).expect(&rt, "a script");
+    assert_eq!(rt; scraped(&script, 0, 0), Some((7, End::ReadFailed)));
+    assert_eq!(rt; first_bytes(&script), Some(b"HT".as_slice()));
+}
+
+#[test]
+fn raw_replies_are_counted(rt: HostRuntime) {
+    let script = read(rt.alloc(), RAW).expect(&rt, "a script");
+    assert_eq!(rt;
+        (script.targets.len(), counts(&script, 0)),
+        (1, Some((1, 1)))
+    );
+    assert_eq!(rt; first_post(&script), Some(End::ConnectFailed));
 }
 
 #[test]
@@ -59,106 +112,111 @@ fn what_wires_answer(rt: HostRuntime) {
     assert_eq!(rt; collector.port, 4_318);
 }
 
-#[test]
-fn refused_records(rt: HostRuntime) {
-    let alloc = rt.alloc();
-    assert_eq!(rt; line(alloc, b""), Some(1));
-    assert_eq!(rt;
-        line(
-            alloc,
-            b"bridge-script 1\nrounds 1\ntarget j h:1 /m\npage 1 text 2\nx\n"
-        ),
-        Some(4)
-    );
-    assert_eq!(rt;
-        line(
-            alloc,
-            b"bridge-script 1\nrounds 1\ntarget j h:1 /m\nscrape 1 connect 1\nx\n"
-        ),
-        Some(4)
-    );
-    assert_eq!(rt;
-        line(
-            alloc,
-            b"bridge-script 1\ntries 1\nrounds 1\ntarget j h:1 /m\npost 1 connect 0\n\npost 2 connect 0\n\n"
-        ),
-        Some(7)
-    );
-}
+/// Refused scripts, each with the line that is named.
+const REFUSED: [(&[u8], u64); 7] = [
+    (b"", 1),
+    (
+        b"bridge-script 1\nrounds 1\ntarget j h:1 /m\npage 1 text 2\nx\n",
+        4,
+    ),
+    (
+        b"bridge-script 1\nrounds 1\ntarget j h:1 /m\nscrape 1 connect 1\nx\n",
+        4,
+    ),
+    (
+        b"bridge-script 1\ntries 1\nrounds 1\ntarget j h:1 /m\npost 1 connect 0\n\npost 2 connect 0\n\n",
+        7,
+    ),
+    (
+        b"bridge-script 1\nrounds 1\ntarget j h:1 /m\npage 1 text 1\n\n\ntarget k h:2 /m\n",
+        8,
+    ),
+    (
+        b"bridge-script 1\nrounds 2\ntarget j h:1 /m\npage 1 text 1\n\n\ntarget k h:2 /m\n",
+        7,
+    ),
+    (
+        b"bridge-script 1\nrounds 1\ntarget j h:1 /m\npage 1 text 1\n\n\ntarget j h:1 /x\n",
+        7,
+    ),
+];
 
 #[test]
-fn refused_targets(rt: HostRuntime) {
+fn refused_records_and_targets(rt: HostRuntime) {
     let alloc = rt.alloc();
-    assert_eq!(rt;
-        line(
-            alloc,
-            b"bridge-script 1\nrounds 1\ntarget j h:1 /m\npage 1 text 1\n\n\n"
-        ),
-        None
-    );
-    assert_eq!(rt;
-        line(
-            alloc,
-            b"bridge-script 1\nrounds 1\ntarget j h:1 /m\npage 1 text 1\n\n\ntarget k h:2 /m\n"
-        ),
-        Some(8)
-    );
-    assert_eq!(rt;
-        line(
-            alloc,
-            b"bridge-script 1\nrounds 2\ntarget j h:1 /m\npage 1 text 1\n\n\ntarget k h:2 /m\n"
-        ),
-        Some(7)
-    );
-    assert_eq!(rt;
-        line(
-            alloc,
-            b"bridge-script 1\nrounds 1\ntarget j h:1 /m\npage 1 text 1\n\n\ntarget j h:1 /x\n"
-        ),
-        Some(7)
-    );
-}
-
-#[test]
-fn three_targets(rt: HostRuntime) {
-    let script = read(
-        rt.alloc(),
-        b"bridge-script 1\nrounds 1\ntarget j h:1 /m\nscrape 1 connect 0\n\npost 2 write 0\n\ntarget j h:2 /m\nscrape 3 write 0\n\ntarget k h:1 /m\npost 4 connect 0\n\nscrape 5 ended 0\n\n",
-    )
-    .expect(&rt, "a script");
-    assert_eq!(rt; script.targets.len(), 3);
-    let targets = script.targets.as_slice();
-    assert!(rt; targets[0].target.instance().as_bytes() == b"h:1".as_slice());
-    assert!(rt; targets[1].target.instance().as_bytes() == b"h:2".as_slice());
-    assert!(rt; targets[2].target.job().as_bytes() == b"k".as_slice());
-    assert_eq!(rt; targets[0].posts.len(), 1);
-    assert_eq!(rt; targets[1].posts.len(), 0);
-    assert_eq!(rt; targets[2].posts.len(), 1);
-    assert_eq!(rt; targets[1].scrapes.len(), 1);
-    assert_eq!(rt; targets[1].scrapes.as_slice()[0].at, 3);
-    assert_eq!(rt; targets[2].scrapes.len(), 1);
-    assert_eq!(rt; targets[2].scrapes.as_slice()[0].at, 5);
-}
-
-#[test]
-fn many_targets(rt: HostRuntime) {
-    let alloc = rt.alloc();
-    let mut script = Vec::new(alloc);
-    script
-        .extend_from_slice(b"bridge-script 1\nrounds 1\n")
-        .expect(&rt, "memory");
-    for port in 1..=256_u16 {
-        let lines = format!(in alloc; "target j h:{port} /m\npage 1 text 0\n\n").expect(
-            &rt, "memory",
-        );
-        script
-            .extend_from_slice(lines.as_bytes())
-            .expect(&rt, "memory");
+    for (script, expected) in REFUSED {
+        assert_eq!(rt; line(alloc, script), Some(expected));
     }
-    let whole = read(alloc, script.as_slice()).expect(&rt, "a script");
-    assert_eq!(rt; whole.targets.len(), 256);
-    script
-        .extend_from_slice(b"target j h:257 /m\npage 1 text 0\n\n")
-        .expect(&rt, "memory");
-    assert_eq!(rt; line(alloc, script.as_slice()), Some(771));
+}
+
+#[test]
+fn target_with_its_page_is_taken(rt: HostRuntime) {
+    let script = b"bridge-script 1\nrounds 1\ntarget j h:1 /m\npage 1 text 1\n\n\n";
+    assert_eq!(rt; line(rt.alloc(), script), None);
+}
+
+const THREE: &[u8] =
+    b"bridge-script 1\nrounds 1\ntarget j h:1 /m\nscrape 1 connect 0\n\npost 2 write 0\n\ntarget j h:2 /m\nscrape 3 write 0\n\ntarget k h:1 /m\npost 4 connect 0\n\nscrape 5 ended 0\n\n";
+
+#[test]
+fn three_targets_are_named(rt: HostRuntime) {
+    const ROWS: [(usize, (&[u8], &[u8])); 3] = [
+        (0, (b"j", b"h:1")),
+        (1, (b"j", b"h:2")),
+        (2, (b"k", b"h:1")),
+    ];
+    let script = read(rt.alloc(), THREE).expect(&rt, "a script");
+    assert_eq!(rt; script.targets.len(), 3);
+    for (place, expected) in ROWS {
+        assert_eq!(rt; named(&script, place), Some(expected));
+    }
+}
+
+// Each target has its own scrape and posts, in whichever order a script names these.
+#[test]
+fn three_targets_have_their_replies(rt: HostRuntime) {
+    const ROWS: [(usize, (usize, usize), (u64, End)); 3] = [
+        (0, (1, 1), (1, End::ConnectFailed)),
+        (1, (1, 0), (3, End::WriteFailed)),
+        (2, (1, 1), (5, End::Ended)),
+    ];
+    let script = read(rt.alloc(), THREE).expect(&rt, "a script");
+    for (place, count, first) in ROWS {
+        assert_eq!(rt;
+            (counts(&script, place), scraped(&script, place, 0)),
+            (Some(count), Some(first))
+        );
+    }
+}
+
+/// A script of so many targets, each with an empty page.
+fn of_targets(alloc: Global, count: u16) -> Result<Vec<u8>, Fail> {
+    let mut script = Vec::from_slice(alloc, b"bridge-script 1\nrounds 1\n")?;
+    for port in 1..=count {
+        let lines = format!(in alloc; "target j h:{port} /m\npage 1 text 0\n\n")?;
+        script.extend_from_slice(lines.as_bytes())?;
+    }
+    Ok(script)
+}
+
+/// How many targets a script has, where it is one.
+fn targets_of(alloc: Global, script: &[u8]) -> Option<usize> {
+    match read(alloc, script) {
+        Ok(script) => Some(script.targets.len()),
+        Err(_) => None,
+    }
+}
+
+#[test]
+fn many_targets_are_read(rt: HostRuntime) -> Result<(), Fail> {
+    let script = of_targets(rt.alloc(), 256)?;
+    assert_eq!(rt; targets_of(rt.alloc(), script.as_slice()), Some(256));
+    Ok(())
+}
+
+#[test]
+fn one_target_too_many_is_refused(rt: HostRuntime) -> Result<(), Fail> {
+    let script = of_targets(rt.alloc(), 257)?;
+    assert_eq!(rt; line(rt.alloc(), script.as_slice()), Some(771));
+    Ok(())
 }

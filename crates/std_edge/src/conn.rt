@@ -7,8 +7,7 @@ ghost use Rattle.bridge_ports.specs.Edges.{untold};
 ghost use Rattle.bridge_ports.specs.InMemory.{one_more};
 
 use bridge_ports::std_edge::{StdSink, StdSource};
-use bridge_ports::{Failed, Sink, Source};
-use page_server::Conn;
+use bridge_ports::{Conn, Failed, Sink, Source};
 use std::io;
 use std::marker::Model;
 use std::net::TcpStream;
@@ -118,7 +117,7 @@ impl Sink for NetConn {
 }
 
 impl Conn for NetConn {
-    ghost use Rattle.page_server.specs.Connections.{conn_with};
+    ghost use Rattle.bridge_ports.specs.Connections.{conn_with};
 
     ghost seen = { λ c. conn_with untold untold c.reads c.writes };
 

@@ -7,8 +7,6 @@ mod conn;
 mod door;
 mod pairs;
 mod peer;
-#[cfg(test)]
-mod tests;
 mod wire;
 mod world;
 

@@ -1,5 +1,5 @@
 //! The attributes of the target that was scraped.
-ghost use Rattle.std.specs.Prelude.{◌≡◌, IfOk};
+ghost use Rattle.std.specs.Prelude.{◌≡◌, ◌++◌, ◌∷◌, [], IfOk, OnOk};
 ghost use Rattle.target_core.specs.Trees as trees;
 ghost use Rattle.otlp_tree.specs.declared.tree.AttributeValue.TheVariants.{Str, Int};
 
@@ -28,17 +28,54 @@ fn number_attribute(alloc: Global, key: &str, value: u64) -> Result<Attribute, M
     })
 }
 
+/// Adds an attribute with a text behind the others.
+fn push_text(
+    alloc: Global,
+    attributes: &mut Vec<Attribute>,
+    key: &str,
+    value: Text,
+) -> Result<(), Memory>
+    ensures { OnOk result (attributes.new.items ≡ attributes.old.items ++ record { key = key.now; value = Str value } ∷ []) }
+{
+    attributes.push(text_attribute(alloc, key, value)?)?;
+    Ok(())
+}
+
+/// Adds an attribute with a whole number behind the others.
+fn push_number(
+    alloc: Global,
+    attributes: &mut Vec<Attribute>,
+    key: &str,
+    value: u64,
+) -> Result<(), Memory>
+    ensures { OnOk result (attributes.new.items ≡ attributes.old.items ++ record { key = key.now; value = Int value } ∷ []) }
+{
+    attributes.push(number_attribute(alloc, key, value)?)?;
+    Ok(())
+}
+
 /// The attributes of the target that was scraped.
 #[tactic(auto, unfolding(crate::specs::Trees::resource_of))]
 pub(crate) fn resource(alloc: Global, target: &Target) -> Result<Vec<Attribute>, Memory>
     ensures { IfOk result (λ attributes. attributes.items ≡ trees.resource_of target.now) }
 {
     let address = target.address();
+    let mut all = Vec::with_capacity(alloc, 5)?;
+    push_text(alloc, &mut all, "service.name", target.job().copy()?)?;
+    push_text(
+        alloc,
+        &mut all,
+        "service.instance.id",
+        target.instance().copy()?,
+    )?;
     let host = Text::from_utf8(alloc, address.host.as_slice())?;
-    let name = text_attribute(alloc, "service.name", target.job().copy()?)?;
-    let instance = text_attribute(alloc, "service.instance.id", target.instance().copy()?)?;
-    let server = text_attribute(alloc, "server.address", host)?;
-    let port = number_attribute(alloc, "server.port", u64::from(address.port))?;
-    let scheme = text_attribute(alloc, "url.scheme", Text::from_str(alloc, "http")?)?;
-    Ok(Vec::from_array(alloc, [name, instance, server, port, scheme])?)
+    push_text(alloc, &mut all, "server.address", host)?;
+    push_number(alloc, &mut all, "server.port", u64::from(address.port))?;
+    push_text(
+        alloc,
+        &mut all,
+        "url.scheme",
+        Text::from_str(alloc, "http")?,
+    )?;
+    Ok(all)
 }

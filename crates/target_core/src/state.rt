@@ -12,7 +12,7 @@ ghost use Rattle.staleness.specs.Vanished.{keys_gone};
 ghost use Rattle.bridge_ports.specs.Targets.{Scraped as AnyScraped};
 ghost use Rattle.target_core.specs.Events.{marker_with, first_start};
 ghost use Rattle.target_core.specs.MarkerGroups.{marker_groups};
-ghost use Rattle.target_core.specs.States.{Steps, StandsFor, HasNextMoment, IsFirstTree, ShowsLatest};
+ghost use Rattle.target_core.specs.States.{Steps, StandsFor, HasNextMoment, followed_by, IsFirstTree, ShowsLatest};
 ghost use Rattle.target_core.specs.Trees.{up_of, request_of};
 
 use crate::gone::gather;
@@ -152,6 +152,27 @@ impl TargetState {
         Ok(tree)
     }
 
+    /// The tree of an event behind others, of which the last was at the moment `before`, and the rows behind it.
+    fn later_tree(
+        &self,
+        alloc: Global,
+        before: u64,
+        moment: u64,
+        up: u64,
+        page: &Page,
+    ) -> Result<(Request, Tracker), Memory>
+        requires { self.now.moment ≡ Some before }
+        ensures { (e : AnyEvent) → moment ≡ scrapes.moment_after (Some before) e.reading → up ≡ up_of e.outcome → page.now ≡ page_of_outcome e.outcome
+            → IfOk result (λ r. Steps self.now e r.0 (followed_by self.now r.1 page.now moment)) }
+    {
+        let tracker = self.told_tracker(alloc, before)?;
+        let (starts, next) = tracker.advance(alloc, page, moment)?;
+        let groups = gone_groups(alloc, &tracker, &self.page, page, moment)?;
+        let starts = starts.list.as_slice();
+        let tree = request(alloc, &self.target, moment, up, page, starts, groups)?;
+        Ok((tree, next))
+    }
+
     /// A step behind others, of which the last was at the moment `before`.
     fn later_step(
         &mut self,
@@ -167,11 +188,7 @@ impl TargetState {
         ensures moment { OnOk result (self.new.moment ≡ Some moment) }
         ensures err { OnErr result (self.new ≡ self.old) }
     {
-        let tracker = self.told_tracker(alloc, before)?;
-        let (starts, next) = tracker.advance(alloc, &page, moment)?;
-        let groups = gone_groups(alloc, &tracker, &self.page, &page, moment)?;
-        let starts = starts.list.as_slice();
-        let tree = request(alloc, &self.target, moment, up, &page, starts, groups)?;
+        let (tree, next) = self.later_tree(alloc, before, moment, up, &page)?;
         self.tracker = next;
         self.pending = false;
         self.page = page;

@@ -16,3 +16,5 @@ mod run_report_calls;
 mod scrape_client_calls;
 #[cfg(test)]
 mod series_table_calls;
+#[cfg(test)]
+mod std_edge_calls;

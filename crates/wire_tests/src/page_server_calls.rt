@@ -1,11 +1,14 @@
 //! What no clause says: the rows of connections in memory, whole and in pieces, and each call that fails.
 ghost use Rattle.std.specs.Prelude.{◌≡◌};
 
-use bridge_ports::{MemoryConn, MemorySink, MemorySource};
+use bridge_ports::{Door, MemoryConn, MemorySink, MemorySource};
 use label_sets::{Bytes, List, Memory};
 use page_server::{ReplyStatus, ServeFault, ShownPage, serve_one};
 use std::alloc::Global;
+use std::io::{Read, Write};
+use std::net::{Ipv4Addr, TcpListener, TcpStream};
 use std::test::Fail;
+use std_edge::NetDoor;
 
 /// A page that is always the same.
 #[derive(Drop)]
@@ -132,5 +135,28 @@ fn head_has_so_many_fields(rt: HostRuntime) -> Result<(), Fail> {
         let (came, _) = served(alloc, request.as_slice(), (&[], &[]))?;
         assert_eq!(rt; came, Ok(status));
     }
+    Ok(())
+}
+
+/// The first bytes that a peer reads over loopback of the reply to its request, and what its connection was answered.
+fn served_over_loopback(rt: &HostRuntime, request: &[u8]) -> Result<(ReplyStatus, [u8; 15]), Fail> {
+    let listener = TcpListener::bind(rt, (Ipv4Addr::LOCALHOST, 0))?;
+    let mut peer = TcpStream::connect(rt, listener.local_addr()?)?;
+    peer.write_all(request)?;
+    let mut door = NetDoor::new(listener);
+    let mut conn = door.accept()?;
+    let page = OnePage { text: b"# EOF\n" };
+    let came = serve_one(rt.alloc(), &page, &mut conn);
+    door.close(conn);
+    let mut into = [0u8; 15];
+    peer.read_exact(&mut into)?;
+    Ok((came?, into))
+}
+
+#[test]
+fn page_is_served_over_loopback(rt: HostRuntime) -> Result<(), Fail> {
+    let (came, front) = served_over_loopback(&rt, GET)?;
+    assert_eq!(rt; came, ReplyStatus::Page);
+    assert_eq!(rt; &front, b"HTTP/1.1 200 OK");
     Ok(())
 }

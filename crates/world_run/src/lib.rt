@@ -9,4 +9,3 @@ mod run;
 mod taking;
 
 pub use run::{RunEnd, run_config};
-pub use scraper_pool::Conn;

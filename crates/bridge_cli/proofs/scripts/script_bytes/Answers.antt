@@ -2,7 +2,8 @@ use Rattle.std.proofs.Common.{◌∙◌, arith}
 use Rattle.bridge_cli.specs.declared.stop.Stop.TheVariants.{Memory}
 use Rattle.bridge_cli.specs.Limits.{most_script}
 use Rattle.bridge_cli.proofs.PageLaws.{stop_leaves}
-use Rattle.bridge_cli.proofs.ScriptLaws.{block_too_much, block_more, too_long_script}
+use Rattle.bridge_cli.proofs.ScriptLaws.{too_long_script}
+use Rattle.bridge_ports.proofs.Laws.{block_too_much, block_more}
 use Rattle.bridge_cli.proofs.scripts.script_bytes.Goals as goal
 
 pub returns-then-count-len-clause-input : goal.returns-then-count-len-clause-input

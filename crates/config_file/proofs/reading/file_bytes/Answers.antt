@@ -3,7 +3,7 @@ use Rattle.bridge_ports.specs.Worlds.{WorldState}
 use Rattle.bridge_ports.specs.declared.Failed.{Failed}
 use Rattle.config_file.specs.declared.file_stop.FileStop.TheVariants.{Memory}
 use Rattle.config_file.specs.ConfigFiles.{most_config, left_of}
-use Rattle.bridge_cli.proofs.Laws.{block_too_much, block_more}
+use Rattle.bridge_ports.proofs.Laws.{block_too_much, block_more}
 use Rattle.config_file.proofs.Files.{taken_of, told_too_long, leaves_as}
 use Rattle.config_file.proofs.reading.file_bytes.Goals as goal
 

@@ -1,5 +1,5 @@
 use Rattle.std.proofs.Common.{◌-◌, ◌≤◌, length, take}
-use Rattle.page_server.specs.Connections.{WereWritten}
+use Rattle.bridge_ports.specs.Connections.{WereWritten}
 use Rattle.page_server.proofs.reply.say_all.Given as goal
 
 abbrev pub invariant-loop-at : goal.invariant-loop-at

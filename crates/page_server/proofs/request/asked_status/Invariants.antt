@@ -1,5 +1,5 @@
 use Rattle.std.proofs.Common.{◌-◌, ◌≤◌, take}
-use Rattle.page_server.specs.Connections.{WereTaken}
+use Rattle.bridge_ports.specs.Connections.{WereTaken}
 use Rattle.page_server.proofs.request.asked_status.Given as goal
 
 abbrev pub invariant-reading : goal.invariant-reading

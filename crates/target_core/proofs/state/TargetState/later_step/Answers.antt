@@ -1,17 +1,7 @@
-use Rattle.std.proofs.Common.{ap, ◌∙◌, [], map, false, Some}
-use Rattle.start_times.specs.Rows.{kept_start}
-use Rattle.staleness.specs.Vanished.{keys_gone}
-use Rattle.target_core.specs.Events.{marker_with}
-use Rattle.target_core.specs.MarkerGroups.{marker_groups}
-use Rattle.target_core.specs.States.{Following}
-use Rattle.target_core.specs.Trees.{request_of}
-use Rattle.target_core.proofs.Stepping.{later_steps}
+use Rattle.std.proofs.Common.{subst, sym}
+use Rattle.target_core.specs.States.{Following, Steps, followed_by}
 use Rattle.target_core.proofs.state.TargetState.later_step.Goals as goal
 
 pub returns-clause-ok : goal.returns-clause-ok
 returns-clause-ok c = λ e moment up page.
-    later_steps c.args.self.now _ e c.args.before c.args.moment c.args.up c.args.page c.in_ok-tree.tree c.in_ok-tracker.tracker c.in_ok-starts.next c.in_ok-starts.starts c.in_ok-groups.groups
-    c.requires moment up page c.in_ok-tracker.ensures c.in_ok-starts.ensures
-    (λ distinct. c.in_ok-groups.ensures distinct ∙ ap (λ (s : Following). marker_groups [] (map (marker_with (kept_start c.in_ok-tracker.tracker.rows) c.args.moment) (keys_gone s.page c.args.page))) c.self.view_is)
-    (λ start ms own groups. c.in_ok-tree.ensures start ms (c.as_slice-starts.ensures ∙ own) groups ∙ ap (λ (s : Following). request_of s.target start ms c.args.moment c.args.up c.args.page) c.self.view_is)
-    (λ i. record { target = (c.self.view_is i).target; tracked = c.in_ok-starts.next; pending = false; page = c.args.page; moment = Some c.args.moment })
+    subst (λ (s : Following). Steps c.args.self.now e c.in_ok-tree.tree (followed_by s c.in_ok-tree.next c.args.page c.args.moment)) (sym c.self.view_is) (c.in_ok-tree.ensures e moment up page)

@@ -1,0 +1,6 @@
+//! Tests of the crate below, in a module of its name: what no clause says. They stand here, since a crate with tests is
+//! proved once more for them.
+#![tactic(auto)]
+
+#[cfg(test)]
+mod federation_page_calls;

@@ -1,0 +1,291 @@
+//! What readers of a pool see before a visit that another thread makes, and behind it; and what its peers are replied.
+ghost use Rattle.std.specs.Prelude.{◌≡◌, ◌<◌};
+ghost use Rattle.std.specs.Thread.{IsSync};
+ghost use Rattle.series_table.specs.HttpTalks.{talking};
+ghost use Rattle.target_table.specs.Runs.{IsRightRun};
+ghost use Rattle.target_table.specs.Tables.{AreTracks, AreUnvisited};
+ghost use Rattle.scraper_pool.specs.Turns.{IsFreeLane, run_of};
+
+use crate::gated_wire::LOOKS;
+use crate::tracks::{Plan, close, new_tracks};
+use bridge_ports::{MemoryConn, MemoryDoor, MemorySink, MemorySource, Wire};
+use label_sets::{Bytes, List, Memory};
+use scraper_pool::{
+    Ended, Lane, Pool, ReplyStatus, RunName, ServeFault, Share, Shares, TableFault, Track,
+};
+use std::alloc::{AllocError, Global};
+use std::marker::Brand;
+use std::sync::Wait;
+use std::sync::atomic::{AtomicBool, Ordering};
+use std::sync::ledger::Blank;
+use std::test::Fail;
+use std::thread::{self, Threads, join};
+use std::time::{Clock, Duration};
+use target_table::{Blanks, First};
+
+/// The page of what readers see.
+fn page_now<N: RunName, A: Lane, B: Lane, C: Lane, D: Lane, W: Wire, R: Wait>(
+    rt: &R,
+    alloc: Global,
+    pool: &Pool<N, A, B, C, D, W>,
+) -> Result<Vec<u8>, Memory> {
+    let mut page = Vec::new(alloc);
+    pool.federate(rt, &mut page)?;
+    Ok(page)
+}
+
+/// What a peer was replied.
+#[derive(Drop)]
+struct Replied {
+    answer: Result<ReplyStatus, ServeFault>,
+    text: Bytes,
+}
+
+/// What a peer with such a request is replied.
+fn reply_to<N: RunName, A: Lane, B: Lane, C: Lane, D: Lane, W: Wire, R: Wait>(
+    rt: &R,
+    alloc: Global,
+    pool: &Pool<N, A, B, C, D, W>,
+    request: &[u8],
+) -> Result<Replied, Memory> {
+    let source = MemorySource::new(Bytes::from_slice(alloc, request)?, List::new(alloc));
+    let sink = MemorySink::new(alloc, 1_000, List::new(alloc))?;
+    let mut conn = MemoryConn::new(source, sink);
+    let answer = pool.serve_one(rt, alloc, &mut conn);
+    let text = Bytes::from_slice(alloc, conn.held())?;
+    Ok(Replied { answer, text })
+}
+
+/// What peers are replied.
+fn all_replies<N: RunName, A: Lane, B: Lane, C: Lane, D: Lane, W: Wire, R: Wait>(
+    rt: &R,
+    alloc: Global,
+    pool: &Pool<N, A, B, C, D, W>,
+) -> Result<Vec<Replied>, Memory> {
+    let mut all = Vec::new(alloc);
+    for (request, _, _) in ROWS {
+        let one = reply_to(rt, alloc, pool, request)?;
+        if all.push(one).is_err() {
+            return Err(AllocError);
+        }
+    }
+    Ok(all)
+}
+
+/// Makes a visit, and tells of it.
+fn visit_and_tell<N: RunName, A: Lane, B: Lane, C: Lane, D: Lane, W: Wire, R: Wait>(
+    rt: &R,
+    alloc: Global,
+    pool: &Pool<N, A, B, C, D, W>,
+    share: Share<First, A>,
+    is_made: &AtomicBool,
+) -> Share<First, A>
+    requires { IsFreeLane A.all A.parts share.held }
+    ensures { result.held ≡ 0 }
+{
+    let mut share = share;
+    let _turn = pool.visit_next(rt, alloc, &mut share);
+    is_made.store(true, Ordering::SeqCst);
+    share
+}
+
+/// The page of what readers see once they were told of a visit, and what peers are replied then.
+fn page_told<N: RunName, A: Lane, B: Lane, C: Lane, D: Lane, W: Wire, R: Wait + Clock>(
+    rt: &R,
+    alloc: Global,
+    pool: &Pool<N, A, B, C, D, W>,
+    is_made: &AtomicBool,
+) -> Result<(Vec<u8>, Vec<Replied>), Memory> {
+    for _ in 0..LOOKS {
+        if is_made.load(Ordering::SeqCst) {
+            break;
+        }
+        thread::sleep(rt, Duration::from_millis(1));
+    }
+    let page = page_now(rt, alloc, pool)?;
+    let replies = all_replies(rt, alloc, pool)?;
+    Ok((page, replies))
+}
+
+/// What readers saw before a visit, and what they see behind it.
+#[derive(Drop)]
+struct SeenPages {
+    before: Result<Vec<u8>, Memory>,
+    behind: Result<(Vec<u8>, Vec<Replied>), Memory>,
+}
+
+/// Has one thread make a visit, and another read the page behind it.
+fn seen_pages<
+    N: RunName + Send + Sync,
+    A: Lane + Send + Sync,
+    B: Lane + Send + Sync,
+    C: Lane + Send + Sync,
+    D: Lane + Send + Sync,
+    W: Wire,
+    R: Threads + Wait + Clock + Sync,
+>(
+    rt: &R,
+    alloc: Global,
+    pool: &Pool<N, A, B, C, D, W>,
+    share: Share<First, A>,
+) -> (Share<First, A>, SeenPages)
+    requires { IsFreeLane A.all A.parts share.held }
+    ensures { result.0.held ≡ 0 }
+{
+    let before = page_now(rt, alloc, pool);
+    let is_made = AtomicBool::new(false);
+    let (share, behind) = join(
+        rt,
+        || -> Share<First, A>
+            requires { IsSync R.row × IsFreeLane A.all A.parts share.held }
+        { visit_and_tell(rt, alloc, pool, share, &is_made) },
+        || -> Result<(Vec<u8>, Vec<Replied>), Memory>
+            requires { IsSync R.row }
+        { page_told(rt, alloc, pool, &is_made) },
+    );
+    (share, SeenPages { before, behind })
+}
+
+// Under one name of a run and of its four lanes.
+fn watch_named<
+    N: RunName + Send + Sync,
+    A: Lane + Send + Sync,
+    B: Lane + Send + Sync,
+    C: Lane + Send + Sync,
+    D: Lane + Send + Sync,
+    W: Wire,
+    R: Threads + Wait + Clock + Sync,
+>(
+    rt: &R,
+    alloc: Global,
+    tracks: Vec<Track<W>>,
+    blanks: Blanks,
+) -> (Vec<Track<W>>, Option<SeenPages>)
+    requires run { IsRightRun N.run }
+    requires rounds { 1 ≡ N.run.rounds }
+    requires tracks { AreTracks talking 0 N.run.targets tracks.items }
+    requires unvisited { AreUnvisited tracks.items }
+    requires a { (blanks.a.name ≡ A.name) × (blanks.a.parts ≡ A.parts) × (A.all ≡ A.parts) × (0 < A.all) }
+    requires b { (blanks.b.name ≡ B.name) × (blanks.b.parts ≡ B.parts) × (B.all ≡ B.parts) × (0 < B.all) }
+    requires c { (blanks.c.name ≡ C.name) × (blanks.c.parts ≡ C.parts) × (C.all ≡ C.parts) × (0 < C.all) }
+    requires d { (blanks.d.name ≡ D.name) × (blanks.d.parts ≡ D.parts) × (D.all ≡ D.parts) × (0 < D.all) }
+{
+    match Pool::<N, A, B, C, D, W>::new(alloc, tracks, 1, blanks) {
+        Ok((pool, shares)) => {
+            let Shares { a, b, c, d } = shares;
+            let (a, pages) = seen_pages(rt, alloc, &pool, a);
+            let door: Option<MemoryDoor> = None;
+            let Ended {
+                tracks,
+                door: _,
+                served: _,
+            } = pool.run(rt, alloc, Shares { a, b, c, d }, 0, door, 0);
+            (tracks, Some(pages))
+        }
+        Err(TableFault::Memory(tracks)) => (tracks, None),
+    }
+}
+
+/// What readers see before a visit and behind it, and the tracks once their run is over.
+fn watch<W: Wire, R: Threads + Wait + Clock + Sync>(
+    rt: &R,
+    alloc: Global,
+    tracks: Vec<Track<W>>,
+) -> (Vec<Track<W>>, Option<SeenPages>)
+    requires run { IsRightRun (run_of 1 tracks.items) }
+    requires tracks { AreTracks talking 0 (run_of 1 tracks.items).targets tracks.items }
+    requires unvisited { AreUnvisited tracks.items }
+{
+    let blanks = Blanks {
+        a: Blank::new(1),
+        b: Blank::new(1),
+        c: Blank::new(1),
+        d: Blank::new(1),
+    };
+    watch_named::<Brand, Brand, Brand, Brand, Brand, W, R>(rt, alloc, tracks, blanks)
+}
+
+const PAGE: &str = "# TYPE x unknown\nx{instance=\"h:1\",job=\"j\"} 1\n# EOF\n";
+
+/// Requests, and what each is answered.
+const ROWS: [(&[u8], ReplyStatus, &str); 4] = [
+    (
+        b"GET /federate HTTP/1.1\r\nHost: a\r\n\r\n",
+        ReplyStatus::Page,
+        "HTTP/1.1 200 OK\r\nContent-Type: application/openmetrics-text; version=1.0.0; charset=utf-8\r\nContent-Length: 51\r\nConnection: close\r\n\r\n# TYPE x unknown\nx{instance=\"h:1\",job=\"j\"} 1\n# EOF\n",
+    ),
+    (
+        b"POST /federate HTTP/1.1\r\nHost: a\r\n\r\n",
+        ReplyStatus::NotAllowed,
+        "HTTP/1.1 405 Method Not Allowed\r\nAllow: GET\r\nContent-Length: 0\r\nConnection: close\r\n\r\n",
+    ),
+    (
+        b"GET /x HTTP/1.1\r\nHost: a\r\n\r\n",
+        ReplyStatus::NotFound,
+        "HTTP/1.1 404 Not Found\r\nContent-Length: 0\r\nConnection: close\r\n\r\n",
+    ),
+    (
+        b"GET",
+        ReplyStatus::BadRequest,
+        "HTTP/1.1 400 Bad Request\r\nContent-Length: 0\r\nConnection: close\r\n\r\n",
+    ),
+];
+
+/// What readers see before the visit of the one target of a run and behind it, and what peers are replied then.
+#[derive(Drop)]
+struct Watched {
+    before: Vec<u8>,
+    behind: Vec<u8>,
+    replies: Vec<Replied>,
+}
+
+fn watched<R: Threads + Wait + Clock + Sync>(rt: &R, alloc: Global) -> Result<Watched, Memory> {
+    let is_late = AtomicBool::new(false);
+    let plan = Plan {
+        targets: 1,
+        rounds: 1,
+        scrapers: 0,
+        lean: 0,
+    };
+    let tracks = new_tracks(rt, alloc, &[], &is_late, plan)?;
+    let (tracks, pages) = watch(rt, alloc, tracks);
+    close(tracks);
+    let Some(pages) = pages else {
+        return Err(AllocError);
+    };
+    let before = pages.before?;
+    let (behind, replies) = pages.behind?;
+    Ok(Watched {
+        before,
+        behind,
+        replies,
+    })
+}
+
+// Readers see the opening page until a visit is made, and from then on its page, in whichever thread they are.
+#[test]
+fn federate_sees_a_visit(rt: HostRuntime) -> Result<(), Fail> {
+    let watched = watched(&rt, rt.alloc())?;
+    assert_eq!(rt; watched.before.as_slice(), b"# EOF\n".as_slice());
+    assert_eq!(rt; watched.behind.as_slice(), PAGE.as_bytes());
+    Ok(())
+}
+
+/// How many peers are replied as their rows say.
+fn right_replies(replies: &[Replied]) -> usize {
+    let mut count = 0usize;
+    for ((_, status, text), one) in ROWS.iter().zip(replies) {
+        if one.answer == Ok(*status) && one.text.as_slice() == text.as_bytes() {
+            count = count.saturating_add(1);
+        }
+    }
+    count
+}
+
+// So does a peer that asks for it.
+#[test]
+fn peers_are_replied(rt: HostRuntime) -> Result<(), Fail> {
+    let watched = watched(&rt, rt.alloc())?;
+    assert_eq!(rt; right_replies(watched.replies.as_slice()), ROWS.len());
+    Ok(())
+}

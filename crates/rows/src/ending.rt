@@ -1,0 +1,109 @@
+//! How the bridge ends over the memory of a row.
+ghost use Rattle.std.specs.Prelude.{◌≡◌, ◌≤◌, ◌↔◌, length, IfOk, IsNone};
+ghost use Rattle.bridge_ports.specs.Plans.{seen_of};
+ghost use Rattle.memory_world.specs.WorldParts.{files_of, given_in, home_of};
+ghost use Rattle.world_run.specs.Outside.{outside_of};
+ghost use Rattle.bridge_program.specs.RunAnswers.{IsUnasked};
+
+use crate::row::Row;
+use bridge_ports::{MemoryFile, MemorySink, MemorySource};
+use bridge_program::bridge;
+use label_sets::{Bytes, List, Memory, Text};
+use memory_world::MemoryWorld;
+use std::alloc::Global;
+use std::sync::Wait;
+use std::thread::Threads;
+
+/// How a row ended.
+#[derive(Drop)]
+pub(crate) struct Ending {
+    pub(crate) status: u8,
+    output: MemorySink,
+}
+
+impl Ending {
+    /// The place, counted from 1, of the first byte in which what was printed differs from this, if in any.
+    pub(crate) fn first_difference(&self, wanted: &[u8]) -> Option<usize>
+        ensures { IsNone result ↔ (self.now.output.held ≡ wanted.now) }
+    {
+        let held = self.output.held();
+        if held == wanted {
+            return None;
+        }
+        let same = held
+            .iter()
+            .zip(wanted.iter())
+            .take_while(|(a, b)| a == b)
+            .count();
+        Some(same.saturating_add(1))
+    }
+}
+
+/// The path of the file that is to be run, where the words say so.
+fn run_path(row: &Row) -> Option<&str> {
+    match row.asked.words.as_slice() {
+        [verb, path] if verb.as_str() == "run" => Some(path.as_str()),
+        _ => None,
+    }
+}
+
+/// The file of a path.
+fn file(alloc: Global, path: &str, bytes: &[u8]) -> Result<List<MemoryFile>, Memory>
+    ensures { IfOk result (λ files. length files ≤ 1) }
+{
+    let file = MemoryFile {
+        path: Text::from_str(alloc, path)?,
+        bytes: Bytes::from_slice(alloc, bytes)?,
+    };
+    List::from_vec(Vec::from_array(alloc, [file])?)
+}
+
+/// The file that a row gives to the world, if any.
+fn files(alloc: Global, row: &Row) -> Result<List<MemoryFile>, Memory>
+    ensures { IfOk result (λ files. length files ≤ 1) }
+{
+    match run_path(row) {
+        Some(path) => file(alloc, path, row.input.as_slice()),
+        None => Ok(List::new(alloc)),
+    }
+}
+
+/// The bytes that a row puts on the input.
+fn input(alloc: Global, row: &Row) -> Result<Bytes, Memory> {
+    let bytes = match run_path(row) {
+        Some(_) => b"".as_slice(),
+        None => row.input.as_slice(),
+    };
+    Bytes::from_slice(alloc, bytes)
+}
+
+/// The numbers of the calls that fail.
+fn failing(alloc: Global, row: &Row) -> Result<List<u64>, Memory> {
+    let mut calls = Vec::new(alloc);
+    if let Some(call) = row.asked.bad_read {
+        calls.push(call)?;
+    }
+    List::from_vec(calls)
+}
+
+/// A world of at most one file.
+fn world(alloc: Global, files: List<MemoryFile>, failing: List<u64>) -> MemoryWorld
+    requires { length files ≤ 1 }
+    ensures { IsUnasked (outside_of seen_of result.world (files_of result) (home_of result) (given_in result)) }
+{
+    MemoryWorld::new(alloc, files, Vec::new(alloc), Vec::new(alloc), failing)
+}
+
+/// Runs the bridge over the memory of a row.
+pub(crate) fn run_row<R: Threads + Wait + Sync>(
+    rt: &R,
+    alloc: Global,
+    row: &Row,
+) -> Result<Ending, Memory> {
+    let mut world = world(alloc, files(alloc, row)?, failing(alloc, row)?);
+    let mut input = MemorySource::new(input(alloc, row)?, failing(alloc, row)?);
+    let mut output = MemorySink::new(alloc, row.asked.room, List::new(alloc))?;
+    let words = row.asked.words.as_slice();
+    let status = bridge(rt, alloc, words, &mut world, &mut input, &mut output);
+    Ok(Ending { status, output })
+}
