@@ -239,7 +239,11 @@ struct Watched {
     replies: Vec<Replied>,
 }
 
-fn watched<R: Threads + Wait + Clock + Sync>(rt: &R, alloc: Global) -> Result<Watched, Memory> {
+/// Watches the run of one target, which is visited once.
+fn watch_one_visit<R: Threads + Wait + Clock + Sync>(
+    rt: &R,
+    alloc: Global,
+) -> Result<Watched, Memory> {
     let is_late = AtomicBool::new(false);
     let plan = Plan {
         targets: 1,
@@ -265,7 +269,7 @@ fn watched<R: Threads + Wait + Clock + Sync>(rt: &R, alloc: Global) -> Result<Wa
 // Readers see the opening page until a visit is made, and from then on its page, in whichever thread they are.
 #[test]
 fn federate_sees_a_visit(rt: HostRuntime) -> Result<(), Fail> {
-    let watched = watched(&rt, rt.alloc())?;
+    let watched = watch_one_visit(&rt, rt.alloc())?;
     assert_eq!(rt; watched.before.as_slice(), b"# EOF\n".as_slice());
     assert_eq!(rt; watched.behind.as_slice(), PAGE.as_bytes());
     Ok(())
@@ -282,10 +286,10 @@ fn right_replies(replies: &[Replied]) -> usize {
     count
 }
 
-// So does a peer that asks for it.
+// A peer that asks for the page is replied that of the visit; other requests have their replies.
 #[test]
 fn peers_are_replied(rt: HostRuntime) -> Result<(), Fail> {
-    let watched = watched(&rt, rt.alloc())?;
+    let watched = watch_one_visit(&rt, rt.alloc())?;
     assert_eq!(rt; right_replies(watched.replies.as_slice()), ROWS.len());
     Ok(())
 }

@@ -1,5 +1,5 @@
 //! Both ends of a connection over loopback, in one process; and the files of the machine.
-ghost use Rattle.std.specs.Prelude.{◌≡◌, ◌<◌, true, false, is_some, IfOk, OnOk};
+ghost use Rattle.std.specs.Prelude.{◌≡◌, ◌<◌, None, true, false, is_some, IfOk, OnOk};
 ghost use Rattle.bridge_ports.specs.declared.talk.Stage.TheVariants as stages;
 ghost use Rattle.bridge_ports.specs.Doors.{most_handed};
 
@@ -206,7 +206,10 @@ fn asked_at_door<W: World, V: Wire>(
     world: &mut W,
     wire: &mut V,
     at: Address,
-) -> Result<(bool, Option<u64>), Memory> {
+) -> Result<(bool, Option<u64>), Memory>
+    requires door { (W.world world.old).door_at ≡ None }
+    requires idle { (V.state wire.old).stage ≡ stages.Idle }
+{
     match world.door(at) {
         Ok(mut door) => {
             let heard = is_heard(alloc, wire, &mut door, 0)?;
