@@ -14,7 +14,7 @@ node_page 10 >"$work/small"
 take_crates scraper_pool
 cp "$here/../HANDLES" "$work/"
 proofs=$work/crates/time_pool/proofs
-pool=$here/../crates/scraper_pool/proofs
+tests=$here/../crates/pool_tests/proofs
 add_program time_pool "scraper_pool series_table target_table bridge_ports label_sets" <<'MAIN'
 //! Reads a page on standard input, and visits eight targets that answer it: as many workers as the first word says,
 //! as many rounds as the second, and in each read a pause of as many milliseconds as the third. Prints the nanoseconds
@@ -309,18 +309,18 @@ fn main(rt: HostRuntime) -> io::Result<()> {
 }
 MAIN
 
-# The tracks are made as the crate's tests make theirs, so what is proved of those serves here.
+# The tracks are made as the tests of the pool make theirs, so what is proved of those serves here.
 mkdir -p "$proofs"
 echo 'mod Lettered' >"$proofs/Lib.antt"
-sed 's/Rattle\.scraper_pool\.proofs\./Rattle.time_pool.proofs./' "$pool/Lettered.antt" >"$proofs/Lettered.antt"
+sed 's/Rattle\.pool_tests\.proofs\./Rattle.time_pool.proofs./' "$tests/Lettered.antt" >"$proofs/Lettered.antt"
 for name in close new_tracks; do
     mkdir -p "$proofs/$name"
-    sed -e 's/Rattle\.scraper_pool\.proofs\.tests\./Rattle.time_pool.proofs./' -e 's/Rattle\.scraper_pool\.proofs\./Rattle.time_pool.proofs./' \
-        -e 's/l\.plan\.targets/8/' "$pool/tests/$name/Invariants.antt" >"$proofs/$name/Invariants.antt"
+    sed -e 's/Rattle\.pool_tests\.proofs\.tracks\./Rattle.time_pool.proofs./' -e 's/Rattle\.pool_tests\.proofs\./Rattle.time_pool.proofs./' \
+        -e 's/l\.plan\.targets/8/' "$tests/tracks/$name/Invariants.antt" >"$proofs/$name/Invariants.antt"
 done
-sed -e 's/Rattle\.scraper_pool\.proofs\.tests\./Rattle.time_pool.proofs./' -e 's/Rattle\.scraper_pool\.proofs\./Rattle.time_pool.proofs./' \
+sed -e 's/Rattle\.pool_tests\.proofs\.tracks\./Rattle.time_pool.proofs./' -e 's/Rattle\.pool_tests\.proofs\./Rattle.time_pool.proofs./' \
     -e 's/c\.args\.plan\.rounds/c.args.rounds/' -e 's/, c\.requires\.some\.[01]//g' -e 's/c\.requires\.rounds/c.requires/' \
-    "$pool/tests/new_tracks/Answers.antt" >"$proofs/new_tracks/Answers.antt"
+    "$tests/tracks/new_tracks/Answers.antt" >"$proofs/new_tracks/Answers.antt"
 mkdir -p "$proofs/posted"
 sed 's/proofs\.close\./proofs.posted./' "$proofs/close/Invariants.antt" >"$proofs/posted/Invariants.antt"
 
