@@ -2,9 +2,9 @@
 //! library, and ends with the status that comes back.
 #![tactic(auto)]
 
-use bridge_cli::Status;
 use bridge_ports::std_edge::{StdSink, StdSource};
 use bridge_program::bridge;
+use program_words::Status;
 use std::alloc::{AllocError, Global};
 use std::env::{self, Args};
 use std::io::ErrorKind;

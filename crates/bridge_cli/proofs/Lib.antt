@@ -1,8 +1,3 @@
-mod WordLaws
-mod PlaceLaws
-mod IoLaws
-mod PageLaws
-mod PageAnswerLaws
 mod ScriptAnswerLaws
 mod ReplayLaws
 mod ShownLaws
@@ -15,4 +10,3 @@ mod ScriptLaws
 mod CommandLaws
 mod AnswerLaws
 mod PrintLaws
-pub mod Laws

@@ -1,6 +1,6 @@
 -- From what is to be printed, and how printing ended, to what the program answers.
-use Rattle.std.proofs.Common.{◌≡◌, ◌≢◌, ℕ, Bool, true, false, cond, List, [], Option, Some, None, Result, Ok, Err, OnOk, OnErr, refl, sym, ap, subst, ◌∙◌, ◌⊎◌, inl, inr, arith}
-use Rattle.std.specs.Prelude.{⊤, nat_eq}
+use Rattle.std.proofs.Common.{◌≡◌, ◌≢◌, ℕ, Bool, true, false, List, [], Option, Some, None, Result, Ok, Err, OnOk, OnErr, refl, sym, subst, ◌∙◌, ◌⊎◌, inl, inr, arith}
+use Rattle.std.specs.Prelude.{⊤}
 use Rattle.std.specs.Io.KnownBytes.{Appends}
 use Rattle.std.proofs.lemmas.Bool.{true≢false}
 use Rattle.replay_script.specs.declared.script.Script.{Script}
@@ -8,34 +8,29 @@ use Rattle.bridge_cli.specs.declared.answer.Printed.{Printed}
 use Rattle.bridge_cli.specs.declared.answer.Printed.TheVariants.{Whole, Tree, Bodies, Report}
 use Rattle.bridge_cli.specs.declared.replaying.Cut.{Cut}
 use Rattle.bridge_cli.specs.declared.replaying.Cut.TheVariants as cuts
-use Rattle.bridge_cli.specs.declared.status.Status.{Status}
-use Rattle.bridge_cli.specs.declared.status.Status.TheVariants as statuses
-use Rattle.bridge_cli.specs.declared.stop.Stop.{Stop}
-use Rattle.bridge_cli.specs.declared.stop.Stop.TheVariants as stops
-use Rattle.bridge_cli.specs.Stops.{stop_status, IsUnread}
+use Rattle.program_words.specs.declared.status.Status.{Status}
+use Rattle.program_words.specs.declared.status.Status.TheVariants as statuses
+use Rattle.program_words.specs.declared.stop.Stop.{Stop}
+use Rattle.program_words.specs.Stops.{IsUnread}
 use Rattle.bridge_ports.specs.Worlds.{ShelvedPair}
-use Rattle.bridge_cli.specs.declared.words.Command.{Command}
-use Rattle.bridge_cli.specs.declared.words.Command.TheVariants.{Replay, Load}
-use Rattle.bridge_cli.specs.Statuses.{code_of, IsStatus, IsTold, IsUntold}
+use Rattle.program_words.specs.declared.words.Command.{Command}
+use Rattle.program_words.specs.declared.words.Command.TheVariants.{Replay, Load}
+use Rattle.program_words.specs.Statuses.{code_of, IsStatus, IsTold, IsUntold, TellsFault}
 use Rattle.bridge_cli.specs.Replays.{MayBeCut}
 use Rattle.replay_script.specs.RightScripts.{IsRightScript}
 use Rattle.load_pages.specs.GeneratedScripts.{generated_script, TakesAllBodies}
 use Rattle.bridge_cli.specs.Loads.{IsLoadReport, MayBeReported}
-use Rattle.bridge_cli.specs.CommandWords.{IsCommand, FitNoForm, AskForNo, WhereRead, reads_input, most_input, takes_memory, prints_pieces}
-use Rattle.bridge_cli.specs.StopAnswers.{IsStopAnswer, StopsAs}
-use Rattle.bridge_cli.specs.StopAnswers as stop_answers
+use Rattle.program_words.specs.CommandWords.{IsCommand, FitNoForm, AskForNo, WhereRead, reads_input, most_input, takes_memory, prints_pieces}
+use Rattle.program_words.specs.StopAnswers.{IsStopAnswer, StopsAs}
 use Rattle.bridge_cli.specs.Answers.{Answers, IsAnswer, no_form, answers, IsCutAnswer, whole, cut_off, script_done, IsReportAnswer}
 use Rattle.bridge_ports.specs.Writing.{WroteFront}
-use Rattle.bridge_cli.specs.ProgramOutputs.{HasAnswer, Answered, AnsweredInPart, AnsweredInPieces, ShelvesVisits, TellsFault}
+use Rattle.program_words.specs.InputAnswers.{HasAnswer}
+use Rattle.bridge_cli.specs.ProgramOutputs.{Answered, AnsweredInPart, AnsweredInPieces, ShelvesVisits}
 use Rattle.bridge_cli.specs.Printed.{cut_status, CutCause, CutsScript, PrintsReport, Gives, GivesPart, IsNothing, IsPrintable, IsWhole, Ended, printed, stopped, wanting, IsPartOf, part_of_whole, part_of_some, AnswersVisits, IsShelved, IsPrintedOf, IsPrintedFor, IsStopPrinted, HoldsScript, HasPartOf}
-use Rattle.bridge_cli.proofs.CommandLaws.{one_command, pieces_take}
-use Rattle.bridge_cli.proofs.AnswerLaws.{any_bytes, words_answer, stop_told, stop_untold, told_or_not, no_front, tells_fault}
+use Rattle.bridge_cli.proofs.AnswerLaws.{words_answer, no_front}
+use Rattle.program_words.proofs.Laws.{same_text, done_told, same_code, stop_undone, stop_written, stop_not_read, one_command, pieces_take, any_bytes, stop_told, stop_untold, told_or_not, tells_fault}
 
 -- ---- what is to be printed
-
--- an answer of a text that is the same
-pub same_text : (Says : List ℕ → ℕ → List ℕ → Type 0) (left : Option (List ℕ)) (status : ℕ) (made text : List ℕ) → HasAnswer Says left status made → text ≡ made → HasAnswer Says left status text
-same_text Says left status made text has same = let At : List ℕ → Type 0 = λ t. HasAnswer Says left status t in subst At (sym same) has
 
 -- a front may be printed of what is printed whole
 whole_part : (p : Printed) (text : List ℕ) → IsWhole p → GivesPart p text → Gives p text
@@ -125,33 +120,12 @@ pub stop_whole : (stop : Stop) (status : Status) (p : Printed) → IsStopPrinted
 stop_whole stop status (Whole t) is = (_, is)
 stop_whole stop status _ is = absurd is
 
--- a stop has no other status than its own, or that of want of memory
-stop_not : (stop : Stop) (status other : Status) (text : List ℕ) → IsStopAnswer stop status text → stop_status stop ≢ other → statuses.WantOfMemory ≢ other → status ≢ other
-stop_not stop status other text stop_answers.said own memory = own
-stop_not stop status other text (stop_answers.wanting takes) own memory = memory
-
--- none is done, and none is of a write that failed
-stop_ends : (stop : Stop) → (stop_status stop ≢ statuses.Done) × (stop_status stop ≢ statuses.WriteFailed)
-stop_ends stops.NoForm = (λ e. absurd cc, λ e. absurd cc)
-stop_ends _ = (λ e. absurd cc, λ e. absurd cc)
-
-stop_undone : (stop : Stop) (status : Status) (text : List ℕ) → IsStopAnswer stop status text → status ≢ statuses.Done
-stop_undone stop status text is = stop_not stop status statuses.Done text is (stop_ends stop).0 (λ e. absurd cc)
-
 pub stop_unwritten : (stop : Stop) (status : Status) (p : Printed) → IsStopPrinted stop status p → status ≢ statuses.WriteFailed
-stop_unwritten stop status p is = let answer = stop_whole stop status p is in stop_not stop status statuses.WriteFailed answer.0 answer.1 (stop_ends stop).1 (λ e. absurd cc)
+stop_unwritten stop status p is = let answer = stop_whole stop status p is in stop_written stop status answer.0 answer.1
 
 -- where nothing was read, none is of a read that failed
 pub stop_unread : (stop : Stop) (status : Status) (p : Printed) → IsStopPrinted stop status p → IsUnread stop → status ≢ statuses.ReadFailed
-stop_unread stop status p is unread = let answer = stop_whole stop status p is in stop_not stop status statuses.ReadFailed answer.0 answer.1 (by stop unread) (λ e. absurd cc)
-  where
-    by : (s : Stop) → IsUnread s → stop_status s ≢ statuses.ReadFailed
-    by stops.NoForm u e = absurd cc
-    by stops.Memory u e = absurd cc
-    by (stops.Refused line rule) u e = u
-    by (stops.BadScript line) u e = u
-    by stops.TooLong u e = u
-    by stops.Read u e = u
+stop_unread stop status p is unread = let answer = stop_whole stop status p is in stop_not_read stop status answer.0 answer.1 unread
 
 pub stop_printed : (words : List (List ℕ)) (left : Option (List ℕ)) (stop : Stop) (status : Status) (p : Printed) → IsStopPrinted stop status p → StopsAs (IsAnswer words) left stop → IsPrintedFor words left status p
 stop_printed words left stop status (Whole t) is stops = record {
@@ -188,9 +162,6 @@ pieces_done status (Tree request) right other = absurd (other tt)
 pieces_done status (Bodies script scrapers page) right other = right.1
 pieces_done status (Report script) right other = right.2
 
-done_told : (status : Status) → status ≡ statuses.Done → IsTold (code_of status)
-done_told status e = subst (λ s. IsTold (code_of s)) (sym e) (omega arith, omega arith, omega arith)
-
 -- where a front was written, there was a text
 front_told : (status : Status) (p : Printed) (text : List ℕ) (before after : Option (List ℕ)) → status ≢ statuses.WriteFailed → (IsUntold (code_of status) → IsNothing p) → GivesPart p text
     → WroteFront before after text → IsTold (code_of status)
@@ -204,20 +175,6 @@ pub ended_status : (status : Status) (p : Printed) (before after : Option (List 
 ended_status status p before after result (printed text gives written) = (status, refl)
 ended_status status p before after result (stopped text gives front) = (statuses.WriteFailed, refl)
 ended_status status p before after result (wanting text gives written other) = (statuses.WantOfMemory, refl)
-
--- the status with this code
-abbrev status_with : ℕ → Status
-status_with code =
-    cond (nat_eq code 0) statuses.Done (cond (nat_eq code 1) statuses.Refused (cond (nat_eq code 2) statuses.NoForm (cond (nat_eq code 3) statuses.ReadFailed
-    (cond (nat_eq code 4) statuses.WriteFailed (cond (nat_eq code 6) statuses.WantOfMemory (cond (nat_eq code 7) statuses.ScriptRefused statuses.TooLong))))))
-
-status_back : (s : Status) → status_with (code_of s) ≡ s
-status_back statuses.Done = refl
-status_back _ = refl
-
--- statuses with one code are one
-same_code : (s t : Status) → code_of s ≡ code_of t → s ≡ t
-same_code s t e = sym (status_back s) ∙ ap status_with e ∙ status_back t
 
 -- the whole answer was written
 pub ended_answered : (words : List (List ℕ)) (left : Option (List ℕ)) (status : Status) (p : Printed) (before after : Option (List ℕ)) (result : ℕ) → IsPrintedFor words left status p

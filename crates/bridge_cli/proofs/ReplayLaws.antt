@@ -30,7 +30,7 @@ use Rattle.replay_script.specs.RightScripts.{IsRightHeader, IsRightTarget}
 use Rattle.plain_words.proofs.Laws.{in_range}
 use Rattle.bridge_cli.specs.declared.replaying.Cut.{Cut}
 use Rattle.bridge_cli.specs.declared.replaying.Cut.TheVariants as cuts
-use Rattle.bridge_cli.specs.Limits.{most_rounds}
+use Rattle.program_words.specs.Limits.{most_rounds}
 use Rattle.bridge_cli.specs.Replays.{script_tracking, reply_talk, IsReplyEvent, IsEventAt, AreEvents, body_after, bodies_of, IsTextOfSome, IsTextOf, AreTexts, joined_texts, IsReplay, IsReplayOfSome}
 use Rattle.bridge_ports.proofs.Laws.{appends_twice, front_behind}
 use Rattle.otlp_tree.specs.declared.tree.Request.{Request}

@@ -2,11 +2,11 @@
 use Rattle.std.proofs.Common.{◌≡◌, ◌≢◌, ℕ, List, refl, ap, subst, arith}
 use Rattle.replay_script.specs.declared.script.Script.{Script}
 use Rattle.replay_script.proofs.Laws.{one_script, one_fault, never_both}
-use Rattle.bridge_cli.specs.declared.status.Status.TheVariants.{NoForm}
-use Rattle.bridge_cli.specs.Statuses.{code_of}
-use Rattle.bridge_cli.specs.Stops.{script_text}
+use Rattle.program_words.specs.declared.status.Status.TheVariants.{NoForm}
+use Rattle.program_words.specs.Statuses.{code_of}
+use Rattle.program_words.specs.Stops.{script_text}
 use Rattle.bridge_cli.specs.Answers.{IsScriptAnswer, script_done, script_refused, script_too_long}
-use Rattle.bridge_cli.proofs.PageAnswerLaws.{AreSame}
+use Rattle.program_words.proofs.Laws.{AreSame}
 
 -- a command that prints one text of a script has one answer
 script_once : (Prints : Script → List ℕ → Type 0) → ((s : Script) (a b : List ℕ) → Prints s a → Prints s b → a ≡ b) → (bytes : List ℕ) (s r : ℕ) (t u : List ℕ) → IsScriptAnswer Prints bytes s t

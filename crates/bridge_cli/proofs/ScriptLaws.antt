@@ -1,24 +1,21 @@
 -- What an input comes to that holds a script.
-use Rattle.std.proofs.Common.{◌≡◌, ℕ, Bool, ◌+◌, ◌<◌, ◌≤◌, List, ◌++◌, length, take, Option, Some, None, refl, ap, subst, arith, length-append}
-use Rattle.std.specs.Io.KnownBytes.{Consumes}
-use Rattle.std.proofs.lemmas.List.{length-take}
+use Rattle.std.proofs.Common.{◌≡◌, ℕ, Bool, List, length, Option, Some, None, refl, ap, subst, arith, length-append}
 use Rattle.replay_script.specs.declared.script.Script.{Script}
 use Rattle.replay_script.specs.declared.fault.ScriptFault.{ScriptFault}
 use Rattle.replay_script.specs.declared.fault.ScriptFault.TheVariants as faults
 use Rattle.replay_script.specs.Scripts.{IsScript}
 use Rattle.replay_script.specs.Progresses.{IsFaultOf}
 use Rattle.replay_script.proofs.Laws.{scripts_are_right}
-use Rattle.bridge_cli.specs.declared.status.Status.TheVariants.{TooLong}
-use Rattle.bridge_cli.specs.Limits.{most_script}
-use Rattle.bridge_cli.specs.Statuses.{code_of}
-use Rattle.bridge_cli.specs.Stops.{too_long_text, script_stop}
+use Rattle.program_words.specs.declared.status.Status.TheVariants.{TooLong}
+use Rattle.program_words.specs.Limits.{most_script}
+use Rattle.program_words.specs.Statuses.{code_of}
+use Rattle.program_words.specs.Stops.{too_long_text, script_stop}
 use Rattle.bridge_ports.specs.Inputs.{IsOverlong}
 use Rattle.bridge_cli.specs.Answers.{IsScriptAnswer, script_refused, script_too_long}
 use Rattle.bridge_cli.specs.Replays.{IsReplayWith}
-use Rattle.bridge_cli.specs.ProgramOutputs.{HasAnswer}
-use Rattle.bridge_cli.specs.StopAnswers.{StopsAs}
+use Rattle.program_words.specs.InputAnswers.{HasAnswer}
+use Rattle.program_words.specs.StopAnswers.{StopsAs}
 use Rattle.bridge_cli.specs.Printed.{HoldsBytes, HoldsScript}
-use Rattle.bridge_ports.proofs.Laws.{consumes_twice}
 
 -- the answer to an input that is too long
 pub too_long_script : (page : Bool) (left after : Option (List ℕ)) → IsOverlong most_script left after → HasAnswer (IsScriptAnswer (IsReplayWith page)) left (code_of TooLong) too_long_text

@@ -2,25 +2,20 @@
 use Rattle.std.specs.Prelude.{◌≡◌, ℕ, ◌<◌, ◌≤◌, List, length}
 use Rattle.replay_script.specs.declared.script.Script.{Script}
 use Rattle.replay_script.specs.Scripts.{IsScript, HasScriptFault}
-use Rattle.bridge_cli.specs.declared.status.Status.TheVariants.{Done, NoForm, ScriptRefused, TooLong}
-use Rattle.bridge_cli.specs.declared.words.Command.{Command}
-use Rattle.bridge_cli.specs.declared.words.Command.TheVariants.{Help, Version, Check, Convert, Replay, Load}
-use Rattle.bridge_cli.specs.Statuses.{code_of}
-use Rattle.bridge_cli.specs.CommandWords.{IsCommand, FitNoForm}
-use Rattle.bridge_cli.specs.Stops.{no_form_text, script_text, too_long_text}
-use Rattle.bridge_cli.specs.HelpTexts.{help_text, version_text}
-use Rattle.bridge_cli.specs.PageAnswers.{page_setting, IsPageAnswer}
-use Rattle.bridge_cli.specs.CheckTexts.{checked_text}
-use Rattle.bridge_cli.specs.ConvertTexts.{converted_text}
-use Rattle.bridge_cli.specs.Limits.{most_script}
+use Rattle.program_words.specs.declared.status.Status.TheVariants.{Done, NoForm, ScriptRefused, TooLong}
+use Rattle.program_words.specs.declared.words.Command.{Command}
+use Rattle.program_words.specs.declared.words.Command.TheVariants.{Help, Version, Check, Convert, Replay, Load}
+use Rattle.program_words.specs.Statuses.{code_of}
+use Rattle.program_words.specs.CommandWords.{IsCommand, FitNoForm}
+use Rattle.program_words.specs.Stops.{no_form_text, script_text, too_long_text}
+use Rattle.program_words.specs.HelpTexts.{help_text, version_text, IsFixedAnswer}
+use Rattle.page_commands.specs.PageAnswers.{page_setting, IsPageAnswer}
+use Rattle.page_commands.specs.CheckTexts.{checked_text}
+use Rattle.page_commands.specs.ConvertTexts.{converted_text}
+use Rattle.program_words.specs.Limits.{most_script}
 use Rattle.bridge_cli.specs.Replays.{IsReplayWith, IsReplayOfSome}
 use Rattle.load_pages.specs.GeneratedScripts.{generated_script}
 use Rattle.bridge_cli.specs.Loads.{IsLoadReport, MayBeReported}
-
--- what a command that prints always the same answers
-pub record IsFixedAnswer (fixed : List ℕ) (status : ℕ) (text : List ℕ) : Type 0 where
-  pub done : status ≡ code_of Done
-  pub says : text ≡ fixed
 
 -- the bytes on the input are this script
 pub record IsScriptInput (script : Script) (bytes : List ℕ) : Type 0 where

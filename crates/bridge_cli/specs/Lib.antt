@@ -1,17 +1,7 @@
-pub mod Limits
-pub mod Statuses
-pub mod CommandWords
-pub mod Stops
-pub mod HelpTexts
-pub mod PageAnswers
-pub mod PageInputs
-pub mod CheckTexts
-pub mod ConvertTexts
 pub mod Replays
 pub mod Rounds
 pub mod Shelves
 pub mod Loads
 pub mod Answers
 pub mod ProgramOutputs
-pub mod StopAnswers
 pub mod Printed

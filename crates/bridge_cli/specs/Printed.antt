@@ -21,13 +21,13 @@ use Rattle.bridge_cli.specs.declared.answer.Printed.{Printed}
 use Rattle.bridge_cli.specs.declared.answer.Printed.TheVariants.{Whole, Tree, Bodies, Report}
 use Rattle.bridge_cli.specs.declared.replaying.Cut.{Cut}
 use Rattle.bridge_cli.specs.declared.replaying.Cut.TheVariants.{Write, Memory}
-use Rattle.bridge_cli.specs.declared.status.Status.{Status}
-use Rattle.bridge_cli.specs.declared.status.Status.TheVariants.{Done, WriteFailed, WantOfMemory}
-use Rattle.bridge_cli.specs.Statuses.{code_of, IsTold}
+use Rattle.program_words.specs.declared.status.Status.{Status}
+use Rattle.program_words.specs.declared.status.Status.TheVariants.{Done, WriteFailed, WantOfMemory}
+use Rattle.program_words.specs.Statuses.{code_of, IsTold}
 use Rattle.bridge_cli.specs.Replays.{script_tracking, IsReplyEvent, AreEvents, body_after, bodies_of, IsTextOfSome, IsTextOf, AreTexts, joined_texts, IsLastShown, IsReplay, IsReplayOfSome, IsReplayWith, MayBeCut}
-use Rattle.bridge_cli.specs.declared.stop.Stop.{Stop}
-use Rattle.bridge_cli.specs.declared.words.Command.{Command}
-use Rattle.bridge_cli.specs.CommandWords.{IsCommand, AskForNo, prints_pieces}
+use Rattle.program_words.specs.declared.stop.Stop.{Stop}
+use Rattle.program_words.specs.declared.words.Command.{Command}
+use Rattle.program_words.specs.CommandWords.{IsCommand, AskForNo, prints_pieces}
 use Rattle.bridge_ports.specs.Inputs.{IsInput}
 use Rattle.load_pages.specs.GeneratedScripts.{TakesAllBodies}
 use Rattle.run_report.specs.declared.target_end.TargetEnd.{TargetEnd}
@@ -36,9 +36,10 @@ use Rattle.run_report.specs.Reports.{report_text}
 use Rattle.bridge_cli.specs.Loads.{IsLoadReport, MayBeReported}
 use Rattle.bridge_ports.specs.Worlds.{ShelvedPair}
 use Rattle.bridge_cli.specs.Shelves.{IsShelfOf}
-use Rattle.bridge_cli.specs.StopAnswers.{IsStopAnswer}
+use Rattle.program_words.specs.StopAnswers.{IsStopAnswer}
 use Rattle.bridge_cli.specs.Answers.{IsScriptInput, Answers, CutAnswers, IsAnswer}
-use Rattle.bridge_cli.specs.ProgramOutputs.{HasAnswer, HasCutAnswer, HasVisitAnswer}
+use Rattle.program_words.specs.InputAnswers.{HasAnswer}
+use Rattle.bridge_cli.specs.ProgramOutputs.{HasCutAnswer, HasVisitAnswer}
 
 -- this is the text that is to be printed
 abbrev pub Gives : Printed → List ℕ → Type 0

@@ -1,23 +1,17 @@
 -- What the program prints, and the status that it ends with. The bridge's own.
-use Rattle.std.specs.Prelude.{◌≡◌, ◌≢◌, ℕ, ◌<◌, List, Option, IsSome}
+use Rattle.std.specs.Prelude.{◌≡◌, ℕ, List, Option, IsSome}
 use Rattle.std.specs.Io.KnownBytes.{Appends}
-use Rattle.bridge_ports.specs.Causes.{Rose}
 use Rattle.bridge_ports.specs.Writing.{WroteFront}
-use Rattle.bridge_cli.specs.CommandWords.{AskFor, reads_input}
+use Rattle.program_words.specs.CommandWords.{AskFor, reads_input}
 use Rattle.bridge_ports.specs.Inputs.{IsInput}
 use Rattle.bridge_ports.specs.Worlds.{ShelvedPair}
 use Rattle.replay_script.specs.declared.script.Script.{Script}
-use Rattle.bridge_cli.specs.declared.words.Command.{Command}
-use Rattle.bridge_cli.specs.declared.status.Status.TheVariants.{Done}
-use Rattle.bridge_cli.specs.Statuses.{code_of}
+use Rattle.program_words.specs.declared.words.Command.{Command}
+use Rattle.program_words.specs.declared.status.Status.TheVariants.{Done}
+use Rattle.program_words.specs.Statuses.{code_of}
+use Rattle.program_words.specs.InputAnswers.{HasAnswer}
 use Rattle.bridge_cli.specs.Shelves.{IsShelfOf}
 use Rattle.bridge_cli.specs.Answers.{VisitsScript, Answers, IsAnswer, IsCutAnswer}
-
--- some bytes that may have been on the input are answered with this status and text
-pub record HasAnswer (Says : List ℕ → ℕ → List ℕ → Type 0) (left : Option (List ℕ)) (status : ℕ) (text : List ℕ) : Type 0 where
-  pub bytes : List ℕ
-  pub on_input : IsInput left bytes
-  pub says : Says bytes status text
 
 -- the whole answer was written
 pub record Answered (words : List (List ℕ)) (left : Option (List ℕ)) (status : ℕ) (before after : Option (List ℕ)) : Type 0 where
@@ -51,12 +45,6 @@ IsAllTold words left = AskFor reads_input words → IsSome left
 abbrev pub IsOnlyAnswer : List (List ℕ) → Option (List ℕ) → ℕ → Option (List ℕ) → Option (List ℕ) → Type 0
 IsOnlyAnswer words left status before after = IsAllTold words left
     → (bytes : List ℕ) (other : ℕ) (text : List ℕ) → IsInput left bytes → IsAnswer words bytes other text → (status ≡ other) × Appends before after text
-
--- the status is this one exactly where a count of faults rose; at the count's last value it may be this one though the count stands still
-pub record TellsFault (fault status before now : ℕ) : Type 0 where
-  pub rose : status ≡ fault → Rose before now
-  pub only : before < now → status ≡ fault
-  pub kept : status ≢ fault → now ≡ before
 
 -- ---- the shelf
 

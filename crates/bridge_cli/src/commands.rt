@@ -1,23 +1,18 @@
 //! The commands: what each prints, or why it stops.
 ghost use Rattle.std.specs.Prelude.{◌≡◌, true, false, IfOk, IfErr, IsOk};
 ghost use Rattle.bridge_cli.specs.Answers.{Answers};
-ghost use Rattle.bridge_cli.specs.CommandWords.{IsInLimits, reads_input, most_input, takes_memory, scrapers_asked};
-ghost use Rattle.bridge_cli.specs.PageInputs.{Leaves};
+ghost use Rattle.program_words.specs.CommandWords.{IsInLimits, reads_input, most_input, takes_memory, scrapers_asked};
+ghost use Rattle.program_words.specs.StopInputs.{Leaves};
 ghost use Rattle.bridge_cli.specs.Printed.{IsPrintedOf};
-ghost use Rattle.bridge_cli.specs.StopAnswers.{StopsAs};
-ghost use Rattle.bridge_cli.specs.Stops.{ReadCause, IsUnread};
-
-mod check;
-mod convert;
-mod help;
+ghost use Rattle.program_words.specs.StopAnswers.{StopsAs};
+ghost use Rattle.program_words.specs.Stops.{ReadCause, IsUnread};
 
 use crate::answer::Printed;
 use crate::scripts::whole_script;
-use crate::stop::Stop;
-use crate::words::Command;
 use bridge_ports::Source;
-pub use help::{HELP, VERSION};
 use load_pages::generated;
+use page_commands::{check, convert};
+use program_words::{Command, Stop, help, version};
 use std::alloc::{AllocError, Global};
 use std::borrow::CowSlice;
 
@@ -44,16 +39,16 @@ pub(crate) fn run<I: Source>(
     ensures cause { ReadCause (I.read_faults input.old) (I.read_faults input.new) result }
 {
     match command {
-        Command::Help => Ok(Printed::Whole(CowSlice::Borrowed(help::help()))),
-        Command::Version => Ok(Printed::Whole(CowSlice::Borrowed(help::version()))),
-        Command::Check { format } => Ok(Printed::Whole(CowSlice::Owned(check::check(
+        Command::Help => Ok(Printed::Whole(CowSlice::Borrowed(help()))),
+        Command::Version => Ok(Printed::Whole(CowSlice::Borrowed(version()))),
+        Command::Check { format } => Ok(Printed::Whole(CowSlice::Owned(check(
             alloc, format, input,
         )?))),
         Command::Convert {
             format,
             target,
             nanos,
-        } => Ok(Printed::Tree(convert::convert(alloc, format, &target, nanos, input)?)),
+        } => Ok(Printed::Tree(convert(alloc, format, &target, nanos, input)?)),
         Command::Replay { scrapers, page } => {
             let scrapers = scrapers_of(scrapers);
             let script = whole_script(alloc, input)?;

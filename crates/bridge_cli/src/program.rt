@@ -1,26 +1,24 @@
 //! The program over any input and output.
-ghost use Rattle.std.specs.Prelude.{◌≡◌, ◌≢◌, ◌⊎◌, true, map, string_bytes, IfOk, IfErr, OnOk, OnErr};
-ghost use Rattle.bridge_cli.specs.declared.words.Command.{Command as AnyCommand};
-ghost use Rattle.bridge_cli.specs.declared.status.Status.TheVariants.{Done, NoForm, ReadFailed, WriteFailed, WantOfMemory, TooLong};
+ghost use Rattle.std.specs.Prelude.{◌≡◌, ◌≢◌, ◌⊎◌, true, map, string_bytes, IfOk, IfErr};
+ghost use Rattle.program_words.specs.declared.words.Command.{Command as AnyCommand};
+ghost use Rattle.program_words.specs.declared.status.Status.TheVariants.{Done, NoForm, ReadFailed, WriteFailed, WantOfMemory, TooLong};
 ghost use Rattle.bridge_cli.specs.Answers.{IsAnswer};
-ghost use Rattle.bridge_cli.specs.CommandWords.{IsCommand, FitNoForm, AskForNo, WhereRead, reads_input, prints_pieces, takes_memory};
+ghost use Rattle.program_words.specs.CommandWords.{IsCommand, FitNoForm, AskForNo, WhereRead, reads_input, prints_pieces, takes_memory};
 ghost use Rattle.bridge_ports.specs.Inputs.{TookAtMost, IsReadThrough};
-ghost use Rattle.bridge_cli.specs.PageInputs.{Leaves};
+ghost use Rattle.program_words.specs.StopInputs.{Leaves};
 ghost use Rattle.bridge_cli.specs.Printed.{IsPrintedFor, IsPrintable, IsNothing, IsWhole, IsShelved, Ended};
-ghost use Rattle.bridge_cli.specs.ProgramOutputs.{Answered, AnsweredInPart, AnsweredInPieces, IsOnlyAnswer, ShelvesVisits, TellsFault};
+ghost use Rattle.bridge_cli.specs.ProgramOutputs.{Answered, AnsweredInPart, AnsweredInPieces, IsOnlyAnswer, ShelvesVisits};
+ghost use Rattle.program_words.specs.Statuses.{TellsFault, code_of, IsStatus, IsTold, IsUntold};
 ghost use Rattle.bridge_cli.specs.Shelves.{KeepsAllButShelf};
-ghost use Rattle.bridge_cli.specs.Statuses.{code_of, IsStatus, IsTold, IsUntold};
-ghost use Rattle.bridge_cli.specs.StopAnswers.{StopsAs};
-ghost use Rattle.bridge_cli.specs.Stops.{ReadCause, IsUnread, TakesMemory};
+ghost use Rattle.program_words.specs.StopAnswers.{StopsAs};
+ghost use Rattle.program_words.specs.Stops.{ReadCause, IsUnread, TakesMemory};
 
 use crate::answer::{Answer, Printed, stop_answer};
 use crate::commands::run;
 use crate::loading::print_report;
 use crate::printing::print_script;
-use crate::status::Status;
-use crate::stop::Stop;
-use crate::words::command;
-use bridge_ports::{Failed, Sink, Source, World, write_all};
+use bridge_ports::{Sink, Source, World, write_all};
+use program_words::{Status, Stop, command_of, end_code};
 use std::alloc::Global;
 use std::sync::Wait;
 use std::thread::Threads;
@@ -35,7 +33,7 @@ fn text<I: Source>(alloc: Global, words: &[String], input: &mut I) -> Result<Pri
     ensures ready { AskForNo takes_memory (map string_bytes words.now) → IfErr result (λ stop. ¬ TakesMemory stop) }
     ensures cause { ReadCause (I.read_faults input.old) (I.read_faults input.new) result }
 {
-    match command(alloc, words)? {
+    match command_of(alloc, words)? {
         Some(command) => run(alloc, command, input),
         None => Err(Stop::NoForm),
     }
@@ -62,17 +60,6 @@ fn answer<I: Source>(alloc: Global, words: &[String], input: &mut I) -> Answer
             printed,
         },
         Err(stop) => stop_answer(alloc, stop),
-    }
-}
-
-/// The status behind a text that was written whole, or not.
-fn end_code(status: Status, written: Result<(), Failed>) -> u8
-    ensures whole { OnOk written (result ≡ code_of status) }
-    ensures front { OnErr written (result ≡ code_of WriteFailed) }
-{
-    match written {
-        Ok(()) => status.code(),
-        Err(Failed) => Status::WriteFailed.code(),
     }
 }
 

@@ -6,21 +6,12 @@ ghost use Rattle.page_model.specs.declared.event.Event.{Event as AnyEvent};
 ghost use Rattle.target_core.specs.States.{StandsFor, HasNextMoment};
 ghost use Rattle.replay_script.specs.RightScripts.{IsOver, IsRightHeader, IsRightTarget, IsRightScript};
 ghost use Rattle.bridge_cli.specs.Replays.{script_tracking, AreLastShown};
-ghost use Rattle.bridge_cli.specs.Printed.{
-  cut_status,
-  CutCause,
-  MakesTree,
-  PrintsNext,
-  PrintsTarget,
-  PrintsBodies,
-  StandsForAll,
-  ShowsLast,
-};
+ghost use Rattle.bridge_cli.specs.Printed.{cut_status, CutCause, MakesTree, PrintsNext, PrintsTarget, PrintsBodies, StandsForAll, ShowsLast};
 
-use crate::status::Status;
 use bridge_ports::{Failed, MemoryReply, Sink};
 use otlp_tree::Request;
 use page_model::{Event, Shown};
+use program_words::Status;
 use replay_script::{Header, Script, ScriptTarget};
 use scrape_client::outcome;
 use std::alloc::{AllocError, Global};

@@ -1,17 +1,22 @@
 //! The script on an input.
 ghost use Rattle.std.specs.Prelude.{◌≡◌, Bool, IfOk, IfErr};
-ghost use Rattle.bridge_cli.specs.Limits.{most_script};
+ghost use Rattle.program_words.specs.Limits.{most_script};
 ghost use Rattle.bridge_cli.specs.Answers.{IsScriptAnswer};
-ghost use Rattle.bridge_cli.specs.PageInputs.{Leaves};
+ghost use Rattle.program_words.specs.StopInputs.{Leaves};
 ghost use Rattle.bridge_cli.specs.Printed.{HoldsBytes, HoldsScript};
 ghost use Rattle.bridge_cli.specs.Replays.{IsReplayWith};
-ghost use Rattle.bridge_cli.specs.StopAnswers.{StopsAs};
+ghost use Rattle.program_words.specs.StopAnswers.{StopsAs};
 
-use crate::limits::{BLOCK_BYTES, MOST_SCRIPT_BYTES};
-use crate::stop::Stop;
 use bridge_ports::Source;
+use program_words::Stop;
 use replay_script::{Script, read};
 use std::alloc::Global;
+
+/// The most bytes of a script: 256 MiB.
+const MOST_SCRIPT_BYTES: usize = 1 << 28;
+
+/// The most bytes that one read takes.
+const BLOCK_BYTES: usize = 1 << 16;
 
 /// The bytes of a script on an input.
 fn script_bytes<I: Source>(alloc: Global, input: &mut I) -> Result<Vec<u8>, Stop>

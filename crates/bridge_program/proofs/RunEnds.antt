@@ -9,10 +9,9 @@ use Rattle.config_file.specs.ConfigFiles.{StopsAtFile, StopsReadingFile}
 use Rattle.world_run.specs.Outside.{Outside}
 use Rattle.world_run.specs.Serving.{Coming}
 use Rattle.run_command.specs.RunReports.{LeavesPairs}
-use Rattle.bridge_cli.specs.declared.status.Status.TheVariants.{Done, ReadFailed, WantOfMemory, TooLong, WriteFailed}
-use Rattle.bridge_cli.specs.Statuses.{code_of, IsStatus}
+use Rattle.program_words.specs.declared.status.Status.TheVariants.{Done, ReadFailed, WantOfMemory, TooLong, WriteFailed}
+use Rattle.program_words.specs.Statuses.{code_of, IsStatus, TellsFault}
 use Rattle.bridge_ports.specs.Writing.{WroteFront}
-use Rattle.bridge_cli.specs.ProgramOutputs.{TellsFault}
 use Rattle.bridge_program.specs.RunAnswers.{config_refused, IsRunAnswer, run_over, run_refused, run_too_long, run_unread, run_wanting, IsStopEnd, end_refused, end_unsaid, end_too_long, end_unread, end_wanting, IsWritten, written_whole, written_part}
 
 -- ---- what is written

@@ -11,9 +11,9 @@ use Rattle.config_file.specs.ConfigFiles.{HoldsFault, IsTooLong}
 use Rattle.world_run.specs.Outside.{Outside, AreUnused}
 use Rattle.world_run.specs.Serving.{Coming}
 use Rattle.run_command.specs.RunReports.{IsReportOfRun, KeepsPairs, MayHaveRun, IsRunAsked}
-use Rattle.bridge_cli.specs.declared.status.Status.TheVariants.{Done, ReadFailed, WriteFailed, WantOfMemory, TooLong}
-use Rattle.bridge_cli.specs.Statuses.{code_of}
-use Rattle.bridge_cli.specs.Stops.{too_long_text}
+use Rattle.program_words.specs.declared.status.Status.TheVariants.{Done, ReadFailed, WriteFailed, WantOfMemory, TooLong}
+use Rattle.program_words.specs.Statuses.{code_of}
+use Rattle.program_words.specs.Stops.{too_long_text}
 use Rattle.bridge_ports.specs.Writing.{WroteFront}
 
 -- the status of a run whose configuration has a fault

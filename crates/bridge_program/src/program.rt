@@ -1,13 +1,13 @@
 //! The program over a world, an input and an output.
 ghost use Rattle.std.specs.Prelude.{◌≡◌, ◌≢◌, ◌⊎◌, true, ℕ, List as Seq, map, string_bytes};
 ghost use Rattle.std.specs.Cow.{cow_slice_items};
-ghost use Rattle.bridge_cli.specs.declared.words.Command.{Command as AnyCommand};
-ghost use Rattle.bridge_cli.specs.declared.status.Status.TheVariants.{Done, NoForm, ReadFailed, WriteFailed, WantOfMemory};
-ghost use Rattle.bridge_cli.specs.CommandWords.{IsCommand, FitNoForm, AskForNo, WhereRead, reads_input, prints_pieces, takes_memory};
+ghost use Rattle.program_words.specs.declared.words.Command.{Command as AnyCommand};
+ghost use Rattle.program_words.specs.declared.status.Status.TheVariants.{Done, NoForm, ReadFailed, WriteFailed, WantOfMemory};
+ghost use Rattle.program_words.specs.CommandWords.{IsCommand, FitNoForm, AskForNo, WhereRead, reads_input, prints_pieces, takes_memory};
 ghost use Rattle.bridge_ports.specs.Inputs.{TookAtMost, IsReadThrough};
-ghost use Rattle.bridge_cli.specs.ProgramOutputs.{Answered, AnsweredInPart, AnsweredInPieces, IsOnlyAnswer, ShelvesVisits, TellsFault};
+ghost use Rattle.bridge_cli.specs.ProgramOutputs.{Answered, AnsweredInPart, AnsweredInPieces, IsOnlyAnswer, ShelvesVisits};
+ghost use Rattle.program_words.specs.Statuses.{TellsFault, code_of, IsStatus, IsTold, IsUntold};
 ghost use Rattle.bridge_cli.specs.Shelves.{KeepsAllButShelf};
-ghost use Rattle.bridge_cli.specs.Statuses.{code_of, IsStatus, IsTold, IsUntold};
 ghost use Rattle.world_run.specs.Outside.{outside_of};
 ghost use Rattle.run_command.specs.RunReports.{MayKeepComing};
 ghost use Rattle.bridge_program.specs.RunWords.{AskToRun, AskForNoRun};

@@ -4,9 +4,8 @@ ghost use Rattle.std.specs.Cow.{cow_slice_items};
 ghost use Rattle.bridge_config.specs.ConfigLines.{config_line};
 ghost use Rattle.run_command.specs.RunReports.{MayKeepComing};
 ghost use Rattle.world_run.specs.Outside.{seen_home, outside_of, AreUnused};
-ghost use Rattle.bridge_cli.specs.declared.status.Status.TheVariants.{ReadFailed};
-ghost use Rattle.bridge_cli.specs.ProgramOutputs.{TellsFault};
-ghost use Rattle.bridge_cli.specs.Statuses.{code_of};
+ghost use Rattle.program_words.specs.declared.status.Status.TheVariants.{ReadFailed};
+ghost use Rattle.program_words.specs.Statuses.{TellsFault, code_of};
 ghost use Rattle.bridge_program.specs.RunAnswers.{IsRunAnswer, IsStopEnd, AsksAtMost, run_status};
 
 use bridge_cli::Status;

@@ -1,4 +1,4 @@
-use Rattle.bridge_cli.specs.StopAnswers.{said, wanting}
+use Rattle.program_words.specs.StopAnswers.{said, wanting}
 use Rattle.bridge_cli.proofs.answer.stop_answer.Goals as goal
 
 pub returns-in-Ok : goal.returns-in-Ok

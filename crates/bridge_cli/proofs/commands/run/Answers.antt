@@ -1,12 +1,14 @@
 use Rattle.std.proofs.Common.{refl, ◌∙◌}
-use Rattle.bridge_cli.specs.declared.words.Command.TheVariants.{Help, Version, Check, Convert}
-use Rattle.bridge_cli.specs.HelpTexts.{help_text, version_text}
+use Rattle.program_words.specs.declared.words.Command.TheVariants.{Help, Version, Check, Convert}
+use Rattle.program_words.specs.HelpTexts.{help_text, version_text}
 use Rattle.bridge_cli.specs.Answers.{Answers, IsScriptAnswer}
 use Rattle.bridge_cli.specs.Replays.{IsReplayWith}
-use Rattle.bridge_cli.specs.StopAnswers.{StopsAs}
-use Rattle.bridge_cli.proofs.AnswerLaws.{fixed_answer}
-use Rattle.bridge_cli.proofs.PageLaws.{stop_has}
-use Rattle.bridge_cli.proofs.PrintLaws.{same_text, whole_printed, bodies_printed, report_printed}
+use Rattle.page_commands.specs.PageAnswers.{page_setting, IsPageAnswer}
+use Rattle.page_commands.specs.CheckTexts.{checked_text}
+use Rattle.page_commands.specs.ConvertTexts.{converted_text}
+use Rattle.program_words.specs.StopAnswers.{StopsAs}
+use Rattle.program_words.proofs.Laws.{fixed_answer, stop_has, same_text}
+use Rattle.bridge_cli.proofs.PrintLaws.{whole_printed, bodies_printed, report_printed}
 use Rattle.bridge_cli.proofs.commands.run.Goals as goal
 
 pub returns-in-Help-clause-text : goal.returns-in-Help-clause-text
@@ -24,6 +26,16 @@ returns-in_ok-convert-in-Convert-clause-text g c =
     rw c.in-Convert.is (
     whole_printed (Convert c.in-Convert.format c.in-Convert.target c.in-Convert.nanos) _ _ tt refl
     (λ text e. same_text (Answers (Convert c.in-Convert.format c.in-Convert.target c.in-Convert.nanos)) _ _ _ text c.in_ok-convert-in-Convert.ensures.text e))
+
+pub returns-in_err-check-in-Check-clause-stop : goal.returns-in_err-check-in-Check-clause-stop
+returns-in_err-check-in-Check-clause-stop g c =
+    rw c.in-Check.is (stop_has (StopsAs (IsPageAnswer (page_setting c.in-Check.format) checked_text) _) _ _ c.from_residual.ensures.1 c.in_err-check-in-Check.ensures.stop)
+
+pub returns-in_err-convert-in-Convert-clause-stop : goal.returns-in_err-convert-in-Convert-clause-stop
+returns-in_err-convert-in-Convert-clause-stop g c =
+    rw c.in-Convert.is (
+    stop_has (StopsAs (IsPageAnswer (page_setting c.in-Convert.format) (converted_text c.in-Convert.target c.in-Convert.nanos)) _) _ _
+    c.from_residual-in_err-convert-in-Convert.ensures.1 c.in_err-convert-in-Convert.ensures.stop)
 
 pub returns-in_ok-script-in-Replay-clause-text : goal.returns-in_ok-script-in-Replay-clause-text
 returns-in_ok-script-in-Replay-clause-text g c = rw c.in-Replay.is (bodies_printed c.in-Replay.scrapers c.in-Replay.page _ c.in_ok-script-in-Replay.script c.scrapers_of-scrapers.result c.in_ok-script-in-Replay.ensures.script)

@@ -1,4 +1,4 @@
-use Rattle.bridge_cli.proofs.AnswerLaws.{stop_through, stop_in_part, stop_fault}
+use Rattle.program_words.proofs.Laws.{stop_through, stop_in_part, stop_fault}
 use Rattle.bridge_cli.proofs.PrintLaws.{stop_printed, stop_nothing, stop_whole, stop_unwritten, stop_unread}
 use Rattle.bridge_cli.proofs.program.answer.Goals as goal
 

@@ -1,6 +1,7 @@
 use Rattle.std.proofs.Common.{inl, inr}
 use Rattle.bridge_cli.proofs.CommandLaws.{is_no_form}
-use Rattle.bridge_cli.proofs.AnswerLaws.{only_answer, form_told}
+use Rattle.bridge_cli.proofs.AnswerLaws.{only_answer}
+use Rattle.program_words.proofs.Laws.{form_told}
 use Rattle.bridge_cli.proofs.PrintLaws.{ended_status, ended_answered, ended_part, ended_read, ended_memory, ended_pieces, ended_ready, ended_unread, ended_through, ended_in_part, ended_fault, ended_no_form, ended_shelf}
 use Rattle.bridge_cli.proofs.program.bridge.Goals as goal
 

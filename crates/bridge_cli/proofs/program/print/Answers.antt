@@ -1,5 +1,5 @@
 use Rattle.std.proofs.Common.{refl, ◌∙◌, ap}
-use Rattle.bridge_cli.specs.Statuses.{code_of}
+use Rattle.program_words.specs.Statuses.{code_of}
 use Rattle.bridge_cli.proofs.PrintLaws.{print_done, print_at_once, print_cut, print_report_cut, cut_fault}
 use Rattle.bridge_cli.proofs.program.print.Goals as goal
 

@@ -1,5 +1,5 @@
 use Rattle.std.proofs.lemmas.Result.{IfOk-weaker, IfErr-weaker}
-use Rattle.bridge_cli.specs.PageInputs.{Leaves}
+use Rattle.program_words.specs.StopInputs.{Leaves}
 use Rattle.bridge_cli.proofs.AnswerLaws.{words_stop, no_form_answer}
 use Rattle.bridge_cli.proofs.PrintLaws.{words_printed, where_read}
 use Rattle.bridge_cli.proofs.program.text.Goals as goal

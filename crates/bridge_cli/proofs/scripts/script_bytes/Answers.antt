@@ -1,7 +1,7 @@
 use Rattle.std.proofs.Common.{◌∙◌, arith}
-use Rattle.bridge_cli.specs.declared.stop.Stop.TheVariants.{Memory}
-use Rattle.bridge_cli.specs.Limits.{most_script}
-use Rattle.bridge_cli.proofs.PageLaws.{stop_leaves}
+use Rattle.program_words.specs.declared.stop.Stop.TheVariants.{Memory}
+use Rattle.program_words.specs.Limits.{most_script}
+use Rattle.program_words.proofs.Laws.{stop_leaves}
 use Rattle.bridge_cli.proofs.ScriptLaws.{too_long_script}
 use Rattle.bridge_ports.proofs.Laws.{block_too_much, block_more}
 use Rattle.bridge_cli.proofs.scripts.script_bytes.Goals as goal

@@ -1,6 +1,6 @@
 use Rattle.std.proofs.Common.{◌≡◌, ◌-◌, ◌≤◌, length}
 use Rattle.std.specs.Io.KnownBytes.{Consumes}
-use Rattle.bridge_cli.specs.Limits.{most_script}
+use Rattle.program_words.specs.Limits.{most_script}
 use Rattle.bridge_cli.proofs.scripts.script_bytes.Given as goal
 
 abbrev pub invariant-loop-bytes : goal.invariant-loop-bytes

@@ -1,7 +1,7 @@
 use Rattle.bridge_cli.specs.Answers.{IsScriptAnswer}
 use Rattle.bridge_cli.specs.Replays.{IsReplayWith}
-use Rattle.bridge_cli.specs.StopAnswers.{StopsAs}
-use Rattle.bridge_cli.proofs.PageLaws.{stop_has}
+use Rattle.program_words.specs.StopAnswers.{StopsAs}
+use Rattle.program_words.proofs.Laws.{stop_has}
 use Rattle.bridge_cli.proofs.ScriptLaws.{script_fault, holds_script}
 use Rattle.bridge_cli.proofs.scripts.whole_script.Goals as goal
 

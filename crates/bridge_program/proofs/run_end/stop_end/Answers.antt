@@ -1,4 +1,4 @@
-use Rattle.bridge_cli.specs.Stops.{too_long_text}
+use Rattle.program_words.specs.Stops.{too_long_text}
 use Rattle.bridge_program.specs.RunAnswers.{end_refused, end_unsaid, end_too_long, end_unread, end_wanting}
 use Rattle.bridge_program.proofs.run_end.stop_end.Goals as goal
 

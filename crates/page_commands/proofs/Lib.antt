@@ -1,0 +1,5 @@
+mod IoLaws
+mod PageLaws
+mod PageAnswerLaws
+mod ConvertLaws
+pub mod Laws

@@ -1,0 +1,4 @@
+pub mod PageAnswers
+pub mod PageInputs
+pub mod CheckTexts
+pub mod ConvertTexts

@@ -1,0 +1,174 @@
+//! The page on an input.
+ghost use Rattle.std.specs.Prelude.{◌≡◌, ◌++◌, [], ℕ, List, length, IfOk, IfErr};
+ghost use Rattle.page_model.specs.declared.page.Page.{Page as AnyPage};
+ghost use Rattle.page_model.specs.declared.format.Treatment.TheVariants.{Scraped};
+ghost use Rattle.page_feeding.specs.PageFeeding.{Stands, Answers, CountAnswers};
+ghost use Rattle.program_words.specs.Limits.{most_page, most_samples};
+ghost use Rattle.program_words.specs.declared.stop.Stop.TheVariants.{Memory};
+ghost use Rattle.page_commands.specs.PageAnswers.{page_setting, IsPageAnswer};
+ghost use Rattle.page_commands.specs.PageInputs.{IsFed, HasRoomFor, IsFedWhole, HoldsPage, HoldsCounts};
+ghost use Rattle.program_words.specs.StopInputs.{Leaves};
+ghost use Rattle.program_words.specs.StopAnswers.{StopsAs};
+
+use bridge_ports::{Failed, Source};
+use openmetrics_grammar::OpenLines;
+use page_feeding::{Grammar, PageReader};
+use page_model::{Format, Page, PageCounts, PageFault, Rule, Treatment};
+use program_words::Stop;
+use std::alloc::Global;
+use text_grammar::TextLines;
+
+/// The most bytes of a page: 64 MiB.
+const MOST_PAGE_BYTES: usize = 1 << 26;
+
+/// The most samples of a page.
+const MOST_SAMPLES: u32 = 200_000;
+
+/// The most bytes that one read takes.
+const BLOCK_BYTES: usize = 1 << 16;
+
+/// A page that is fed while it is read.
+#[derive(Drop)]
+pub(crate) enum FedPage<G: Grammar> {
+    /// It has no fault yet.
+    Reading(PageReader<G>),
+    /// It has this first fault, however it goes on.
+    Faulty { line: u32, rule: Rule },
+}
+
+impl<G: Grammar> FedPage<G> {
+    /// Takes the next bytes of the page.
+    fn take(self, piece: &[u8]) -> Result<FedPage<G>, Stop>
+        requires { HasRoomFor (length piece.now) self }
+        ensures fed { (bytes : List ℕ) → IsFed G.format bytes self → IfOk result (IsFed G.format (bytes ++ piece.now)) }
+        ensures memory { IfErr result (λ stop. stop ≡ Memory) }
+    {
+        match self {
+            FedPage::Reading(mut page) => match page.feed(piece) {
+                Ok(()) => Ok(FedPage::Reading(page)),
+                Err(PageFault::Refused { line, rule }) => {
+                    drop(page);
+                    Ok(FedPage::Faulty { line, rule })
+                }
+                Err(PageFault::Memory) => {
+                    drop(page);
+                    Err(Stop::Memory)
+                }
+            },
+            FedPage::Faulty { line, rule } => Ok(FedPage::Faulty { line, rule }),
+        }
+    }
+
+    /// The page, or its first fault, once all of its bytes were taken.
+    fn finish(self) -> Result<Page, PageFault>
+        ensures { (bytes : List ℕ) → IsFed G.format bytes self → Answers (page_setting G.format) bytes result }
+    {
+        match self {
+            FedPage::Reading(page) => page.finish(),
+            FedPage::Faulty { line, rule } => Err(PageFault::Refused { line, rule }),
+        }
+    }
+
+    /// How many families and samples the page has, or its first fault, once all of its bytes were taken.
+    fn count(self) -> Result<PageCounts, PageFault>
+        ensures { (bytes : List ℕ) → IsFed G.format bytes self → CountAnswers (page_setting G.format) bytes result }
+    {
+        match self {
+            FedPage::Reading(page) => page.count(),
+            FedPage::Faulty { line, rule } => Err(PageFault::Refused { line, rule }),
+        }
+    }
+}
+
+/// Reads an input to its end, or until it is too long, and feeds its page. It reads on behind a fault,
+/// since a failed read and too many bytes go before that.
+fn read_page<I: Source, G: Grammar>(
+    input: &mut I,
+    reader: PageReader<G>,
+) -> Result<FedPage<G>, Stop>
+    requires { Stands G.format Scraped most_samples [] reader }
+    ensures fed { IfOk result (IsFedWhole G.format (I.left input.old)) }
+    ensures stop { (text_of : AnyPage → List ℕ) → IfErr result (StopsAs (IsPageAnswer (page_setting G.format) text_of) (I.left input.old)) }
+    ensures input { Leaves most_page (I.left input.old) (I.left input.new)
+        (I.read_faults input.old) (I.read_faults input.new) result }
+{
+    let mut page = FedPage::Reading(reader);
+    let mut taken = 0usize;
+    let mut block = [0u8; BLOCK_BYTES];
+    loop {
+        let count = match input.read(&mut block) {
+            Ok(count) => count as usize,
+            Err(Failed) => {
+                drop(page);
+                return Err(Stop::Read);
+            }
+        };
+        if count == 0 {
+            return Ok(page);
+        }
+        if count > MOST_PAGE_BYTES - taken {
+            drop(page);
+            return Err(Stop::TooLong);
+        }
+        taken += count;
+        page = page.take(&block[..count])?;
+    }
+}
+
+/// The page of a grammar that an input holds.
+fn page_of<I: Source, G: Grammar>(alloc: Global, input: &mut I) -> Result<Page, Stop>
+    ensures page { IfOk result (HoldsPage G.format (I.left input.old)) }
+    ensures stop { (text_of : AnyPage → List ℕ) → IfErr result (StopsAs (IsPageAnswer (page_setting G.format) text_of) (I.left input.old)) }
+    ensures input { Leaves most_page (I.left input.old) (I.left input.new)
+        (I.read_faults input.old) (I.read_faults input.new) result }
+{
+    let reader = PageReader::<G>::new(alloc, Treatment::Scraped, MOST_SAMPLES)?;
+    let page = read_page(input, reader)?;
+    Ok(page.finish()?)
+}
+
+/// How many families and samples the page of a grammar has that an input holds.
+fn counts_of<I: Source, G: Grammar>(alloc: Global, input: &mut I) -> Result<PageCounts, Stop>
+    ensures counts { IfOk result (HoldsCounts G.format (I.left input.old)) }
+    ensures stop { (text_of : AnyPage → List ℕ) → IfErr result (StopsAs (IsPageAnswer (page_setting G.format) text_of) (I.left input.old)) }
+    ensures input { Leaves most_page (I.left input.old) (I.left input.new)
+        (I.read_faults input.old) (I.read_faults input.new) result }
+{
+    let reader = PageReader::<G>::counting(alloc, Treatment::Scraped, MOST_SAMPLES)?;
+    let page = read_page(input, reader)?;
+    Ok(page.count()?)
+}
+
+/// The page of this format that an input holds.
+pub(crate) fn whole_page<I: Source>(
+    alloc: Global,
+    format: Format,
+    input: &mut I,
+) -> Result<Page, Stop>
+    ensures page { IfOk result (HoldsPage format (I.left input.old)) }
+    ensures stop { (text_of : AnyPage → List ℕ) → IfErr result (StopsAs (IsPageAnswer (page_setting format) text_of) (I.left input.old)) }
+    ensures input { Leaves most_page (I.left input.old) (I.left input.new)
+        (I.read_faults input.old) (I.read_faults input.new) result }
+{
+    match format {
+        Format::Text => page_of::<I, TextLines>(alloc, input),
+        Format::OpenMetrics => page_of::<I, OpenLines>(alloc, input),
+    }
+}
+
+/// How many families and samples the page of this format has that an input holds. No page is made.
+pub(crate) fn page_counts<I: Source>(
+    alloc: Global,
+    format: Format,
+    input: &mut I,
+) -> Result<PageCounts, Stop>
+    ensures counts { IfOk result (HoldsCounts format (I.left input.old)) }
+    ensures stop { (text_of : AnyPage → List ℕ) → IfErr result (StopsAs (IsPageAnswer (page_setting format) text_of) (I.left input.old)) }
+    ensures input { Leaves most_page (I.left input.old) (I.left input.new)
+        (I.read_faults input.old) (I.read_faults input.new) result }
+{
+    match format {
+        Format::Text => counts_of::<I, TextLines>(alloc, input),
+        Format::OpenMetrics => counts_of::<I, OpenLines>(alloc, input),
+    }
+}

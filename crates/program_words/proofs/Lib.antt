@@ -1,0 +1,7 @@
+mod WordLaws
+mod PlaceLaws
+mod CommandLaws
+mod AnswerLaws
+mod StatusLaws
+mod StopLaws
+pub mod Laws

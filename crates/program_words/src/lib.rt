@@ -1,0 +1,17 @@
+//! The words of the command line, and what is said of every command: its limits, the statuses, and why it stops.
+#![tactic(auto)]
+
+mod digits;
+mod limits;
+mod status;
+mod stop;
+mod stop_texts;
+mod usage;
+mod words;
+
+pub use digits::push_number;
+pub use status::{Status, end_code};
+pub use stop::Stop;
+pub use stop_texts::stop_text;
+pub use usage::{help, version};
+pub use words::{Command, command_of};

@@ -1,0 +1,13 @@
+//! The limits of what words say.
+
+/// The most scrapers that visit the targets of a script at once.
+pub(crate) const MOST_SCRAPERS: u64 = 4;
+
+/// The latest time, in nanoseconds since the Unix epoch.
+pub(crate) const MOST_NANOS: u64 = 1 << 62;
+
+/// The most bytes of a job.
+pub(crate) const MOST_JOB_BYTES: usize = 256;
+
+/// The most bytes of a host.
+pub(crate) const MOST_HOST_BYTES: usize = 255;

@@ -1,0 +1,46 @@
+//! The words of the command line.
+mod forms;
+mod target;
+
+use bridge_ports::Target;
+pub use forms::command_of;
+use page_model::Format;
+
+/// What the words of the command line ask for.
+#[derive(Drop)]
+pub enum Command {
+    /// Every form, with an example each.
+    Help,
+    /// The name and version of the program.
+    Version,
+    /// Whether a page has a fault.
+    Check {
+        /// The format of the page.
+        format: Format,
+    },
+    /// One event of a page.
+    Convert {
+        /// The format of the page.
+        format: Format,
+        /// The job and the instance that the page is of.
+        target: Target,
+        /// The time of the event, in nanoseconds since the Unix epoch, at most 2^62.
+        nanos: u64,
+    },
+    /// What the scrapes of a script become.
+    Replay {
+        /// How many scrapers visit the targets at once, from 1 to 4, where the words say it.
+        scrapers: Option<u32>,
+        /// Whether the federation page is printed behind the bodies.
+        page: bool,
+    },
+    /// The report of the visits of targets that a number stands for.
+    Load {
+        /// What stands on the pages of the targets, at most 1,000,000.
+        number: u32,
+        /// How many targets there are, from 1 to 64.
+        targets: u32,
+        /// How often each is visited, from 1 to 1,000; over all targets at most 20,000 times.
+        rounds: u32,
+    },
+}
