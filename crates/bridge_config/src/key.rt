@@ -9,7 +9,7 @@ pub(crate) const JOB: &str = "job";
 pub(crate) const URL: &str = "url";
 
 /// A key of a configuration.
-#[derive(Clone, Copy, Debug, PartialEq, Eq)]
+#[derive(Clone, Copy)]
 pub(crate) enum Key {
     Collector,
     Rounds,
@@ -25,7 +25,7 @@ pub(crate) enum Key {
 }
 
 /// The form of a key's value.
-#[derive(Clone, Copy, Debug, PartialEq, Eq)]
+#[derive(Clone, Copy)]
 pub(crate) enum Form {
     Url,
     /// A host, a colon and a port.
@@ -37,7 +37,7 @@ pub(crate) enum Form {
 }
 
 /// Which table a key stands in.
-#[derive(Clone, Copy, Debug, PartialEq, Eq)]
+#[derive(Clone, Copy)]
 pub(crate) enum Level {
     /// The document.
     Top,

@@ -6,7 +6,7 @@ use crate::fault::ConfigFault;
 use label_sets::Text;
 
 /// A class of faults in keys.
-#[derive(Clone, Copy, Debug, PartialEq, Eq)]
+#[derive(Clone, Copy)]
 pub(crate) enum KeyClass {
     /// The key isn't one of a configuration.
     Unknown,

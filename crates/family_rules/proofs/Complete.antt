@@ -1,16 +1,20 @@
 -- No line of a page without a fault leaves a histogram incomplete, and neither does its end: so each family is complete.
-use Rattle.std.proofs.Common.{◌≡◌, ℕ, Bool, true, false, not, ◌&&◌, List, [], ◌∷◌, Option, Some, None, refl, sym, ap, subst, ◌∙◌, inl, inr}
+use Rattle.std.proofs.Common.{◌≡◌, ℕ, Bool, true, false, cond, not, ◌&&◌, List, [], ◌∷◌, filter_map, Option, Some, None, unwrap_or, refl, sym, ap, subst, ◌∙◌, inl, inr}
+use Rattle.std.specs.List.{list_all, cons_option}
+use Rattle.std.specs.Option.{option_or}
 use Rattle.std.specs.Str.{bytes_eq}
 use Rattle.std.specs.Cmp.Lexicographic.{bytes_decides}
 use Rattle.std.proofs.lemmas.Bool.{false_from_ne_true}
-use Rattle.label_sets.specs.Lists.{some_passes}
+use Rattle.label_sets.specs.declared.kind.Kind.TheVariants.{Unknown}
+use Rattle.label_sets.specs.Lists.{some_passes, first_some}
 use Rattle.label_sets.proofs.Laws.{bytes_eq-swap}
 use Rattle.page_model.specs.declared.item.Item.{Item}
 use Rattle.page_model.specs.declared.item.Item.TheVariants as items
 use Rattle.page_model.specs.declared.rule.Rule.TheVariants as rules
 use Rattle.page_model.specs.Written.{Setting}
-use Rattle.page_model.specs.Owners.{Owned, is_of, kind_of, owner_of, with_owner, owned_lines, samples_of}
-use Rattle.page_model.specs.Rules.{is_incomplete, leaves_incomplete}
+use Rattle.page_model.specs.Items.{kind_of_line, sample_of_line}
+use Rattle.page_model.specs.Owners.{Owned, is_of, declared_kind, sample_in, kind_of, owner_of, with_owner, owned_lines, samples_of}
+use Rattle.page_model.specs.Rules.{is_histogram, is_complete_at, is_incomplete, leaves_incomplete}
 use Rattle.page_model.specs.Faults.{owned_breaks, item_breaks, item_rules, item_fault, end_breaks, end_rules, end_fault}
 use Rattle.page_model.specs.Pages.{AreFaultless}
 use Rattle.page_model.proofs.Laws.{none_found}
@@ -44,9 +48,20 @@ abbrev AreLeftComplete : Setting → List Owned → Type 0
 AreLeftComplete st above = (family : List ℕ) → is_nearest above family ≡ false → is_incomplete st above family ≡ false
 
 -- a line of another family changes nothing
+kind-other : (o : Owned) (above : List Owned) (family : List ℕ) → bytes_eq o.family family ≡ false → kind_of (o ∷ above) family ≡ kind_of above family
+unfolding kind_of
+kind-other o above family e = ap (λ b. unwrap_or (option_or (cond b (kind_of_line o.item) None) (first_some (declared_kind family) above)) Unknown) e
+
+samples-other : (o : Owned) (above : List Owned) (family : List ℕ) → bytes_eq o.family family ≡ false → samples_of (o ∷ above) family ≡ samples_of above family
+unfolding samples_of
+samples-other o above family e = ap (λ b. cons_option (cond b (sample_of_line o.item) None) (filter_map (sample_in family) above)) e
+
 incomplete-other : (st : Setting) (o : Owned) (above : List Owned) (family : List ℕ) → bytes_eq o.family family ≡ false → is_incomplete st (o ∷ above) family ≡ is_incomplete st above family
-unfolding is_incomplete kind_of samples_of
-incomplete-other st o above family e = rw e refl
+unfolding is_incomplete
+incomplete-other st o above family e =
+    let kind = kind-other o above family e in
+    let samples = samples-other o above family e in
+    λ i. is_histogram (kind i) && not (list_all (is_complete_at st (kind i) family (samples i)) (samples i))
 
 no_lines_complete : (st : Setting) (family : List ℕ) → is_incomplete st [] family ≡ false
 unfolding is_incomplete kind_of

@@ -203,9 +203,13 @@ add_stop c kind s told = key_stop c kind (key_of c.setting s) told
 abbrev pub with_added : Checking → Kind → Sample → Result (Option Part) Rule → Checking
 with_added c kind s told = with_key c kind (key_of c.setting s) s.value told
 
--- Interleaved or Suffix, of a sample whose name the current family's kind doesn't allow
-abbrev pub name_stop : Checking → Sample → Rule
-name_stop c s = let kind = current_kind c.current in let labels = kept_labels c.setting.treatment s.labels in
+-- Interleaved or Suffix, of a sample with these labels whose name the current family's kind doesn't allow
+abbrev pub labels_stop : Checking → LabelSet → Rule
+labels_stop c labels = let kind = current_kind c.current in
     if is_back c kind labels then rules.Interleaved
     else if is_back_in_groups c.setting.format kind labels c.current then rules.Interleaved
     else if is_passed labels (samples_at_end (own_samples c kind) c.seen) then rules.Interleaved else rules.Suffix
+
+-- the same of a sample
+abbrev pub name_stop : Checking → Sample → Rule
+name_stop c s = labels_stop c (kept_labels c.setting.treatment s.labels)

@@ -9,6 +9,7 @@ ghost use Rattle.page_model.specs.Readings.{page_of};
 ghost use Rattle.page_model.specs.Counts.{counts_of};
 
 mod places;
+mod sample_lines;
 mod samples;
 
 use crate::family::{Current, Descriptor};
@@ -67,7 +68,7 @@ impl Model for ItemChecker {
 
 impl ItemChecker {
     ghost use Rattle.family_rules.specs.Checking.{Stands, Answers, TellsEnd, HasStopped};
-    ghost use Rattle.family_rules.specs.Steps.{Takes, TakesAny, has_ended, end_stop};
+    ghost use Rattle.family_rules.specs.Steps.{Takes, TakesAny, has_ended, end_stop, with_left};
     ghost use Rattle.family_rules.specs.Made.{ArePartsOf, page_at};
 
     /// A checker that has taken no line, and will make a page. `limit` is the most samples that the page may have.
@@ -157,6 +158,7 @@ impl ItemChecker {
         ensures { IfOk result (TakesAny item self.old self.new) }
     {
         if self.has_ended() {
+            drop(item);
             return Ok(Some(Rule::AfterEof));
         }
         self.take_more(item)
@@ -181,6 +183,7 @@ impl ItemChecker {
         ensures stopped { (fault : PageFault) → HasStopped self.old fault → (result ≡ Err fault) × HasStopped self.new fault }
     {
         if let Some(fault) = self.stopped {
+            drop(item);
             return Err(fault);
         }
         match self.take(item) {
@@ -190,20 +193,37 @@ impl ItemChecker {
         }
     }
 
+    /// The families with the current one, and the samples.
+    fn into_kept(self) -> Result<(LeftFamilies, KeyedValues), Memory>
+        ensures left { IfOk result (λ kept. kept.0 ≡ with_left self.left self.current) }
+        ensures seen { IfOk result (λ kept. kept.1 ≡ self.seen) }
+    {
+        let ItemChecker {
+            mut left,
+            current,
+            runs,
+            group_keys,
+            seen,
+            ..
+        } = self;
+        drop(runs);
+        drop(group_keys);
+        match put_left(&mut left, current) {
+            Ok(()) => Ok((left, seen)),
+            Err(fault) => {
+                drop(left);
+                drop(seen);
+                Err(fault)
+            }
+        }
+    }
+
     /// The families and the number of samples of the lines that were taken.
     fn into_parts(self) -> Result<(List<Family>, u32), Memory>
         ensures { IfOk result (λ parts. page_at self ≡ record { families = parts.0; samples = parts.1 }) }
     {
-        let ItemChecker {
-            alloc,
-            format,
-            mut left,
-            current,
-            seen,
-            samples,
-            ..
-        } = self;
-        put_left(&mut left, current)?;
+        let (alloc, format, samples) = (self.alloc, self.format, self.samples);
+        let (left, seen) = self.into_kept()?;
         let families = families_in(alloc, format, left, seen.into_entries())?;
         Ok((families, samples))
     }
@@ -212,17 +232,12 @@ impl ItemChecker {
     fn into_counts(self) -> Result<PageCounts, Memory>
         ensures { IfOk result (λ counts. counts ≡ counts_of (page_at self)) }
     {
-        let ItemChecker {
-            mut left,
-            current,
-            samples,
-            ..
-        } = self;
-        put_left(&mut left, current)?;
-        Ok(PageCounts {
-            families: left.len(),
-            samples,
-        })
+        let samples = self.samples;
+        let (left, seen) = self.into_kept()?;
+        drop(seen);
+        let families = left.len();
+        drop(left);
+        Ok(PageCounts { families, samples })
     }
 
     /// The rule that the end breaks: a missing line feed in a text, a missing `# EOF` in OpenMetrics, or a
@@ -260,6 +275,7 @@ impl ItemChecker {
         ensures stopped { (fault : PageFault) → HasStopped self fault → result ≡ Err fault }
     {
         if let Some(fault) = self.end_fault(line, clean) {
+            drop(self);
             return Err(fault);
         }
         Ok(self.into_parts()?)
@@ -272,6 +288,7 @@ impl ItemChecker {
         ensures stopped { (fault : PageFault) → HasStopped self fault → result ≡ Err fault }
     {
         if let Some(fault) = self.end_fault(line, clean) {
+            drop(self);
             return Err(fault);
         }
         Ok(self.into_counts()?)

@@ -119,7 +119,9 @@ impl KeyedValues {
         let before = seen.len().saturating_sub(count as usize);
         let mut samples = seen.into_entries();
         samples.pass_over(before);
-        is_passed(alloc, samples, labels)
+        let passed = is_passed(alloc, &mut samples, labels);
+        drop(samples);
+        passed
     }
 
     /// The samples one after the other.
@@ -221,10 +223,9 @@ impl KeyedEntries {
 }
 
 /// Whether one of the samples has these labels, and the last one has not.
-fn is_passed(alloc: Global, samples: KeyedEntries, labels: &LabelSet) -> Result<bool, Memory>
-    ensures { IfOk result (λ passed. passed ≡ is_passed labels.now samples) }
+fn is_passed(alloc: Global, samples: &mut KeyedEntries, labels: &LabelSet) -> Result<bool, Memory>
+    ensures { IfOk result (λ passed. passed ≡ is_passed labels.now samples.old) }
 {
-    let mut samples = samples;
     let mut any = false;
     let mut last = false;
     loop {

@@ -85,7 +85,7 @@ impl LeftFamilies {
     {
         self.families.reserve(1)?;
         self.names.insert(name)?;
-        self.families.push(family).unwrap();
+        self.families.push_reserved(family);
         Ok(())
     }
 

@@ -1,15 +1,17 @@
 //! The families and readings of a page, from what was kept of its lines (OpenMetrics 1.0, "Data Model").
-ghost use Rattle.std.specs.Prelude.{◌≡◌, [], drop, unwrap_or, IfOk, OnOk};
+ghost use Rattle.std.specs.Prelude.{◌≡◌, ◌++◌, [], drop, filter_map, unwrap_or, IfOk, OnOk, if◌then◌else◌};
+ghost use Rattle.sample_groups.specs.Groups.{reading_from};
+ghost use Rattle.sample_groups.specs.Parts.{is_grouped};
 ghost use Rattle.family_rules.specs.Made.{plain_reading, readings_at, family_at, families_at};
 
 use crate::family::FamilySoFar;
 use crate::keyed_values::KeyedEntries;
-use crate::left::LeftFamilies;
+use crate::left::{LeftEntries, LeftFamilies};
 use exact_decimal::Number;
 use label_sets::{Kind, List, Memory, Name, SeriesKey, Text};
 use packed_keys::SampleKey;
 use page_model::{Family, Format, Reading, Value};
-use sample_groups::is_grouped;
+use sample_groups::{Groups, is_grouped};
 use std::alloc::Global;
 
 /// The text, or the empty one.
@@ -56,12 +58,35 @@ fn readings(
     for _ in 0..count {
         let next = samples.next(alloc)?;
         let Some((key, value)) = next else {
-            break;
+            return Ok(readings);
         };
         let unit = unit.copy()?;
         readings.push_reserved(reading(alloc, kind, unit, key, value));
     }
     Ok(readings)
+}
+
+/// The readings of a family of this kind: of its groups, where the kind has groups, else of so many samples. These
+/// come next.
+fn family_readings(
+    alloc: Global,
+    format: Format,
+    kind: Kind,
+    name: &Name,
+    unit: &Text,
+    groups: Groups,
+    count: u32,
+    samples: &mut KeyedEntries,
+) -> Result<List<Reading>, Memory>
+    ensures readings { IfOk result (λ list. list ≡ (if is_grouped format kind then filter_map (reading_from format kind name.now unit.now) groups else readings_at kind unit.now count samples.old)) }
+    ensures rest { OnOk result (samples.new ≡ drop count samples.old) }
+{
+    if is_grouped(format, kind) {
+        samples.pass_over(count as usize);
+        return groups.into_readings(alloc, format, kind, name, unit);
+    }
+    let readings = readings(alloc, kind, unit, count, samples)?;
+    List::from_vec(readings)
 }
 
 /// The family of what is known of it; its samples come next.
@@ -78,20 +103,16 @@ fn family(
     let kind = known.kind();
     let help = text_or_empty(known.help);
     let unit = text_or_empty(known.unit.into_text());
-    if is_grouped(format, kind) {
-        samples.pass_over(known.samples as usize);
-        let readings = known
-            .groups
-            .into_readings(alloc, format, kind, &name, &unit)?;
-        return Ok(Family {
-            name,
-            kind,
-            help,
-            unit,
-            readings,
-        });
-    }
-    let readings = List::from_vec(readings(alloc, kind, &unit, known.samples, samples)?)?;
+    let readings = family_readings(
+        alloc,
+        format,
+        kind,
+        &name,
+        &unit,
+        known.groups,
+        known.samples,
+        samples,
+    )?;
     Ok(Family {
         name,
         kind,
@@ -99,6 +120,29 @@ fn family(
         unit,
         readings,
     })
+}
+
+/// Puts the families of what is known of each behind others, for which there is room at first; their samples stand one
+/// family behind the other.
+fn put_families(
+    alloc: Global,
+    format: Format,
+    room: usize,
+    known: &mut LeftEntries,
+    samples: &mut KeyedEntries,
+    families: &mut Vec<Family>,
+) -> Result<(), Memory>
+    ensures { OnOk result (families.new.items ≡ families.old.items ++ families_at format known.old samples.old) }
+{
+    families.reserve(room)?;
+    loop {
+        let next = known.next(alloc)?;
+        let Some((name, so_far)) = next else {
+            return Ok(());
+        };
+        let family = family(alloc, format, name, so_far, samples)?;
+        families.push(family)?;
+    }
 }
 
 /// The families of what is known of each, in their order; their samples stand one family behind the other.
@@ -110,14 +154,28 @@ pub fn families_in(
 ) -> Result<List<Family>, Memory>
     ensures { IfOk result (λ families. families ≡ families_at format known samples) }
 {
-    let mut families = Vec::with_capacity(alloc, known.len())?;
+    let room = known.len();
+    let mut families = Vec::new(alloc);
     let mut entries = known.into_entries();
     let mut samples = samples;
-    loop {
-        let next = entries.next(alloc)?;
-        let Some((name, so_far)) = next else {
-            return List::from_vec(families);
-        };
-        families.push(family(alloc, format, name, so_far, &mut samples)?)?;
+    match put_families(
+        alloc,
+        format,
+        room,
+        &mut entries,
+        &mut samples,
+        &mut families,
+    ) {
+        Ok(()) => {
+            drop(entries);
+            drop(samples);
+            List::from_vec(families)
+        }
+        Err(fault) => {
+            drop(entries);
+            drop(samples);
+            drop(families);
+            Err(fault)
+        }
     }
 }

@@ -8,6 +8,7 @@ use label_sets::{Kind, LabelSet, Memory, Name};
 use packed_keys::{SampleKey, SeenKeys};
 use std::alloc::Global;
 use std::marker::Model;
+use std::mem;
 
 /// The groups of a family that have begun, and the one of its nearest sample (OpenMetrics 1.0, "Metric": the
 /// samples of one group stand together).
@@ -76,7 +77,7 @@ impl GroupRuns {
         ensures { self.new ≡ no_runs }
     {
         if self.nearest.is_some() {
-            *self = GroupRuns::new(alloc);
+            drop(mem::replace(self, GroupRuns::new(alloc)));
         }
     }
 
@@ -97,6 +98,7 @@ impl GroupRuns {
         ensures entered { IfOk result (λ back. back ≡ false → self.new ≡ with_group self.old (group_key family.now labels)) }
     {
         if self.is_nearest(&labels) {
+            drop(labels);
             return Ok(false);
         }
         let key = SampleKey {
@@ -105,7 +107,9 @@ impl GroupRuns {
         };
         let new = self.begun.insert(&key)?;
         let follows = self.nearest.is_some();
-        self.nearest = Some(key.labels);
+        let SampleKey { name, labels } = key;
+        drop(name);
+        drop(mem::replace(&mut self.nearest, Some(labels)));
         Ok(follows && !new)
     }
 }

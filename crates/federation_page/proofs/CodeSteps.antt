@@ -85,17 +85,16 @@ pub all_taken : (s : Shown) (fs gs : List Family) (families : List Family) (i : 
 unfolding candidates_of
 all_taken s fs gs families i le h whole = sym (ap (λ rest. with_candidates fs (filter_map (candidate_of s) rest)) (drop_all i families le)) ∙ h ∙ ap (λ all. with_candidates gs (filter_map (candidate_of s) all)) whole
 
-pub all_targets_taken : (fs : List Family) (shown : List Shown) (i : ℕ) → length shown ≤ i → with_candidates fs (flat_map candidates_of (drop i shown)) ≡ with_candidates [] (flat_map candidates_of shown) → fs ≡ with_candidates [] (flat_map candidates_of shown)
-all_targets_taken fs shown i le h = sym (ap (λ rest. with_candidates fs (flat_map candidates_of rest)) (drop_all i shown le)) ∙ h
+pub all_targets_taken : (fs gs : List Family) (shown : List Shown) (i : ℕ) → length shown ≤ i → with_candidates fs (flat_map candidates_of (drop i shown)) ≡ with_candidates gs (flat_map candidates_of shown) → fs ≡ with_candidates gs (flat_map candidates_of shown)
+all_targets_taken fs gs shown i le h = sym (ap (λ rest. with_candidates fs (flat_map candidates_of rest)) (drop_all i shown le)) ∙ h
 
 -- ---- labels of a target, made
 
 pub inserted_at : (l : Label) (ls : List Label) (place : ℕ) → place ≡ prefix_len (λ label. not (name_before l.name label.name)) ls → take place ls ++ l ∷ drop place ls ≡ label_inserted l ls
 inserted_at l ls place e = ap (λ (n : ℕ). take n ls ++ l ∷ drop n ls) e ∙ sym (inserted_split l ls)
 
-pub target_made : (job instance : List ℕ) (ls all first both : List Label) (first_name first_value second_name second_value : List ℕ) → all ≡ ls → first_name ≡ codes "job" → first_value ≡ job
-    → first ≡ label_inserted (record { name = first_name; value = first_value }) all → second_name ≡ codes "instance" → second_value ≡ instance
-    → both ≡ label_inserted (record { name = second_name; value = second_value }) first → both ≡ with_target job instance ls
+pub target_made : (job instance : List ℕ) (ls all first both : List Label) → all ≡ ls → first ≡ label_inserted (record { name = codes "job"; value = job }) all
+    → both ≡ label_inserted (record { name = codes "instance"; value = instance }) first → both ≡ with_target job instance ls
 unfolding with_target
-target_made job instance ls all first both first_name first_value second_name second_value whole n v one m w two =
-    two ∙ (λ i. label_inserted (record { name = m i; value = w i }) (one i)) ∙ (λ i. label_inserted (record { name = codes "instance"; value = instance }) (label_inserted (record { name = n i; value = v i }) (whole i)))
+target_made job instance ls all first both whole one two =
+    two ∙ ap (label_inserted (record { name = codes "instance"; value = instance })) (one ∙ ap (label_inserted (record { name = codes "job"; value = job })) whole)

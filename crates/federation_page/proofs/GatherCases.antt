@@ -1,4 +1,4 @@
--- Pages of several targets, gathered and read back, by computation.
+-- Pages of several targets, gathered by computation. That their texts read back is a law (`GatheredReadBack`).
 use Rattle.std.proofs.Common.{◌≡◌, ℕ, List, [], ◌∷◌, ◌++◌, map, Some, None, codes, false, refl}
 use Rattle.std.specs.Str.{is_utf8, chars}
 use Rattle.std.specs.Char.{encode_utf8}
@@ -15,7 +15,7 @@ use Rattle.page_model.specs.Rules.{is_after_eof, is_without_eof, is_late_descrip
 use Rattle.page_model.specs.Faults.{line_breaks, own_fault, sample_breaks, owned_breaks, item_breaks, item_fault, end_breaks, end_fault, line_fault, fault_from}
 use Rattle.page_model.specs.Readings.{value_with, buckets_of, quantiles_of, sum_of, value_of, stamp_of, exemplars_of, reading_of, readings_of, family_of, families_of, page_of}
 use Rattle.page_model.specs.PageReading.{text_fault, text_page}
-use Rattle.page_model.specs.declared.format.Treatment.TheVariants.{Scraped, Written}
+use Rattle.page_model.specs.declared.format.Treatment.TheVariants.{Scraped}
 use Rattle.page_model.specs.declared.event.Shown.{Shown}
 use Rattle.label_sets.specs.declared.kind.Kind.TheVariants.{Histogram}
 use Rattle.label_sets.specs.declared.label.Label.{Label}
@@ -147,28 +147,6 @@ texts_gathered : map (λ (c : Case). written_text (federated_page c.shown)) case
 unfolding lines_of text_page text_fault ends_clean digits is_utf8 chars encode_utf8 number_read number_of whole unsigned has_minus mantissa whole_part fraction_part has_exponent exponent_part is_digits is_real is_infinity is_nan_token is_number_token multiplies_by divides_by without_leading_zeros trailing_zeros without_trailing_zeros significant_digits one_form is_within decimal_of is_in_limits decimal_cmp less same kind_of sample_owner owned_lines samples_of value_with buckets_of quantiles_of sum_of value_of stamp_of exemplars_of reading_of readings_of family_of families_of page_of open_text.label_at open_text.more_labels_at open_text.list_at open_text.optional_list_at open_text.value_at open_text.stamp_at open_text.exemplar_of open_text.sample_of open_text.kind_named open_text.named_at open_text.descriptor_of open_text.open_line_of is_after_eof is_without_eof is_late_descriptor is_split is_bad_unit has_forbidden_unit is_bad_exemplar is_interleaved has_wrong_suffix is_duplicate has_bad_value has_forbidden_value has_bad_threshold is_out_of_order is_past_limit buckets_of_group infinite_bucket is_complete_at is_incomplete leaves_incomplete exemplar_characters line_breaks own_fault sample_breaks owned_breaks item_breaks item_fault end_breaks end_fault line_fault fault_from trimmed is_integer_token text.label_at text.labels_at text.middle_from text.middle_at text.stamp_of text.sample_of text.kind_named text.named_at text.marked_of text.trimmed_of text.text_line_of sign_text pointed plain_text difference_text exponent_text is_plain size_text decimal_text number_text value_samples reading_samples family_samples family_items page_items sample_lines escaped open_label_text more_labels_text labels_text sample_text item_text written_text is_left_out stays in_front_of federated_kind federated_name with_target federated_reading candidate_of candidates_of founders gathered_by gathered_families federated_page share_sample_name clash is_one_family
 texts_gathered = refl
 
--- each text has no fault
-no_faults : map (λ (c : Case). text_fault (open_setting Written 200000) c.text) cases ≡ map (λ (c : Case). None) cases
-unfolding lines_of text_page text_fault ends_clean digits is_utf8 chars encode_utf8 number_read number_of whole unsigned has_minus mantissa whole_part fraction_part has_exponent exponent_part is_digits is_real is_infinity is_nan_token is_number_token multiplies_by divides_by without_leading_zeros trailing_zeros without_trailing_zeros significant_digits one_form is_within decimal_of is_in_limits decimal_cmp less same kind_of sample_owner owned_lines samples_of value_with buckets_of quantiles_of sum_of value_of stamp_of exemplars_of reading_of readings_of family_of families_of page_of open_text.label_at open_text.more_labels_at open_text.list_at open_text.optional_list_at open_text.value_at open_text.stamp_at open_text.exemplar_of open_text.sample_of open_text.kind_named open_text.named_at open_text.descriptor_of open_text.open_line_of is_after_eof is_without_eof is_late_descriptor is_split is_bad_unit has_forbidden_unit is_bad_exemplar is_interleaved has_wrong_suffix is_duplicate has_bad_value has_forbidden_value has_bad_threshold is_out_of_order is_past_limit buckets_of_group infinite_bucket is_complete_at is_incomplete leaves_incomplete exemplar_characters line_breaks own_fault sample_breaks owned_breaks item_breaks item_fault end_breaks end_fault line_fault fault_from
-no_faults = refl
-
--- and reads back as the page
-first_read_back : map (λ (c : Case). text_page (open_setting Written 200000) c.text) first_cases ≡ map (λ (c : Case). federated_page c.shown) first_cases
-unfolding lines_of text_page text_fault ends_clean digits is_utf8 chars encode_utf8 number_read number_of whole unsigned has_minus mantissa whole_part fraction_part has_exponent exponent_part is_digits is_real is_infinity is_nan_token is_number_token multiplies_by divides_by without_leading_zeros trailing_zeros without_trailing_zeros significant_digits one_form is_within decimal_of is_in_limits decimal_cmp less same kind_of sample_owner owned_lines samples_of value_with buckets_of quantiles_of sum_of value_of stamp_of exemplars_of reading_of readings_of family_of families_of page_of open_text.label_at open_text.more_labels_at open_text.list_at open_text.optional_list_at open_text.value_at open_text.stamp_at open_text.exemplar_of open_text.sample_of open_text.kind_named open_text.named_at open_text.descriptor_of open_text.open_line_of is_after_eof is_without_eof is_late_descriptor is_split is_bad_unit has_forbidden_unit is_bad_exemplar is_interleaved has_wrong_suffix is_duplicate has_bad_value has_forbidden_value has_bad_threshold is_out_of_order is_past_limit buckets_of_group infinite_bucket is_complete_at is_incomplete leaves_incomplete exemplar_characters line_breaks own_fault sample_breaks owned_breaks item_breaks item_fault end_breaks end_fault line_fault fault_from trimmed is_integer_token text.label_at text.labels_at text.middle_from text.middle_at text.stamp_of text.sample_of text.kind_named text.named_at text.marked_of text.trimmed_of text.text_line_of sign_text pointed plain_text difference_text exponent_text is_plain size_text decimal_text number_text value_samples reading_samples family_samples family_items page_items sample_lines escaped open_label_text more_labels_text labels_text sample_text item_text written_text is_left_out stays in_front_of federated_kind federated_name with_target federated_reading candidate_of candidates_of founders gathered_by gathered_families federated_page share_sample_name clash is_one_family
-first_read_back = refl
-
-second_read_back : map (λ (c : Case). text_page (open_setting Written 200000) c.text) second_cases ≡ map (λ (c : Case). federated_page c.shown) second_cases
-unfolding lines_of text_page text_fault ends_clean digits is_utf8 chars encode_utf8 number_read number_of whole unsigned has_minus mantissa whole_part fraction_part has_exponent exponent_part is_digits is_real is_infinity is_nan_token is_number_token multiplies_by divides_by without_leading_zeros trailing_zeros without_trailing_zeros significant_digits one_form is_within decimal_of is_in_limits decimal_cmp less same kind_of sample_owner owned_lines samples_of value_with buckets_of quantiles_of sum_of value_of stamp_of exemplars_of reading_of readings_of family_of families_of page_of open_text.label_at open_text.more_labels_at open_text.list_at open_text.optional_list_at open_text.value_at open_text.stamp_at open_text.exemplar_of open_text.sample_of open_text.kind_named open_text.named_at open_text.descriptor_of open_text.open_line_of is_after_eof is_without_eof is_late_descriptor is_split is_bad_unit has_forbidden_unit is_bad_exemplar is_interleaved has_wrong_suffix is_duplicate has_bad_value has_forbidden_value has_bad_threshold is_out_of_order is_past_limit buckets_of_group infinite_bucket is_complete_at is_incomplete leaves_incomplete exemplar_characters line_breaks own_fault sample_breaks owned_breaks item_breaks item_fault end_breaks end_fault line_fault fault_from trimmed is_integer_token text.label_at text.labels_at text.middle_from text.middle_at text.stamp_of text.sample_of text.kind_named text.named_at text.marked_of text.trimmed_of text.text_line_of sign_text pointed plain_text difference_text exponent_text is_plain size_text decimal_text number_text value_samples reading_samples family_samples family_items page_items sample_lines escaped open_label_text more_labels_text labels_text sample_text item_text written_text is_left_out stays in_front_of federated_kind federated_name with_target federated_reading candidate_of candidates_of founders gathered_by gathered_families federated_page share_sample_name clash is_one_family
-second_read_back = refl
-
-third_read_back : map (λ (c : Case). text_page (open_setting Written 200000) c.text) third_cases ≡ map (λ (c : Case). federated_page c.shown) third_cases
-unfolding lines_of text_page text_fault ends_clean digits is_utf8 chars encode_utf8 number_read number_of whole unsigned has_minus mantissa whole_part fraction_part has_exponent exponent_part is_digits is_real is_infinity is_nan_token is_number_token multiplies_by divides_by without_leading_zeros trailing_zeros without_trailing_zeros significant_digits one_form is_within decimal_of is_in_limits decimal_cmp less same kind_of sample_owner owned_lines samples_of value_with buckets_of quantiles_of sum_of value_of stamp_of exemplars_of reading_of readings_of family_of families_of page_of open_text.label_at open_text.more_labels_at open_text.list_at open_text.optional_list_at open_text.value_at open_text.stamp_at open_text.exemplar_of open_text.sample_of open_text.kind_named open_text.named_at open_text.descriptor_of open_text.open_line_of is_after_eof is_without_eof is_late_descriptor is_split is_bad_unit has_forbidden_unit is_bad_exemplar is_interleaved has_wrong_suffix is_duplicate has_bad_value has_forbidden_value has_bad_threshold is_out_of_order is_past_limit buckets_of_group infinite_bucket is_complete_at is_incomplete leaves_incomplete exemplar_characters line_breaks own_fault sample_breaks owned_breaks item_breaks item_fault end_breaks end_fault line_fault fault_from trimmed is_integer_token text.label_at text.labels_at text.middle_from text.middle_at text.stamp_of text.sample_of text.kind_named text.named_at text.marked_of text.trimmed_of text.text_line_of sign_text pointed plain_text difference_text exponent_text is_plain size_text decimal_text number_text value_samples reading_samples family_samples family_items page_items sample_lines escaped open_label_text more_labels_text labels_text sample_text item_text written_text is_left_out stays in_front_of federated_kind federated_name with_target federated_reading candidate_of candidates_of founders gathered_by gathered_families federated_page share_sample_name clash is_one_family
-third_read_back = refl
-
-last_read_back : map (λ (c : Case). text_page (open_setting Written 200000) c.text) last_cases ≡ map (λ (c : Case). federated_page c.shown) last_cases
-unfolding lines_of text_page text_fault ends_clean digits is_utf8 chars encode_utf8 number_read number_of whole unsigned has_minus mantissa whole_part fraction_part has_exponent exponent_part is_digits is_real is_infinity is_nan_token is_number_token multiplies_by divides_by without_leading_zeros trailing_zeros without_trailing_zeros significant_digits one_form is_within decimal_of is_in_limits decimal_cmp less same kind_of sample_owner owned_lines samples_of value_with buckets_of quantiles_of sum_of value_of stamp_of exemplars_of reading_of readings_of family_of families_of page_of open_text.label_at open_text.more_labels_at open_text.list_at open_text.optional_list_at open_text.value_at open_text.stamp_at open_text.exemplar_of open_text.sample_of open_text.kind_named open_text.named_at open_text.descriptor_of open_text.open_line_of is_after_eof is_without_eof is_late_descriptor is_split is_bad_unit has_forbidden_unit is_bad_exemplar is_interleaved has_wrong_suffix is_duplicate has_bad_value has_forbidden_value has_bad_threshold is_out_of_order is_past_limit buckets_of_group infinite_bucket is_complete_at is_incomplete leaves_incomplete exemplar_characters line_breaks own_fault sample_breaks owned_breaks item_breaks item_fault end_breaks end_fault line_fault fault_from trimmed is_integer_token text.label_at text.labels_at text.middle_from text.middle_at text.stamp_of text.sample_of text.kind_named text.named_at text.marked_of text.trimmed_of text.text_line_of sign_text pointed plain_text difference_text exponent_text is_plain size_text decimal_text number_text value_samples reading_samples family_samples family_items page_items sample_lines escaped open_label_text more_labels_text labels_text sample_text item_text written_text is_left_out stays in_front_of federated_kind federated_name with_target federated_reading candidate_of candidates_of founders gathered_by gathered_families federated_page share_sample_name clash is_one_family
-last_read_back = refl
-
 -- the labels of its two readings
 abbrev apart_labels : List ℕ → List Label
 apart_labels a = record { name = codes "a"; value = a } ∷ record { name = codes "instance"; value = codes "h:1" } ∷ record { name = codes "job"; value = codes "j" } ∷ []
@@ -193,7 +171,3 @@ apart_page = record {
 apart_gathered : federated_page apart_case.shown ≡ apart_page
 unfolding lines_of text_page text_fault ends_clean digits is_utf8 chars encode_utf8 number_read number_of whole unsigned has_minus mantissa whole_part fraction_part has_exponent exponent_part is_digits is_real is_infinity is_nan_token is_number_token multiplies_by divides_by without_leading_zeros trailing_zeros without_trailing_zeros significant_digits one_form is_within decimal_of is_in_limits decimal_cmp less same kind_of sample_owner owned_lines samples_of value_with buckets_of quantiles_of sum_of value_of stamp_of exemplars_of reading_of readings_of family_of families_of page_of open_text.label_at open_text.more_labels_at open_text.list_at open_text.optional_list_at open_text.value_at open_text.stamp_at open_text.exemplar_of open_text.sample_of open_text.kind_named open_text.named_at open_text.descriptor_of open_text.open_line_of is_after_eof is_without_eof is_late_descriptor is_split is_bad_unit has_forbidden_unit is_bad_exemplar is_interleaved has_wrong_suffix is_duplicate has_bad_value has_forbidden_value has_bad_threshold is_out_of_order is_past_limit buckets_of_group infinite_bucket is_complete_at is_incomplete leaves_incomplete exemplar_characters line_breaks own_fault sample_breaks owned_breaks item_breaks item_fault end_breaks end_fault line_fault fault_from trimmed is_integer_token text.label_at text.labels_at text.middle_from text.middle_at text.stamp_of text.sample_of text.kind_named text.named_at text.marked_of text.trimmed_of text.text_line_of sign_text pointed plain_text difference_text exponent_text is_plain size_text decimal_text number_text value_samples reading_samples family_samples family_items page_items sample_lines escaped open_label_text more_labels_text labels_text sample_text item_text written_text is_left_out stays in_front_of federated_kind federated_name with_target federated_reading candidate_of candidates_of founders gathered_by gathered_families federated_page share_sample_name clash is_one_family
 apart_gathered = refl
-
-apart_read_back : text_page (open_setting Written 200000) apart_case.text ≡ apart_page
-unfolding lines_of text_page text_fault ends_clean digits is_utf8 chars encode_utf8 number_read number_of whole unsigned has_minus mantissa whole_part fraction_part has_exponent exponent_part is_digits is_real is_infinity is_nan_token is_number_token multiplies_by divides_by without_leading_zeros trailing_zeros without_trailing_zeros significant_digits one_form is_within decimal_of is_in_limits decimal_cmp less same kind_of sample_owner owned_lines samples_of value_with buckets_of quantiles_of sum_of value_of stamp_of exemplars_of reading_of readings_of family_of families_of page_of open_text.label_at open_text.more_labels_at open_text.list_at open_text.optional_list_at open_text.value_at open_text.stamp_at open_text.exemplar_of open_text.sample_of open_text.kind_named open_text.named_at open_text.descriptor_of open_text.open_line_of is_after_eof is_without_eof is_late_descriptor is_split is_bad_unit has_forbidden_unit is_bad_exemplar is_interleaved has_wrong_suffix is_duplicate has_bad_value has_forbidden_value has_bad_threshold is_out_of_order is_past_limit buckets_of_group infinite_bucket is_complete_at is_incomplete leaves_incomplete exemplar_characters line_breaks own_fault sample_breaks owned_breaks item_breaks item_fault end_breaks end_fault line_fault fault_from trimmed is_integer_token text.label_at text.labels_at text.middle_from text.middle_at text.stamp_of text.sample_of text.kind_named text.named_at text.marked_of text.trimmed_of text.text_line_of sign_text pointed plain_text difference_text exponent_text is_plain size_text decimal_text number_text value_samples reading_samples family_samples family_items page_items sample_lines escaped open_label_text more_labels_text labels_text sample_text item_text written_text is_left_out stays in_front_of federated_kind federated_name with_target federated_reading candidate_of candidates_of founders gathered_by gathered_families federated_page share_sample_name clash is_one_family
-apart_read_back = refl

@@ -62,16 +62,27 @@ fn take_target(
     Ok(())
 }
 
+/// Takes the families of targets in their order.
+fn take_targets(alloc: Global, founders: &mut Founders, shown: &[Shown]) -> Result<(), Memory>
+    requires kept { AreFounders founders.old }
+    requires able { All IsFormedTarget shown.now }
+    ensures kept { OnOk result (AreFounders founders.new) }
+    ensures taken { OnOk result (founders.new.families.items ≡ with_candidates founders.old.families.items (flat_map candidates_of shown.now)) }
+{
+    let mut sets = TargetSets::new(alloc)?;
+    let rooms = Rooms::of(alloc, shown)?;
+    for target in shown {
+        take_target(alloc, founders, &mut sets, &rooms, target)?;
+    }
+    Ok(())
+}
+
 /// The families of the page of what targets show, in their order.
 pub(crate) fn gathered_families(alloc: Global, shown: &[Shown]) -> Result<List<Family>, Memory>
     requires able { All IsFormedTarget shown.now }
     ensures { IfOk result (λ families. families ≡ gathered_families (flat_map candidates_of shown.now)) }
 {
     let mut founders = Founders::new(alloc);
-    let mut sets = TargetSets::new(alloc)?;
-    let rooms = Rooms::of(alloc, shown)?;
-    for target in shown {
-        take_target(alloc, &mut founders, &mut sets, &rooms, target)?;
-    }
+    take_targets(alloc, &mut founders, shown)?;
     founders.into_families()
 }

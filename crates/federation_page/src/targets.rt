@@ -4,7 +4,7 @@ ghost use Rattle.std.specs.List.{prefix_len};
 ghost use Rattle.label_sets.specs.Labels.{label_inserted, name_before};
 ghost use Rattle.federation_page.specs.Candidates.{AreFreeLabels, HasNames, with_target};
 
-use label_sets::{Label, LabelSet, Memory, Name};
+use label_sets::{Label, LabelSet, Memory, Name, Text};
 use page_model::Shown;
 use std::alloc::Global;
 
@@ -43,6 +43,18 @@ fn insert(labels: &mut Vec<Label>, label: Label) -> Result<(), Memory>
     Ok(())
 }
 
+/// Puts a label of this name and value in its place.
+fn put(alloc: Global, labels: &mut Vec<Label>, name: &str, value: &Text) -> Result<(), Memory>
+    ensures { OnOk result (labels.new.items ≡ label_inserted (record { name = name.now; value = value.now }) labels.old.items) }
+{
+    let label = Label {
+        name: Name::from_str(alloc, name)?,
+        value: value.copy()?,
+    };
+    insert(labels, label)?;
+    Ok(())
+}
+
 /// A page's labels with those of their target.
 pub(crate) fn with_target(
     alloc: Global,
@@ -54,15 +66,7 @@ pub(crate) fn with_target(
     ensures { IfOk result (λ set. set ≡ with_target shown.now.job shown.now.instance labels.now) }
 {
     let mut all = copies(alloc, labels.labels())?;
-    let job = Label {
-        name: Name::from_str(alloc, "job")?,
-        value: shown.job.copy()?,
-    };
-    insert(&mut all, job)?;
-    let instance = Label {
-        name: Name::from_str(alloc, "instance")?,
-        value: shown.instance.copy()?,
-    };
-    insert(&mut all, instance)?;
+    put(alloc, &mut all, "job", &shown.job)?;
+    put(alloc, &mut all, "instance", &shown.instance)?;
     LabelSet::from_sorted(all)
 }

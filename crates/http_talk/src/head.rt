@@ -10,7 +10,7 @@ use httparse::spans::{EMPTY_HEADER_SPAN, HeaderSpan, ResponseSpans, parse_respon
 use httparse::{Error, Status};
 
 /// What bytes say of a head.
-#[derive(Clone, Copy, Debug, PartialEq, Eq)]
+#[derive(Clone, Copy)]
 pub(crate) enum Head {
     More,
     Bad,

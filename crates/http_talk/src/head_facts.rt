@@ -13,7 +13,7 @@ use httparse::spans::{HeaderSpan, ResponseSpans};
 use page_model::Format;
 
 /// What the fields say of transfer codings.
-#[derive(Clone, Copy, Debug, PartialEq, Eq)]
+#[derive(Clone, Copy, PartialEq, Eq)]
 pub(crate) enum Transfer {
     Absent,
     /// The body comes in chunks alone.
@@ -22,7 +22,7 @@ pub(crate) enum Transfer {
 }
 
 /// What they say of the media type.
-#[derive(Clone, Copy, Debug, PartialEq, Eq)]
+#[derive(Clone, Copy)]
 pub(crate) enum Media {
     Absent,
     Known(Format),
@@ -30,7 +30,7 @@ pub(crate) enum Media {
 }
 
 /// What they say of the length of the body.
-#[derive(Clone, Copy, Debug, PartialEq, Eq)]
+#[derive(Clone, Copy)]
 pub(crate) enum Lengths {
     Absent,
     One(u64),
@@ -39,7 +39,7 @@ pub(crate) enum Lengths {
 }
 
 /// What the fields of a head say of its body.
-#[derive(Clone, Copy, Debug, PartialEq, Eq)]
+#[derive(Clone, Copy)]
 pub(crate) struct HeadFacts {
     /// Whether the body comes in some encoding.
     pub(crate) coded: bool,

@@ -86,19 +86,19 @@ module _ (f : Format) (t : Treatment) (limit : ℕ) (fed : List ℕ) (told : Lis
   close-answers number (Err faults.Memory) e answer is = tt
 
 -- what the end of a checker that took all lines says of the page
-module _ (f : Format) (t : Treatment) (limit : ℕ) (fed : List ℕ) (e : PageEnd) (ended : IsEnded f t limit fed e) where
+module _ (f : Format) (t : Treatment) (limit : ℕ) (fed : List ℕ) (c : Checking) (e : PageEnd) (ended : IsEnded f t limit fed c e) where
   abbrev all_items : List Item
   all_items = with_lines f (map (line_read f) (lines_of fed)) []
 
   pub end-closed : (result : Result Page PageFault)
-      → ((st : Setting) (earlier : List Item) → checking.Stands st e.checker earlier → checking.Answers e.line (end_fault st earlier e.clean) result)
-      → ((st : Setting) (earlier : List Item) → checking.Stands st e.checker earlier → IfOk result (λ page. page ≡ page_of st earlier)) → Answers (setting_of f t limit) fed result
+      → ((st : Setting) (earlier : List Item) → checking.Stands st c earlier → checking.Answers e.line (end_fault st earlier e.clean) result)
+      → ((st : Setting) (earlier : List Item) → checking.Stands st c earlier → IfOk result (λ page. page ≡ page_of st earlier)) → Answers (setting_of f t limit) fed result
   end-closed result answer page = close-answers f t limit fed (lines_of fed) e.clean refl (sym ended.clean) ended.without_fault e.line result ended.line
       (answer (setting_of f t limit) all_items ended.checker_stands) (page (setting_of f t limit) all_items ended.checker_stands)
 
   pub end-counted : (result : Result PageCounts PageFault)
-      → ((st : Setting) (earlier : List Item) → checking.Stands st e.checker earlier → checking.Answers e.line (end_fault st earlier e.clean) result)
-      → ((st : Setting) (earlier : List Item) → checking.Stands st e.checker earlier → IfOk result (λ counts. counts ≡ counts_of (page_of st earlier))) → CountAnswers (setting_of f t limit) fed result
+      → ((st : Setting) (earlier : List Item) → checking.Stands st c earlier → checking.Answers e.line (end_fault st earlier e.clean) result)
+      → ((st : Setting) (earlier : List Item) → checking.Stands st c earlier → IfOk result (λ counts. counts ≡ counts_of (page_of st earlier))) → CountAnswers (setting_of f t limit) fed result
   end-counted (Ok counts) answer is = record {
     page = page_of (setting_of f t limit) all_items;
     is_page = close-answers f t limit fed (lines_of fed) e.clean refl (sym ended.clean) ended.without_fault e.line (Ok (page_of (setting_of f t limit) all_items)) ended.line
@@ -120,15 +120,15 @@ module _ (f : Format) (t : Treatment) (limit : ℕ) (fed : List ℕ) (old new : 
   of_t result takes = subst (λ (x : Treatment). LineAnswer (setting_of f x limit) (with_lines f (map (line_read f) a.told) []) old.lines.line old.lines.number new.checker result) a.treatment
       (takes.answer limit (with_lines f (map (line_read f) a.told) []) (subst (λ (x : Treatment). checking.Stands (setting_of f x limit) old.checker (with_lines f (map (line_read f) a.told) [])) (sym a.treatment) a.checker_stands))
 
-  pub last-refused : (fault : PageFault) → TakesLine f old new (Err fault) → EndAnswer f t limit fed (Err fault)
+  pub last-refused : (fault : PageFault) → TakesLine f old new (Err fault) → EndAnswer f t limit fed new.checker (Err fault)
   last-refused (faults.Refused n rule) takes =
       let answer = of_t (Err (faults.Refused n rule)) takes in
       front_fault (setting_of f t limit) fed (a.told ++ old.lines.line ∷ []) [] (n, rule) (a.lines_are ∙ sym (append-nil (a.told ++ old.lines.line ∷ [])))
       (snoc_fault ∙ rw answer.1 (ap (λ k. Some (fault_at k rule)) (sym (answer.0 ∙ a.number))))
   last-refused faults.Memory takes = tt
 
-  pub last-taken : (u : ⊤) → TakesLine f old new (Ok u) → (e : PageEnd) → e.checker ≡ new.checker → e.line ≡ 1 + (length a.told + 1) → e.clean ≡ false → IsEnded f t limit fed e
-  last-taken u takes e checker line clean =
+  pub last-taken : (u : ⊤) → TakesLine f old new (Ok u) → (e : PageEnd) → e.line ≡ 1 + (length a.told + 1) → e.clean ≡ false → IsEnded f t limit fed new.checker e
+  last-taken u takes e line clean =
       let taken = of_t (Ok u) takes in
       let items : with_lines f (map (line_read f) (a.told ++ old.lines.line ∷ [])) [] ≡ with_line f (line_read f old.lines.line) (with_lines f (map (line_read f) a.told) []) =
       ap (λ (ls : List PageLine). with_lines f ls []) (map-append (line_read f) a.told (old.lines.line ∷ [])) ∙ with_snoc f (map (line_read f) a.told) (line_read f old.lines.line) [] in
@@ -137,8 +137,7 @@ module _ (f : Format) (t : Treatment) (limit : ℕ) (fed : List ℕ) (old new : 
         line = line ∙ ap (λ k. 1 + k) (sym (length-append a.told (old.lines.line ∷ []))) ∙ ap (λ (ls : List (List ℕ)). 1 + length ls) (sym a.lines_are);
         clean = clean ∙ sym a.not_clean;
         without_fault = ap (λ (ls : List (List ℕ)). lines_fault (setting_of f t limit) [] 1 (map (line_read f) ls)) a.lines_are ∙ snoc_fault ∙ rw taken.0 refl;
-        checker_stands = subst (λ (ls : List (List ℕ)). checking.Stands (setting_of f t limit) e.checker (with_lines f (map (line_read f) ls) [])) (sym a.lines_are)
-            (subst (λ (x : Checking). checking.Stands (setting_of f t limit) x (with_lines f (map (line_read f) (a.told ++ old.lines.line ∷ [])) [])) (sym checker) stands);
+        checker_stands = subst (λ (ls : List (List ℕ)). checking.Stands (setting_of f t limit) new.checker (with_lines f (map (line_read f) ls) [])) (sym a.lines_are) stands;
       }
 
 -- ---- the end of the lines
@@ -198,7 +197,7 @@ module _ (f : Format) (t : Treatment) (limit : ℕ) (fed : List ℕ) (old : Fed)
   mid = record { treatment = old.treatment; lines = lines; checker = old.checker; stopped = old.stopped }
 
   pub ended-clean : ((bytes : List ℕ) → feeding.Stands bytes old.lines → IsEnd bytes lines Clean) → (number : ℕ) → number ≡ lines.number
-      → IsEnded f t limit fed (record { checker = old.checker; line = number; clean = true })
+      → IsEnded f t limit fed old.checker (record { line = number; clean = true })
   ended-clean ends number is =
       let end : IsEnd fed lines Clean = ends fed s.lines_stand in
       let all : lines_of fed ≡ s.told = clean-lines f t limit fed old mid s most end in

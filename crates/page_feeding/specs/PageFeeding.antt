@@ -116,18 +116,27 @@ pub record AtLast (f : Format) (t : Treatment) (limit : ℕ) (fed : List ℕ) (p
   pub without_fault : lines_fault (setting_of f t limit) [] 1 (map (line_read f) told) ≡ None
   pub checker_stands : checking.Stands (setting_of f t limit) p.checker (with_lines f (map (line_read f) told) [])
 
--- the lines of these bytes were all taken
-pub record IsEnded (f : Format) (t : Treatment) (limit : ℕ) (fed : List ℕ) (e : PageEnd) : Type 0 where
+-- the lines of these bytes were all taken, and the checker took them
+pub record IsEnded (f : Format) (t : Treatment) (limit : ℕ) (fed : List ℕ) (c : Checking) (e : PageEnd) : Type 0 where
   pub line : e.line ≡ 1 + length (lines_of fed)
   pub clean : e.clean ≡ ends_clean fed
   pub without_fault : lines_fault (setting_of f t limit) [] 1 (map (line_read f) (lines_of fed)) ≡ None
-  pub checker_stands : checking.Stands (setting_of f t limit) e.checker (with_lines f (map (line_read f) (lines_of fed)) [])
+  pub checker_stands : checking.Stands (setting_of f t limit) c (with_lines f (map (line_read f) (lines_of fed)) [])
 
--- what is answered to the last of the lines: all are taken, or the first fault; want of memory is free
-abbrev pub EndAnswer : Format → Treatment → ℕ → List ℕ → Result PageEnd PageFault → Type 0
-EndAnswer f t limit fed (Ok e) = IsEnded f t limit fed e
-EndAnswer f t limit fed (Err (faults.Refused line rule)) = FirstFault (setting_of f t limit) fed (line, rule)
-EndAnswer f t limit fed (Err faults.Memory) = ⊤
+-- the refusal is the first fault of these bytes; want of memory is free
+abbrev pub IsLastFault : Format → Treatment → ℕ → List ℕ → PageFault → Type 0
+IsLastFault f t limit fed (faults.Refused line rule) = FirstFault (setting_of f t limit) fed (line, rule)
+IsLastFault f t limit fed faults.Memory = ⊤
+
+-- what is answered to the last of the lines: this checker took them all, or the first fault
+abbrev pub EndAnswer : Format → Treatment → ℕ → List ℕ → Checking → Result PageEnd PageFault → Type 0
+EndAnswer f t limit fed c (Ok e) = IsEnded f t limit fed c e
+EndAnswer f t limit fed c (Err fault) = IsLastFault f t limit fed fault
+
+-- the same, where the checker is given too
+abbrev pub LastAnswer : Format → Treatment → ℕ → List ℕ → Result (Checking × PageEnd) PageFault → Type 0
+LastAnswer f t limit fed (Ok last) = IsEnded f t limit fed last.0 last.1
+LastAnswer f t limit fed (Err fault) = IsLastFault f t limit fed fault
 
 -- the page of these bytes has so many families and samples
 pub record HasCounts (st : Setting) (fed : List ℕ) (counts : PageCounts) : Type 0 where

@@ -1,6 +1,6 @@
 //! Pages that are fed in pieces (Prometheus text format 0.0.4, "Text-based format"; OpenMetrics 1.0, "Overall
 //! Structure").
-ghost use Rattle.std.specs.Prelude.{◌≡◌, ◌<◌, ◌≤◌, ◌+◌, ◌-◌, ◌^◌, ◌++◌, ◌↔◌, ℕ, List, [], ◌∷◌, length, IfOk, OnOk, IfErr, Some, None, Err, IsTrue, IsOk};
+ghost use Rattle.std.specs.Prelude.{◌≡◌, ◌<◌, ◌≤◌, ◌+◌, ◌-◌, ◌^◌, ◌++◌, ◌↔◌, ℕ, List, [], ◌∷◌, length, min, IfOk, OnOk, IfErr, Some, None, Err, false, IsTrue, IsOk};
 ghost use Rattle.page_model.specs.Written.{line_limit};
 ghost use Rattle.line_scan.specs.LineReading.{setting_of};
 ghost use Rattle.page_model.specs.declared.fault.PageFault.{PageFault as AnyFault};
@@ -34,11 +34,9 @@ pub struct PageReader<G: Grammar> {
     grammar: PhantomData<G>,
 }
 
-/// The lines of a page, all taken: the checker that took them, the line past the last, and whether the page is
-/// empty or ends with a line feed.
-#[derive(Drop)]
+/// The lines of a page, all taken: the line past the last, and whether the page is empty or ends with a line feed.
+#[derive(Clone, Copy)]
 pub struct PageEnd {
-    checker: Checker,
     line: u32,
     clean: bool,
 }
@@ -69,15 +67,17 @@ fn line_limit(treatment: Treatment) -> u32
 }
 
 impl<G: Grammar> PageReader<G> {
+    ghost use Rattle.page_lines.specs.Feeding as feeding;
     ghost use Rattle.family_rules.specs.Checking as checking;
-    ghost use Rattle.page_feeding.specs.PageFeeding.{Stands, GoesBy, HasStopped, TakesLine, TakesStep, TakesPiece, line_result, AtLast, EndAnswer, Answers, CountAnswers};
+    ghost use Rattle.page_feeding.specs.PageFeeding.{Stands, GoesBy, HasStopped, TakesLine, TakesStep, TakesPiece, line_result, AtLast, EndAnswer, LastAnswer, Answers, CountAnswers};
 
     /// A reader that was fed nothing. `limit` is the most samples that the page may have.
     pub fn new(alloc: Global, treatment: Treatment, limit: u32) -> Result<PageReader<G>, Memory>
         ensures { IfOk result (Stands G.format treatment limit []) }
     {
+        let lines = Lines::new(alloc, line_limit(treatment))?;
         let checker = Checker::new(alloc, G::format(), treatment, limit)?;
-        PageReader::over(alloc, treatment, checker)
+        Ok(PageReader::over(alloc, treatment, lines, checker))
     }
 
     /// The same, for a page that will be counted: it takes less memory, and `finish` more time.
@@ -88,24 +88,28 @@ impl<G: Grammar> PageReader<G> {
     ) -> Result<PageReader<G>, Memory>
         ensures { IfOk result (Stands G.format treatment limit []) }
     {
+        let lines = Lines::new(alloc, line_limit(treatment))?;
         let checker = Checker::counting(alloc, G::format(), treatment, limit)?;
-        PageReader::over(alloc, treatment, checker)
+        Ok(PageReader::over(alloc, treatment, lines, checker))
     }
 
-    /// A reader that was fed nothing, over a checker that has taken no line.
-    fn over(alloc: Global, treatment: Treatment, checker: Checker) -> Result<PageReader<G>, Memory>
-        requires { GoesBy G.format treatment checker }
-        ensures { (limit : ℕ) → checking.Stands (setting_of G.format treatment limit) checker [] → IfOk result (Stands G.format treatment limit []) }
+    /// A reader that was fed nothing, over lines that were fed nothing and a checker that has taken no line.
+    fn over(alloc: Global, treatment: Treatment, lines: Lines, checker: Checker) -> PageReader<G>
+        requires most { lines.most ≡ line_limit treatment }
+        requires fed { lines.fed ≡ 0 }
+        requires stands { feeding.Stands [] lines }
+        requires checker { GoesBy G.format treatment checker }
+        ensures { (limit : ℕ) → checking.Stands (setting_of G.format treatment limit) checker [] → Stands G.format treatment limit [] result }
     {
-        Ok(PageReader {
+        PageReader {
             alloc,
             treatment,
-            lines: Lines::new(alloc, line_limit(treatment))?,
+            lines,
             checker,
             labels: Vec::new(alloc),
             stopped: None,
             grammar: PhantomData,
-        })
+        }
     }
 
     /// Whether a piece may be fed: a page has fewer than 2^32 - 1 bytes.
@@ -208,37 +212,61 @@ impl<G: Grammar> PageReader<G> {
         }
     }
 
-    /// Takes the last line, which has no line feed.
-    fn read_last(self) -> Result<PageEnd, PageFault>
-        ensures { (t : AnyTreatment) (limit : ℕ) (fed : List ℕ) → AtLast G.format t limit fed self → EndAnswer G.format t limit fed result }
+    /// The end behind the line that was told of last, which has no line feed.
+    fn open_end(&self) -> PageEnd
+        ensures line { result.line ≡ min (self.now.lines.number + 1) (2 ^ 32 - 1) }
+        ensures clean { result.clean ≡ false }
     {
-        let mut page = self;
-        match page.read_line() {
-            Ok(()) => Ok(PageEnd {
-                line: page.lines.number().saturating_add(1),
-                checker: page.checker,
-                clean: false,
-            }),
-            Err(fault) => Err(fault),
+        PageEnd {
+            line: self.lines.number().saturating_add(1),
+            clean: false,
         }
     }
 
+    /// Takes the last line, which has no line feed.
+    fn read_last(&mut self) -> Result<PageEnd, PageFault>
+        ensures { (t : AnyTreatment) (limit : ℕ) (fed : List ℕ) → AtLast G.format t limit fed self.old → EndAnswer G.format t limit fed self.new.checker result }
+    {
+        match self.read_line() {
+            Ok(()) => {}
+            Err(fault) => return Err(fault),
+        }
+        Ok(self.open_end())
+    }
+
     /// Takes what is left of the lines. An earlier refusal, or want of memory, is answered again.
-    fn end(self) -> Result<PageEnd, PageFault>
-        ensures answer { (t : AnyTreatment) (limit : ℕ) (fed : List ℕ) → Stands G.format t limit fed self → EndAnswer G.format t limit fed result }
-        ensures stopped { (fault : AnyFault) → HasStopped fault self → result ≡ Err fault }
+    fn read_rest(&mut self) -> Result<PageEnd, PageFault>
+        ensures answer { (t : AnyTreatment) (limit : ℕ) (fed : List ℕ) → Stands G.format t limit fed self.old → EndAnswer G.format t limit fed self.new.checker result }
+        ensures stopped { (fault : AnyFault) → HasStopped fault self.old → result ≡ Err fault }
     {
         if let Some(fault) = self.stopped {
             return Err(fault);
         }
-        let mut page = self;
-        match page.lines.finish() {
+        match self.lines.finish() {
             Last::Clean => Ok(PageEnd {
-                line: page.lines.number(),
-                checker: page.checker,
+                line: self.lines.number(),
                 clean: true,
             }),
-            Last::Open => page.read_last(),
+            Last::Open => self.read_last(),
+        }
+    }
+
+    /// The checker of the page.
+    fn into_checker(self) -> Checker
+        ensures { result ≡ self.checker }
+    {
+        self.checker
+    }
+
+    /// Takes what is left of the lines, and gives the checker that took them all.
+    fn end(self) -> Result<(Checker, PageEnd), PageFault>
+        ensures answer { (t : AnyTreatment) (limit : ℕ) (fed : List ℕ) → Stands G.format t limit fed self → LastAnswer G.format t limit fed result }
+        ensures stopped { (fault : AnyFault) → HasStopped fault self → result ≡ Err fault }
+    {
+        let mut page = self;
+        match page.read_rest() {
+            Ok(end) => Ok((page.into_checker(), end)),
+            Err(fault) => Err(fault),
         }
     }
 
@@ -249,7 +277,7 @@ impl<G: Grammar> PageReader<G> {
         ensures stopped { (fault : AnyFault) → HasStopped fault self → result ≡ Err fault }
     {
         match self.end() {
-            Ok(end) => end.checker.close(end.line, end.clean),
+            Ok((checker, end)) => checker.close(end.line, end.clean),
             Err(fault) => Err(fault),
         }
     }
@@ -260,7 +288,7 @@ impl<G: Grammar> PageReader<G> {
         ensures stopped { (fault : AnyFault) → HasStopped fault self → result ≡ Err fault }
     {
         match self.end() {
-            Ok(end) => end.checker.count(end.line, end.clean),
+            Ok((checker, end)) => checker.count(end.line, end.clean),
             Err(fault) => Err(fault),
         }
     }

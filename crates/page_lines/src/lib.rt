@@ -31,7 +31,7 @@ pub enum Last {
 }
 
 /// Where the bytes fed so far end.
-#[derive(Clone, Copy, Debug, PartialEq, Eq)]
+#[derive(Clone, Copy)]
 enum Place {
     /// Within a line that is under way, or in front of it.
     Within,

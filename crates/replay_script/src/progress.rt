@@ -96,18 +96,18 @@ impl Progress {
     {
         let scrapes = mem::replace(&mut self.scrapes, Vec::new(alloc));
         let posts = mem::replace(&mut self.posts, Vec::new(alloc));
-        let target = match self.target.take() {
-            Some(target) => target,
-            None => return Ok(()),
-        };
-        let scrapes = List::from_vec(scrapes)?;
-        let posts = List::from_vec(posts)?;
-        self.finished.push(ScriptTarget {
-            target,
-            scrapes,
-            posts,
-        })?;
-        Ok(())
+        let (scrapes, posts) = both_lists(scrapes, posts)?;
+        match self.target.take() {
+            Some(target) => {
+                self.finished.push(ScriptTarget {
+                    target,
+                    scrapes,
+                    posts,
+                })?;
+                Ok(())
+            }
+            None => Ok(()),
+        }
     }
 
     /// Takes a target line, where it may follow.
@@ -123,11 +123,11 @@ impl Progress {
         if !is_target_line(words) {
             return Ok(false);
         }
-        let target = target(alloc, words)?;
         self.close_target(alloc)?;
         if self.finished.len() >= MOST_TARGETS {
             return Ok(false);
         }
+        let target = target(alloc, words)?;
         if is_named_in(self.finished.as_slice(), &target) {
             return Ok(false);
         }
@@ -216,8 +216,8 @@ impl Progress {
     }
 
     /// What the parts say, where a script may end behind them.
-    pub(crate) fn finish(mut self, alloc: Global) -> Result<Option<Script>, AllocError>
-        ensures { (parts : Seq spec.Part) → Knows parts self → IfOk result (Ends parts) }
+    pub(crate) fn finish(&mut self, alloc: Global) -> Result<Option<Script>, AllocError>
+        ensures { (parts : Seq spec.Part) → Knows parts self.old → IfOk result (Ends parts) }
     {
         if self.target.is_none() {
             return Ok(None);
@@ -226,12 +226,21 @@ impl Progress {
             return Ok(None);
         }
         self.close_target(alloc)?;
-        let Progress {
-            header,
-            finished,
-            ..
-        } = self;
+        let finished = mem::replace(&mut self.finished, Vec::new(alloc));
         let targets = List::from_vec(finished)?;
-        Ok(Some(Script { header, targets }))
+        Ok(Some(Script {
+            header: self.header,
+            targets,
+        }))
     }
+}
+
+/// Two vectors as lists.
+fn both_lists<T: Drop>(first: Vec<T>, second: Vec<T>) -> Result<(List<T>, List<T>), AllocError>
+    ensures first { IfOk result (λ lists. lists.0 ≡ first.items) }
+    ensures second { IfOk result (λ lists. lists.1 ≡ second.items) }
+{
+    let first = List::from_vec(first)?;
+    let second = List::from_vec(second)?;
+    Ok((first, second))
 }

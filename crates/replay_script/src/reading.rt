@@ -1,7 +1,7 @@
 //! The reader of scripts.
-ghost use Rattle.std.specs.Prelude.{◌≡◌, IfOk, IfErr};
+ghost use Rattle.std.specs.Prelude.{◌≡◌, [], IfOk, IfErr};
 ghost use Rattle.replay_script.specs.Scripts.{IsScript};
-ghost use Rattle.replay_script.specs.Progresses.{IsFaultOf};
+ghost use Rattle.replay_script.specs.Progresses.{Knows, IsFaultOf};
 
 use crate::counting::line_at;
 use crate::fault::ScriptFault;
@@ -16,6 +16,15 @@ pub fn read(alloc: Global, bytes: &[u8]) -> Result<Script, ScriptFault>
     ensures fault { IfErr result (IsFaultOf bytes.now) }
 {
     let mut progress = Progress::new(alloc);
+    read_into(alloc, &mut progress, bytes)
+}
+
+/// The same over what is kept of the parts that were read, of which there are none yet.
+fn read_into(alloc: Global, progress: &mut Progress, bytes: &[u8]) -> Result<Script, ScriptFault>
+    requires { Knows [] progress.old }
+    ensures script { IfOk result (IsScript bytes.now) }
+    ensures fault { IfErr result (IsFaultOf bytes.now) }
+{
     let mut rest = bytes;
     while !rest.is_empty() {
         let front = match front_part(rest) {

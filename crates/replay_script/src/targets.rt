@@ -1,5 +1,5 @@
 //! The target of a target line.
-ghost use Rattle.std.specs.Prelude.{◌≡◌, ◌++◌, true, codes, IfOk};
+ghost use Rattle.std.specs.Prelude.{◌≡◌, ◌++◌, true, codes, IfOk, IsUtf8};
 ghost use Rattle.std.specs.Fmt.{decimal};
 ghost use Rattle.replay_script.specs.ScriptRules as rules;
 ghost use Rattle.replay_script.specs.ScriptContents.{target_of};
@@ -57,18 +57,36 @@ fn instance_of(alloc: Global, host: &[u8], port: u16) -> Result<Vec<u8>, AllocEr
     Ok(text)
 }
 
+/// The same as a text.
+fn instance_text(alloc: Global, host: &[u8], port: u16) -> Result<Text, AllocError>
+    requires { IsUtf8 (host.now ++ (codes ":" ++ decimal port)) }
+    ensures { IfOk result (λ text. text ≡ host.now ++ (codes ":" ++ decimal port)) }
+{
+    let instance = instance_of(alloc, host, port)?;
+    let text = Text::from_utf8(alloc, instance.as_slice())?;
+    Ok(text)
+}
+
+/// The address of a target line.
+fn address(alloc: Global, words: &TargetWords<'_>) -> Result<Address, AllocError>
+    ensures { IfOk result (λ a. a ≡ (target_of (words_found_as words.now)).address) }
+{
+    let host = Bytes::from_slice(alloc, words.host)?;
+    let path = Bytes::from_slice(alloc, words.path)?;
+    Ok(Address {
+        host,
+        port: words.port,
+        path,
+    })
+}
+
 /// The target of a target line.
 pub fn target(alloc: Global, words: &TargetWords<'_>) -> Result<Target, AllocError>
     requires { rules.is_target_line (words_found_as words.now) ≡ true }
     ensures { IfOk result (λ t. t ≡ target_of (words_found_as words.now)) }
 {
     let job = Text::from_utf8(alloc, words.job)?;
-    let instance = instance_of(alloc, words.host, words.port)?;
-    let instance = Text::from_utf8(alloc, instance.as_slice())?;
-    let address = Address {
-        host: Bytes::from_slice(alloc, words.host)?,
-        port: words.port,
-        path: Bytes::from_slice(alloc, words.path)?,
-    };
+    let instance = instance_text(alloc, words.host, words.port)?;
+    let address = address(alloc, words)?;
     Ok(Target::new(job, instance, address, false))
 }

@@ -15,28 +15,26 @@ use std::sync::Wait;
 use std::thread::Threads;
 
 /// How a row ended.
-#[derive(Drop)]
+#[derive(Clone, Copy)]
 pub(crate) struct Ending {
     pub(crate) status: u8,
-    output: MemorySink,
+    /// The place, counted from 1, of the first byte in which what was printed differs from what is wanted, if in any.
+    pub(crate) difference: Option<usize>,
 }
 
-impl Ending {
-    /// The place, counted from 1, of the first byte in which what was printed differs from this, if in any.
-    pub(crate) fn first_difference(&self, wanted: &[u8]) -> Option<usize>
-        ensures { IsNone result ↔ (self.now.output.held ≡ wanted.now) }
-    {
-        let held = self.output.held();
-        if held == wanted {
-            return None;
-        }
-        let same = held
-            .iter()
-            .zip(wanted.iter())
-            .take_while(|(a, b)| a == b)
-            .count();
-        Some(same.saturating_add(1))
+/// The place, counted from 1, of the first byte in which these differ, if in any.
+fn first_difference(held: &[u8], wanted: &[u8]) -> Option<usize>
+    ensures { IsNone result ↔ (held.now ≡ wanted.now) }
+{
+    if held == wanted {
+        return None;
     }
+    let same = held
+        .iter()
+        .zip(wanted.iter())
+        .take_while(|(a, b)| a == b)
+        .count();
+    Some(same.saturating_add(1))
 }
 
 /// The path of the file that is to be run, where the words say so.
@@ -80,7 +78,7 @@ fn input(alloc: Global, row: &Row) -> Result<Bytes, Memory> {
 /// The numbers of the calls that fail.
 fn failing(alloc: Global, row: &Row) -> Result<List<u64>, Memory> {
     let mut calls = Vec::new(alloc);
-    if let Some(call) = row.asked.bad_read {
+    if let Some(call) = row.asked.setting.bad_read {
         calls.push(call)?;
     }
     List::from_vec(calls)
@@ -94,16 +92,47 @@ fn world(alloc: Global, files: List<MemoryFile>, failing: List<u64>) -> MemoryWo
     MemoryWorld::new(alloc, files, Vec::new(alloc), Vec::new(alloc), failing)
 }
 
+/// The world of a row.
+fn world_of(alloc: Global, row: &Row) -> Result<MemoryWorld, Memory>
+    ensures { IfOk result (λ w. IsUnasked (outside_of seen_of w.world (files_of w) (home_of w) (given_in w))) }
+{
+    let files = files(alloc, row)?;
+    let failing = failing(alloc, row)?;
+    Ok(world(alloc, files, failing))
+}
+
+/// The input of a row.
+fn source(alloc: Global, row: &Row) -> Result<MemorySource, Memory> {
+    let bytes = input(alloc, row)?;
+    let failing = failing(alloc, row)?;
+    Ok(MemorySource::new(bytes, failing))
+}
+
+/// Runs the bridge over the memory of a row, in its world.
+fn run_in<R: Threads + Wait + Sync>(
+    rt: &R,
+    alloc: Global,
+    row: &Row,
+    world: &mut MemoryWorld,
+) -> Result<Ending, Memory>
+    requires { IsUnasked (outside_of seen_of world.old.world (files_of world.old) (home_of world.old) (given_in world.old)) }
+{
+    let mut input = source(alloc, row)?;
+    let mut output = MemorySink::new(alloc, row.asked.setting.room, List::new(alloc))?;
+    let words = row.asked.words.as_slice();
+    let status = bridge(rt, alloc, words, world, &mut input, &mut output);
+    Ok(Ending {
+        status,
+        difference: first_difference(output.held(), row.printed.as_slice()),
+    })
+}
+
 /// Runs the bridge over the memory of a row.
 pub(crate) fn run_row<R: Threads + Wait + Sync>(
     rt: &R,
     alloc: Global,
     row: &Row,
 ) -> Result<Ending, Memory> {
-    let mut world = world(alloc, files(alloc, row)?, failing(alloc, row)?);
-    let mut input = MemorySource::new(input(alloc, row)?, failing(alloc, row)?);
-    let mut output = MemorySink::new(alloc, row.asked.room, List::new(alloc))?;
-    let words = row.asked.words.as_slice();
-    let status = bridge(rt, alloc, words, &mut world, &mut input, &mut output);
-    Ok(Ending { status, output })
+    let mut world = world_of(alloc, row)?;
+    run_in(rt, alloc, row, &mut world)
 }

@@ -12,15 +12,28 @@ mod names;
 mod row;
 mod words;
 
-use crate::ending::run_row;
+use crate::ending::{Ending, run_row};
 use crate::names::row_names;
 use crate::row::row_of;
 use anyhow::Result;
+use std::alloc::{AllocError, Global};
 use std::io;
 use std::process::ExitCode;
 use std::rt::Files;
 use std::sync::Wait;
 use std::thread::Threads;
+
+/// What is wrong with an end of a row, if anything.
+fn fault_of(alloc: Global, ending: Ending, wanted: u8) -> Result<Option<String>, AllocError> {
+    let status = ending.status;
+    match ending.difference {
+        None if status == wanted => Ok(None),
+        None => Ok(Some(format!(in alloc; "status {status}, where {wanted} is wanted")?)),
+        Some(place) => Ok(Some(format!(in alloc;
+            "status {status}, where {wanted} is wanted, and the output differs at byte {place}"
+        )?)),
+    }
+}
 
 /// What is wrong with how the row of a name ends, if anything.
 fn fault<R: Files + AllocGlobal + Threads + Wait + Sync>(
@@ -29,15 +42,7 @@ fn fault<R: Files + AllocGlobal + Threads + Wait + Sync>(
 ) -> Result<Option<String>> {
     let row = row_of(rt, name)?;
     let ending = run_row(rt, rt.alloc(), &row)?;
-    let (status, wanted) = (ending.status, row.asked.status);
-    let fault = match ending.first_difference(row.printed.as_slice()) {
-        None if status == wanted => return Ok(None),
-        None => format!(in rt.alloc(); "status {status}, where {wanted} is wanted")?,
-        Some(place) => format!(in rt.alloc();
-            "status {status}, where {wanted} is wanted, and the output differs at byte {place}"
-        )?,
-    };
-    Ok(Some(fault))
+    Ok(fault_of(rt.alloc(), ending, row.asked.setting.status)?)
 }
 
 /// Whether the row of a name ends as it is to end. Where it does not, or is no row, this is printed.
@@ -53,17 +58,27 @@ fn is_as_wanted<R: Files + Print + AllocGlobal + Threads + Wait + Sync>(
     Ok(false)
 }
 
+/// Whether all rows end as they are to end.
+fn are_as_wanted<R: Files + Print + AllocGlobal + Threads + Wait + Sync>(
+    rt: &R,
+    names: &[String],
+) -> io::Result<bool> {
+    let mut all = true;
+    for name in names {
+        all &= is_as_wanted(rt, name.as_str())?;
+    }
+    Ok(all)
+}
+
 fn main(rt: HostRuntime) -> io::Result<ExitCode> {
     let names = row_names(&rt, ".")?;
     if names.is_empty() {
         println!(rt; "there is no row")?;
         return Ok(ExitCode::FAILURE);
     }
-    let mut end = ExitCode::SUCCESS;
-    for name in &names {
-        if !is_as_wanted(&rt, name.as_str())? {
-            end = ExitCode::FAILURE;
-        }
+    if are_as_wanted(&rt, names.as_slice())? {
+        Ok(ExitCode::SUCCESS)
+    } else {
+        Ok(ExitCode::FAILURE)
     }
-    Ok(end)
 }

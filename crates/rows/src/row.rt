@@ -21,17 +21,23 @@ fn bytes_of<R: Files + AllocGlobal>(rt: &R, name: &str, end: &str) -> Result<Vec
     fs::read(rt, path.as_str()).context(format_args!("there is no file {end} to be read"))
 }
 
-/// The row of a name.
-pub(crate) fn row_of<R: Files + AllocGlobal>(rt: &R, name: &str) -> Result<Row> {
+/// What the words of a row ask for.
+fn asked_of<R: Files + AllocGlobal>(rt: &R, name: &str) -> Result<Asked> {
     let words = bytes_of(rt, name, ".words")?;
-    let input = bytes_of(rt, name, ".in")?;
-    let printed = bytes_of(rt, name, ".out")?;
     match asked_by(rt.alloc(), words.as_slice())? {
-        Some(asked) => Ok(Row {
-            asked,
-            input,
-            printed,
-        }),
+        Some(asked) => Ok(asked),
         None => bail!("its words are out of form"),
     }
+}
+
+/// The row of a name.
+pub(crate) fn row_of<R: Files + AllocGlobal>(rt: &R, name: &str) -> Result<Row> {
+    let asked = asked_of(rt, name)?;
+    let input = bytes_of(rt, name, ".in")?;
+    let printed = bytes_of(rt, name, ".out")?;
+    Ok(Row {
+        asked,
+        input,
+        printed,
+    })
 }

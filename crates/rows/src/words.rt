@@ -4,20 +4,26 @@ use std::alloc::{AllocError, Global};
 /// The room of an output of which nothing else is said.
 const AMPLE: u64 = 1_048_576;
 
-/// What is asked by the words of a row.
-#[derive(Drop)]
-pub(crate) struct Asked {
+/// What the first line of the words says.
+#[derive(Clone, Copy)]
+pub(crate) struct Setting {
     /// The status that is wanted.
     pub(crate) status: u8,
     /// The read that fails, counted from 1.
     pub(crate) bad_read: Option<u64>,
     /// How many bytes the output takes.
     pub(crate) room: u64,
+}
+
+/// What is asked by the words of a row.
+#[derive(Drop)]
+pub(crate) struct Asked {
+    pub(crate) setting: Setting,
     /// The words of the command line.
     pub(crate) words: Vec<String>,
 }
 
-impl Asked {
+impl Setting {
     /// Sets what a name stands for, if for anything.
     fn set(&mut self, name: &str, number: u64) -> Option<()> {
         match name {
@@ -29,21 +35,14 @@ impl Asked {
     }
 }
 
-/// What a first line asks, without any words.
-fn first_line(alloc: Global, line: &str) -> Option<Asked> {
-    let mut parts = line.split(' ');
-    let mut asked = Asked {
-        status: parts.next()?.parse::<u8>().ok()?,
-        bad_read: None,
-        room: AMPLE,
-        words: Vec::new(alloc),
-    };
+/// Sets what pairs of a name and a number stand for, if each stands for something.
+fn set_pairs(setting: &mut Setting, pairs: &str) -> Option<()> {
     let mut name = None;
-    for part in parts {
+    for part in pairs.split(' ') {
         match name {
             None => name = Some(part),
             Some(before) => {
-                asked.set(before, part.parse::<u64>().ok()?)?;
+                setting.set(before, part.parse::<u64>().ok()?)?;
                 name = None;
             }
         }
@@ -51,7 +50,24 @@ fn first_line(alloc: Global, line: &str) -> Option<Asked> {
     if name.is_some() {
         return None;
     }
-    Some(asked)
+    Some(())
+}
+
+/// What a first line says.
+fn first_line(line: &str) -> Option<Setting> {
+    let (status, pairs) = match line.split_once(' ') {
+        Some((status, pairs)) => (status, Some(pairs)),
+        None => (line, None),
+    };
+    let mut setting = Setting {
+        status: status.parse::<u8>().ok()?,
+        bad_read: None,
+        room: AMPLE,
+    };
+    if let Some(pairs) = pairs {
+        set_pairs(&mut setting, pairs)?;
+    }
+    Some(setting)
 }
 
 /// What is asked by the bytes of a file: lines, of which each has its end.
@@ -63,12 +79,12 @@ pub(crate) fn asked_by(alloc: Global, bytes: &[u8]) -> Result<Option<Asked>, All
         return Ok(None);
     };
     let mut lines = text.split('\n');
-    let first = lines.next().and_then(|line| first_line(alloc, line));
-    let Some(mut asked) = first else {
+    let Some(setting) = lines.next().and_then(|line| first_line(line)) else {
         return Ok(None);
     };
+    let mut words = Vec::new(alloc);
     for word in lines {
-        asked.words.push(String::from_str(alloc, word)?)?;
+        words.push(String::from_str(alloc, word)?)?;
     }
-    Ok(Some(asked))
+    Ok(Some(Asked { setting, words }))
 }

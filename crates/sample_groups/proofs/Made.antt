@@ -1,5 +1,5 @@
 -- The readings of a family, looking back over its samples, are those of its groups as they are kept.
-use Rattle.std.proofs.Common.{◌≡◌, ℕ, Bool, true, false, not, ◌||◌, ◌==◌, List, [], ◌∷◌, map, filter, filter_map, find, reverse, length, codes, Option, Some, None, is_some, option_map, option_and_then, refl, sym, ap, ◌∙◌, suc, arith}
+use Rattle.std.proofs.Common.{◌≡◌, ℕ, Bool, true, false, not, ◌||◌, ◌==◌, List, [], ◌∷◌, map, filter, filter_map, find, reverse, length, codes, Option, Some, None, is_some, cond, option_map, option_and_then, refl, sym, ap, ◌∙◌, suc, arith}
 use Rattle.std.proofs.lemmas.Bool.Decides.{nat_tests}
 use Rattle.std.specs.List.{list_any, cons_option}
 use Rattle.std.specs.Option.{option_or}
@@ -14,13 +14,16 @@ use Rattle.exact_decimal.specs.Order.{whole}
 use Rattle.page_model.specs.declared.format.Format.{Format}
 use Rattle.page_model.specs.declared.format.Format.TheVariants.{Text, OpenMetrics}
 use Rattle.page_model.specs.declared.item.Sample.{Sample}
+use Rattle.page_model.specs.declared.page.Reading.{Reading}
+use Rattle.page_model.specs.declared.page.Value.{Value}
+use Rattle.page_model.specs.declared.page.Value.TheVariants as values
 use Rattle.page_model.specs.Written.{Setting}
 use Rattle.page_model.specs.Rules.{has_suffix, is_bucket, sample_group}
-use Rattle.page_model.specs.Readings.{value_with, either_value, bucket_of, buckets_of, quantile_of, quantiles_of, sum_of, is_measured, counter_suffix, value_of, stamp_of, exemplars_of, reading_of, readings_of}
+use Rattle.page_model.specs.Readings.{value_with, either_value, bucket_of, buckets_of, quantile_of, quantiles_of, sum_of, is_measured, counter_suffix, value_of, stamp_of, exemplars_of, key_name, reading_of, readings_of}
 use Rattle.page_model.proofs.Laws.{Member}
 use Rattle.sample_groups.specs.declared.part.Part.{Part}
 use Rattle.sample_groups.specs.Parts.{is_grouped, part_of, entry_of}
-use Rattle.sample_groups.specs.Groups.{Gathered, bucket_in, quantile_in, sum_in, count_in, total_in, created_in, group_from, parts_in, groups_from, is_measured_group, reading_from}
+use Rattle.sample_groups.specs.Groups.{Gathered, bucket_in, quantile_in, sum_in, count_in, total_in, created_in, group_from, parts_in, groups_from, is_measured_group, group_value, reading_from}
 use Rattle.sample_groups.specs.Sound.{AreSound}
 use Rattle.sample_groups.proofs.KindCases.{of_grouped}
 use Rattle.sample_groups.proofs.Members.{when, filter_map-map, filter_map-filter, filter_map-agree, filter_map-when, first_some-map, first_some-when, list_any-agree, find-none, find-member, member-filter, member-reverse}
@@ -145,24 +148,41 @@ module _ (st : Setting) (family : List ℕ) (samples : List Sample) (labels : La
   kept_buckets kind = own_buckets family (own kind) ∙ in_kept kind (filter_map bucket_in)
 
   module _ (unit : List ℕ) where
+    -- the reading of a value and a created time
+    abbrev reading_with : Kind → Option Value → Option Number → Option Reading
+    reading_with kind value created = option_map (λ v. record {
+      key = record { name = key_name st.format kind family; kind = kind; unit = unit; labels = labels };
+      value = v;
+      created = created;
+      stamp = None;
+      exemplars = [];
+    }) value
+
     counter_reading : (fair : (s : Sample) → Member s samples → IsFair st Counter family s) → is_grouped st.format Counter ≡ true
         → reading_of st Counter family unit samples labels ≡ reading_from st.format Counter family unit (labels, kept Counter)
     unfolding reading_of stamp_of exemplars_of value_of group_from
     counter_reading fair grouped =
         let total = own_value family (own Counter) total_in (codes "_total") (λ s m. counter_total st family s grouped (own_fair Counter fair s m)) ∙ in_kept Counter (first_some total_in) in
-        rw (total_suffix st.format grouped, total, own_created Counter fair grouped) refl
+        let value : value_of st.format Counter family (own Counter) ≡ group_value Counter (kept Counter)
+        = ap (λ suffix. option_map values.Plain (value_with family suffix (own Counter))) (total_suffix st.format grouped) ∙ ap (option_map values.Plain) total in
+        let created = own_created Counter fair grouped in
+        λ i. reading_with Counter (value i) (created i)
 
     histogram_reading : (fair : (s : Sample) → Member s samples → IsFair st Histogram family s) → reading_of st Histogram family unit samples labels ≡ reading_from st.format Histogram family unit (labels, kept Histogram)
     unfolding reading_of stamp_of exemplars_of value_of group_from
     histogram_reading fair =
-        let sum = own_sum family (own Histogram) (λ s m. histogram_sum st family s (own_fair Histogram fair s m)) (λ s m. histogram_gsum st family s (own_fair Histogram fair s m)) in
-        rw (kept_buckets Histogram, sum ∙ in_kept Histogram (first_some sum_in), own_created Histogram fair refl) refl
+        let sum = own_sum family (own Histogram) (λ s m. histogram_sum st family s (own_fair Histogram fair s m)) (λ s m. histogram_gsum st family s (own_fair Histogram fair s m)) ∙ in_kept Histogram (first_some sum_in) in
+        let buckets = kept_buckets Histogram in
+        let created = own_created Histogram fair refl in
+        λ i. reading_with Histogram (Some (values.Buckets (buckets i) (sum i))) (created i)
 
     gauge_reading : (fair : (s : Sample) → Member s samples → IsFair st GaugeHistogram family s) → reading_of st GaugeHistogram family unit samples labels ≡ reading_from st.format GaugeHistogram family unit (labels, kept GaugeHistogram)
     unfolding reading_of stamp_of exemplars_of value_of group_from
     gauge_reading fair =
-        let sum = own_gsum family (own GaugeHistogram) (λ s m. gauge_sum st family s (own_fair GaugeHistogram fair s m)) (λ s m. gauge_no_sum st family s (own_fair GaugeHistogram fair s m)) in
-        rw (kept_buckets GaugeHistogram, sum ∙ in_kept GaugeHistogram (first_some sum_in), own_created GaugeHistogram fair refl) refl
+        let sum = own_gsum family (own GaugeHistogram) (λ s m. gauge_sum st family s (own_fair GaugeHistogram fair s m)) (λ s m. gauge_no_sum st family s (own_fair GaugeHistogram fair s m)) ∙ in_kept GaugeHistogram (first_some sum_in) in
+        let buckets = kept_buckets GaugeHistogram in
+        let created = own_created GaugeHistogram fair refl in
+        λ i. reading_with GaugeHistogram (Some (values.Buckets (buckets i) (sum i))) (created i)
 
     summary_reading : (fair : (s : Sample) → Member s samples → IsFair st Summary family s) → reading_of st Summary family unit samples labels ≡ reading_from st.format Summary family unit (labels, kept Summary)
     unfolding reading_of stamp_of exemplars_of value_of group_from parts_in
@@ -175,7 +195,8 @@ module _ (st : Setting) (family : List ℕ) (samples : List Sample) (labels : La
         let measured : list_any (is_measured family) (own Summary) ≡ is_measured_group (kept Summary) =
         sym (measured_group parts_of ∙ sym (in_kept Summary (list_any is_measured_part)) ∙ any-map is_measured_part (part_of family) (own Summary)
         ∙ list_any-agree (λ s. is_measured_part (part_of family s)) (is_measured family) (own Summary) (λ s m. summary_measured st family s (own_fair Summary fair s m))) in
-        rw (quantiles, count, sum, measured, own_created Summary fair refl) refl
+        let created = own_created Summary fair refl in
+        λ i. reading_with Summary (cond (measured i) (Some (values.Quantiles (quantiles i) (count i) (sum i))) None) (created i)
 
 -- ---- the readings of a family
 

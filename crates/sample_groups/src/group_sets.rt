@@ -11,6 +11,7 @@ use label_sets::{Kind, LabelSet, Memory};
 use packed_keys::{PackedSets, SeenKeys, SeenSets};
 use std::alloc::Global;
 use std::marker::Model;
+use std::mem;
 
 /// How the labels lie.
 #[derive(Drop)]
@@ -147,8 +148,15 @@ impl GroupSets {
             return insert_shared(alloc, sets, kind, labels);
         }
         let mut sets = self.seen(alloc)?;
-        let place = insert_shared(alloc, &mut sets, kind, labels)?;
-        self.held = Held::Seen(sets);
-        Ok(place)
+        match insert_shared(alloc, &mut sets, kind, labels) {
+            Ok(place) => {
+                drop(mem::replace(&mut self.held, Held::Seen(sets)));
+                Ok(place)
+            }
+            Err(fault) => {
+                drop(sets);
+                Err(fault)
+            }
+        }
     }
 }

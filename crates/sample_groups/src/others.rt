@@ -92,7 +92,7 @@ fn put(groups: &mut Vec<Group>, group: Group)
     requires { vec_len groups.old < vec_capacity groups.old }
     ensures { groups.new.items ≡ groups.old.items ++ group ∷ [] }
 {
-    groups.push(group).unwrap();
+    groups.push_reserved(group);
 }
 
 /// Puts a group without parts behind the others, where the place is there.
@@ -255,7 +255,14 @@ impl Others {
     ) -> Result<(), Memory>
         ensures { OnOk result (readings.new.items ≡ readings.old.items ++ filter_map (reading_named kind name.now unit.now) self) }
     {
-        let Others { sets, groups, .. } = self;
-        put_all(alloc, kind, name, unit, &sets, groups, readings)
+        let Others {
+            sets,
+            groups,
+            nearest,
+        } = self;
+        drop(nearest);
+        let put = put_all(alloc, kind, name, unit, &sets, groups, readings);
+        drop(sets);
+        put
     }
 }

@@ -17,7 +17,7 @@ use label_sets::{Kind, Name};
 use page_model::{Bucket, Format, Quantile, Rule, Sample, Suffix, sample_suffix};
 
 /// What a sample is to its group.
-#[derive(Clone, Copy, Debug, PartialEq, Eq)]
+#[derive(Clone, Copy)]
 pub enum Part {
     Bucket(Bucket),
     Quantile(Quantile),

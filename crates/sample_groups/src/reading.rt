@@ -53,6 +53,7 @@ pub(crate) fn put_reading(
     let created = group.created_time();
     let value = group.into_value(alloc, kind)?;
     let Some(value) = value else {
+        drop(labels);
         return Ok(());
     };
     let name = name.copy()?;

@@ -57,9 +57,16 @@ fn add_other(
         }
         None => {
             let mut first = Others::new(alloc, false);
-            let added = first.add(alloc, kind, labels, part)?;
-            *others = Some(Box::new(alloc, first)?);
-            Ok(added)
+            match first.add(alloc, kind, labels, part) {
+                Ok(added) => {
+                    *others = Some(Box::new(alloc, first)?);
+                    Ok(added)
+                }
+                Err(fault) => {
+                    drop(first);
+                    Err(fault)
+                }
+            }
         }
     }
 }
@@ -80,9 +87,16 @@ fn begin_other(
         Some(others) => others.begin(alloc, labels, part, seen),
         None => {
             let mut first = Others::new(alloc, seen.is_none());
-            first.begin(alloc, labels, part, seen)?;
-            *others = Some(Box::new(alloc, first)?);
-            Ok(())
+            match first.begin(alloc, labels, part, seen) {
+                Ok(()) => {
+                    *others = Some(Box::new(alloc, first)?);
+                    Ok(())
+                }
+                Err(fault) => {
+                    drop(first);
+                    Err(fault)
+                }
+            }
         }
     }
 }
@@ -216,8 +230,27 @@ impl Table {
             Some(others) => others.len().saturating_add(1),
             None => 1,
         };
-        let mut readings = Vec::with_capacity(alloc, room)?;
-        put_reading(alloc, kind, name, unit, first_labels, first, &mut readings)?;
+        let mut readings = match Vec::with_capacity(alloc, room) {
+            Ok(readings) => readings,
+            Err(fault) => {
+                drop(first_labels);
+                drop(first);
+                drop(others);
+                return Err(fault);
+            }
+        };
+        if let Err(fault) = put_reading(
+            alloc,
+            kind,
+            name,
+            unit,
+            first_labels,
+            first,
+            &mut readings,
+        ) {
+            drop(others);
+            return Err(fault);
+        }
         if let Some(others) = others {
             Box::into_inner(others).put_readings(alloc, kind, name, unit, &mut readings)?;
         }

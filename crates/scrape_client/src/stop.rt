@@ -7,7 +7,7 @@ use http_talk::ReplyFault;
 use page_model::Cause;
 
 /// Why a talk gives no body.
-#[derive(Clone, Copy, Debug, PartialEq, Eq)]
+#[derive(Clone, Copy)]
 pub(crate) enum NoBody {
     /// The talk failed.
     Failed(Cause),

@@ -5,10 +5,12 @@ ghost use Rattle.target_table.specs.declared.table.TableFault.TheVariants as tab
 ghost use Rattle.target_table.specs.Runs.{IsRightRun};
 ghost use Rattle.target_table.specs.Tables.{next_place, AreTracks, AreUnvisited, IsRunOver};
 ghost use Rattle.scraper_pool.specs.declared.run.RunFault.TheVariants as faults;
+ghost use Rattle.scraper_pool.specs.declared.turn.Turn.TheVariants as turns;
 ghost use Rattle.scraper_pool.specs.Serving.{IsUnopened, ServesAt};
 ghost use Rattle.scraper_pool.specs.Turns.{IsFreeLane, run_of};
 
 use crate::pool::Pool;
+use crate::turn::Turn;
 use bridge_ports::{Conn, Door, MemoryConn, MemoryDoor, Wire};
 use std::alloc::Global;
 use std::marker::Brand;
@@ -33,6 +35,26 @@ pub enum RunFault<W: Wire, E> {
     Memory(Vec<Track<W>>, Option<E>),
 }
 
+// Makes the visit whose turn it is, where one is left.
+fn visit_one<N: RunName, A: Lane, B: Lane, C: Lane, D: Lane, W: Wire, S: Seat<A, B, C, D>>(
+    alloc: Global,
+    table: &mut Table<N, A, B, C, D, W>,
+    seat: &mut S,
+) -> Turn
+    requires lane { S.right }
+    requires free { S.out seat.old ≡ 0 }
+    ensures free { S.out seat.new ≡ 0 }
+    ensures none { result ≡ turns.Nothing → next_place N.run.rounds table.new.slots ≡ None }
+{
+    let Some(lease) = table.take(seat) else {
+        return Turn::Nothing;
+    };
+    let mut lease = lease;
+    let _visited = lease.track.visit(alloc);
+    table.put(seat, lease);
+    Turn::Visited
+}
+
 // Makes the visits that are left.
 fn visit_rest<
     N: RunName,
@@ -50,12 +72,10 @@ fn visit_rest<
     ensures none { next_place N.run.rounds table.new.slots ≡ None }
 {
     for _ in rt.forever() {
-        let Some(lease) = table.take(seat) else {
-            return;
-        };
-        let mut lease = lease;
-        let _visited = lease.track.visit(alloc);
-        table.put(seat, lease);
+        match visit_one(alloc, table, seat) {
+            Turn::Visited => {}
+            Turn::Nothing => return,
+        }
     }
     unreachable!()
 }

@@ -13,7 +13,7 @@ use Rattle.series_table.specs.declared.aim.Aim.{Aim}
 use Rattle.series_table.specs.declared.making.Taken.{Taken}
 use Rattle.series_table.specs.declared.making.Prepared.{Prepared}
 use Rattle.series_table.specs.Counting.{has_failed}
-use Rattle.series_table.specs.Making.{TookEvent, IsPrepared, ShowsTwice, point_counts, whole_request}
+use Rattle.series_table.specs.Making.{TookEvent, IsOfTaken, IsPrepared, point_counts, whole_request}
 use Rattle.series_table.proofs.Shows.{page_within, keys_differ}
 
 one_talk : (limit most : ℕ) (to : Address) (e : Event) (a b : Option ToldTalks) → Tells (GrewByEvent limit most to e) a b → Tells GrewByOne a b
@@ -39,22 +39,21 @@ takes aim old new before after event taken distinct nothing scrape steps failed 
     }
 
 -- all was made
-pub prepares : (aim : Aim) (old new post_old post_new : WireState) (before after : Following) (event : Event) (taken : Taken) (p : Prepared) → TookEvent aim old new before after taken event
-    → p.failed ≡ taken.failed → p.points ≡ point_counts taken.tree → whole_request p.text ≡ post_request aim.to (request_text taken.tree) → p.text.body.items ≡ request_text taken.tree → ShowsTwice after (p.shown, p.second)
+pub prepares : (aim : Aim) (old new post_old post_new : WireState) (before after : Following) (event : Event) (taken : Taken) (p : Prepared) → TookEvent aim old new before after taken event → IsOfTaken aim.to taken after p
     → post_new ≡ made_ready aim.settings.tries (length (whole_request p.text)) post_old → IsPrepared aim old new post_old post_new before after p event
-prepares aim old new post_old post_new before after event taken p h failed points text body shows room = record {
+prepares aim old new post_old post_new before after event taken p h of room = record {
   scrape = h.scrape;
   page = h.page;
-  failed = failed ∙ h.failed;
-  second = shows.0;
+  failed = of.failed ∙ h.failed;
+  second = of.shows.0;
   room = room;
   made = λ t earlier stands. (
       let s = h.steps t earlier stands in record {
         stands = s.1;
-        text = text ∙ ap (λ tree. post_request aim.to (request_text tree)) s.0;
-        body = body ∙ ap request_text s.0;
-        shown = shows.1 aim.target t (event ∷ earlier) s.1;
-        points = points ∙ ap point_counts s.0;
+        text = of.text ∙ ap (λ tree. post_request aim.to (request_text tree)) s.0;
+        body = of.body ∙ ap request_text s.0;
+        shown = of.shows.1 aim.target t (event ∷ earlier) s.1;
+        points = of.points ∙ ap point_counts s.0;
       }
       );
 }

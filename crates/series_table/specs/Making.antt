@@ -11,6 +11,7 @@ use Rattle.otlp_tree.specs.declared.tree.Request.{Request}
 use Rattle.otlp_json.specs.Texts.{request_text}
 use Rattle.http_talk.specs.Requests.{post_request}
 use Rattle.bridge_ports.specs.Targets.{Scraped}
+use Rattle.bridge_ports.specs.declared.talk.Address.{Address}
 use Rattle.bridge_ports.specs.Talks.{WireState, made_ready}
 use Rattle.scrape_client.specs.Scraping.{IsScrape, IsCutShort}
 use Rattle.series_table.specs.declared.aim.Aim.{Aim}
@@ -50,6 +51,14 @@ TakesEvent aim old new before after (Err e) = IsCutShort old new
 -- two pages are what a state shows
 abbrev pub ShowsTwice : Following → Shown × Shown → Type 0
 ShowsTwice s pages = (pages.1 ≡ pages.0) × ((target : Scraped) (t : Tracking) (events : List Event) → StandsFor target t s events → pages.0 ≡ latest_shown target events)
+
+-- what was made of an event that a state took
+pub record IsOfTaken (to : Address) (taken : Taken) (after : Following) (p : Prepared) : Type 0 where
+  pub failed : p.failed ≡ taken.failed
+  pub points : p.points ≡ point_counts taken.tree
+  pub text : whole_request p.text ≡ post_request to (request_text taken.tree)
+  pub body : p.text.body.items ≡ request_text taken.tree
+  pub shows : ShowsTwice after (p.shown, p.second)
 
 -- what was made of an event behind these earlier ones
 pub record IsMade (aim : Aim) (t : Tracking) (earlier : List Event) (event : Event) (after : Following) (p : Prepared) : Type 0 where

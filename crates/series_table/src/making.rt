@@ -6,7 +6,7 @@ ghost use Rattle.otlp_json.specs.Texts.{request_text};
 ghost use Rattle.http_talk.specs.Requests.{post_request};
 ghost use Rattle.series_table.specs.Talking.{AreInRange};
 ghost use Rattle.series_table.specs.Counting as counting;
-ghost use Rattle.series_table.specs.Making.{due_after, whole_request, TakesEvent, ShowsTwice, Prepares};
+ghost use Rattle.series_table.specs.Making.{due_after, whole_request, TakesEvent, ShowsTwice, IsOfTaken, Prepares};
 
 use crate::aim::Aim;
 use crate::point_counts::{PointCounts, of_tree};
@@ -123,6 +123,28 @@ fn shown_twice(state: &TargetState) -> Result<(Shown, Shown), Memory>
     Ok((shown, second))
 }
 
+/// All that the posts of a visit whose event was taken, and its end, need. The text before was so long.
+fn all_made(
+    alloc: Global,
+    to: &Address,
+    taken: Taken,
+    state: &TargetState,
+    last_len: usize,
+) -> Result<Prepared, Memory>
+    ensures { IfOk result (IsOfTaken to.now taken state.now) }
+{
+    let text = body_request(alloc, to, &taken.tree, last_len)?;
+    let (shown, second) = shown_twice(state)?;
+    Ok(Prepared {
+        reading: taken.reading,
+        failed: taken.failed,
+        points: of_tree(&taken.tree),
+        text,
+        shown,
+        second,
+    })
+}
+
 /// Does all of a visit that can want memory: the scrape, the step, the texts, what is shown then, and the
 /// room of the posts.
 pub(crate) fn prepare<W: Wire>(
@@ -143,21 +165,11 @@ pub(crate) fn prepare<W: Wire>(
     let Ok(taken) = take_event(alloc, aim, wire, state, due) else {
         return Err(AllocError);
     };
-    let Ok(text) = body_request(alloc, &aim.to, &taken.tree, last_len) else {
+    let Ok(made) = all_made(alloc, &aim.to, taken, state, last_len) else {
         return Err(AllocError);
     };
-    let Ok((shown, second)) = shown_twice(state) else {
-        return Err(AllocError);
-    };
-    match post.ready(alloc, aim.settings.tries, text.len()) {
-        Ok(()) => Ok(Prepared {
-            reading: taken.reading,
-            failed: taken.failed,
-            points: of_tree(&taken.tree),
-            text,
-            shown,
-            second,
-        }),
+    match post.ready(alloc, aim.settings.tries, made.text.len()) {
+        Ok(()) => Ok(made),
         Err(AllocError) => Err(AllocError),
     }
 }

@@ -57,28 +57,15 @@ impl<W: Wire> Model for Track<W> {
         IsTrack talking (kept_by t.aim (W.state t.scrape) (W.state t.post) t.state t.shown t.second t.counts t.halted) };
 }
 
-/// What a track begins with: the target, its state, and what it shows.
-#[derive(Drop)]
-struct Beginning {
-    target: Target,
-    state: TargetState,
-    shown: Shown,
-}
-
-/// The beginning of a target's track.
-fn begin(alloc: Global, target: Target, keep: u32) -> Result<Beginning, Memory>
+/// What a target's track begins with: its state, and what it shows.
+fn begin(alloc: Global, target: &Target, keep: u32) -> Result<(TargetState, Shown), Memory>
     requires { keep ≤ 4 }
-    ensures target { IfOk result (λ b. b.target ≡ target) }
-    ensures state { IfOk result (λ b. StandsFor target (record { keep = keep }) b.state []) }
-    ensures shown { IfOk result (λ b. b.shown ≡ latest_shown target []) }
+    ensures state { IfOk result (λ b. StandsFor target.now (record { keep = keep }) b.0 []) }
+    ensures shown { IfOk result (λ b. b.1 ≡ latest_shown target.now []) }
 {
     let state = TargetState::new(alloc, target.copy()?, keep)?;
     let shown = state.latest()?;
-    Ok(Beginning {
-        target,
-        state,
-        shown,
-    })
+    Ok((state, shown))
 }
 
 impl<W: Wire> Track<W> {
@@ -98,14 +85,8 @@ impl<W: Wire> Track<W> {
         ensures back { IfErr result (λ fault. fault ≡ faults.Memory scrape post) }
     {
         page_laws::right_pages();
-        match begin(alloc, target, settings.keep) {
-            Ok(
-                Beginning {
-                    target,
-                    state,
-                    shown,
-                },
-            ) => Ok(Track {
+        match begin(alloc, &target, settings.keep) {
+            Ok((state, shown)) => Ok(Track {
                 aim: Aim {
                     target,
                     to,

@@ -338,17 +338,16 @@ row_marked keep keys rows found now at start before next mark in_keys in_rows e 
 -- ---- a whole page
 
 -- what the steps give together
-pub page_advanced : (t : Tracking) (past : List Scrape) (keep : ℕ) (keys : List SeriesKey) (rows : List Row) (k : Tracked) (page : Page) (moment n : ℕ) (places : List SeriesKey) (families : List Family) (first seen : Sighting) (found : List Bool)
-    (entries : List (SeriesKey × Row)) (after : Tracked) (starts : List (Option ℕ)) → record { keep = keep; rows = zip keys rows } ≡ k → length keys ≡ length rows → places ≡ keys → families ≡ page.families → n ≡ length rows
-    → first.starts.items ≡ [] → first.entries ≡ [] → first.found.items ≡ replicate n false → Sees (zip places rows) moment (flat_map (λ (f : Family). f.readings) families) first seen → found ≡ seen.found.items
+pub page_advanced : (t : Tracking) (past : List Scrape) (keep : ℕ) (keys : List SeriesKey) (rows : List Row) (k : Tracked) (page : Page) (moment n : ℕ) (families : List Family) (first seen : Sighting) (found : List Bool)
+    (entries : List (SeriesKey × Row)) (after : Tracked) (starts : List (Option ℕ)) → record { keep = keep; rows = zip keys rows } ≡ k → length keys ≡ length rows → families ≡ page.families → n ≡ length rows
+    → first.starts.items ≡ [] → first.entries ≡ [] → first.found.items ≡ replicate n false → Sees (zip keys rows) moment (flat_map (λ (f : Family). f.readings) families) first seen → found ≡ seen.found.items
     → ((present : SeriesKey → Bool) → found ≡ map present keys → entries ≡ seen.entries ++ filter_map (missed_entry keep present) (zip keys rows)) → after.keep ≡ keep → after.rows ≡ entries → starts ≡ seen.starts.items
     → Tracks t k past → HasDistinctKeys page → (starts ≡ map (reading_start t past moment) (all_readings page)) × Tracks t after (scrape_of page moment ∷ past)
-page_advanced t past keep keys rows k page moment n places families first seen found entries after starts view even places_is families_is long none nobody unmarked sees found_is kept keep_is rows_is starts_is tracks distinct =
+page_advanced t past keep keys rows k page moment n families first seen found entries after starts view even families_is long none nobody unmarked sees found_is kept keep_is rows_is starts_is tracks distinct =
     let own : Tracked = record { keep = keep; rows = zip keys rows } in
     let stands : Tracks t own past = subst (λ (x : Tracked). Tracks t x past) (sym view) tracks in
     let before : Saw (zip keys rows) moment [] first = saw_nothing (zip keys rows) moment n first (long ∙ sym (zip_length keys rows even)) none nobody unmarked in
-    let by_keys : Sees (zip keys rows) moment (flat_map (λ (f : Family). f.readings) families) first seen = subst (λ (ks : List SeriesKey). Sees (zip ks rows) moment (flat_map (λ (f : Family). f.readings) families) first seen) places_is sees in
-    let all : Sees (zip keys rows) moment (all_readings page) first seen = subst (λ (fs : List Family). Sees (zip keys rows) moment (flat_map (λ (f : Family). f.readings) fs) first seen) families_is by_keys in
+    let all : Sees (zip keys rows) moment (all_readings page) first seen = subst (λ (fs : List Family). Sees (zip keys rows) moment (flat_map (λ (f : Family). f.readings) fs) first seen) families_is sees in
     let saw : Saw (zip keys rows) moment (all_readings page) seen = all stands.once [] before in
     let present = is_read (filter is_cumulative_reading (all_readings page)) in
     let marks : found ≡ map present keys = found_is ∙ (saw.found ∙ ap (map present) (keys_of-zip keys rows (sym even))) in

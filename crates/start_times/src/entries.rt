@@ -1,5 +1,6 @@
 //! Series with their rows, in two lists.
-ghost use Rattle.std.specs.Prelude.{◌≡◌, ◌++◌, [], ◌∷◌, zip, length, IfOk, OnOk};
+ghost use Rattle.std.specs.Prelude.{◌≡◌, ◌<◌, ◌++◌, [], ◌∷◌, zip, length, vec_len, IfOk, OnOk};
+ghost use Rattle.std.specs.Vec.{vec_capacity};
 
 use crate::row::Row;
 use label_sets::{List, Memory, SeriesKey};
@@ -37,11 +38,11 @@ impl Entries {
     }
 
     /// Puts a series with its row behind the others.
-    pub(crate) fn push(&mut self, key: SeriesKey, row: Row) -> Result<(), Memory>
-        ensures { OnOk result (self.new ≡ self.old ++ (key, row) ∷ []) }
+    pub(crate) fn push(&mut self, key: &SeriesKey, row: Row) -> Result<(), Memory>
+        ensures { OnOk result (self.new ≡ self.old ++ (key.now, row) ∷ []) }
     {
-        self.keys.reserve(1)?;
-        self.rows.reserve(1)?;
+        make_room(&mut self.keys, &mut self.rows)?;
+        let key = key.copy()?;
         self.keys.push_reserved(key);
         self.rows.push_reserved(row);
         Ok(())
@@ -56,4 +57,15 @@ impl Entries {
         let rows = List::from_vec(self.rows)?;
         Ok((keys, rows))
     }
+}
+
+/// Makes room for one series more.
+fn make_room(keys: &mut Vec<SeriesKey>, rows: &mut Vec<Row>) -> Result<(), Memory>
+    ensures keys { keys.new.items ≡ keys.old.items }
+    ensures rows { rows.new.items ≡ rows.old.items }
+    ensures room { OnOk result ((vec_len keys.new < vec_capacity keys.new) × (vec_len rows.new < vec_capacity rows.new)) }
+{
+    keys.reserve(1)?;
+    rows.reserve(1)?;
+    Ok(())
 }

@@ -56,7 +56,7 @@ fn start_at(rows: &List<Row>, at: Option<usize>) -> Option<u64>
 }
 
 /// The starts of the rows of series, one after the other.
-pub(crate) fn starts_at(
+fn starts_at(
     alloc: Global,
     rows: &List<Row>,
     places: &mut SeriesPlaces,
@@ -71,6 +71,20 @@ pub(crate) fn starts_at(
         starts.push(start_at(rows, at))?;
     }
     Ok(starts)
+}
+
+/// The starts of the rows of series, among these series with their rows.
+pub(crate) fn starts_among(
+    alloc: Global,
+    keys: &List<SeriesKey>,
+    rows: &List<Row>,
+    asked: &[SeriesKey],
+) -> Result<Vec<Option<u64>>, Memory>
+    requires { length keys.now ≡ length rows.now }
+    ensures { IfOk result (λ starts. IsDistinct key_eq keys.now → starts.items ≡ map (kept_start (zip keys.now rows.now)) asked.now) }
+{
+    let mut places = SeriesPlaces::of(alloc, keys.copy()?);
+    starts_at(alloc, rows, &mut places, asked)
 }
 
 /// Notes that the row at a place was found, where one was.
@@ -104,9 +118,9 @@ pub(crate) fn see(
     }
     let at = places.find(alloc, &reading.key)?;
     let row = next_row(alloc, row_at(rows, at), moment, reading)?;
-    let key = reading.key.copy()?;
-    seen.starts.push(Some(row.start))?;
-    seen.entries.push(key, row)?;
+    let start = row.start;
+    seen.entries.push(&reading.key, row)?;
+    seen.starts.push(Some(start))?;
     mark(&mut seen.found, at);
     Ok(())
 }
@@ -131,7 +145,7 @@ fn see_all(
 }
 
 /// Sees the readings of families.
-pub(crate) fn see_families(
+fn see_families(
     alloc: Global,
     moment: u64,
     rows: &List<Row>,
@@ -156,6 +170,22 @@ pub(crate) fn see_families(
     Ok(())
 }
 
+/// Sees the readings of families beside these series with their rows.
+pub(crate) fn see_beside(
+    alloc: Global,
+    moment: u64,
+    keys: &List<SeriesKey>,
+    rows: &List<Row>,
+    seen: &mut Sighting,
+    families: &[Family],
+) -> Result<(), Memory>
+    requires { length keys.now ≡ length rows.now }
+    ensures { OnOk result (Sees (zip keys.now rows.now) moment (flat_map (λ (f : OneFamily). f.readings) families.now) seen.old seen.new) }
+{
+    let mut places = SeriesPlaces::of(alloc, keys.copy()?);
+    see_families(alloc, moment, rows, &mut places, seen, families)
+}
+
 /// Whether the row at a place was found.
 fn is_marked(found: &[bool], at: usize) -> bool
     ensures { result ≡ slice_index_or found.now at false }
@@ -171,7 +201,7 @@ fn keep_missed(keep: u32, entries: &mut Entries, key: &SeriesKey, row: &Row) -> 
     ensures { OnOk result (entries.new ≡ entries.old ++ option_to_list (missed_entry keep (λ _. false) (key.now, row.now))) }
 {
     if let Some(row) = older_row(keep, row)? {
-        entries.push(key.copy()?, row)?;
+        entries.push(key, row)?;
     }
     Ok(())
 }

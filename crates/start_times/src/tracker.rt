@@ -9,9 +9,8 @@ ghost use Rattle.start_times.specs.Rows.{Tracks, kept_start, most_readings};
 ghost use Rattle.start_times.specs.Advancing.{Advances};
 
 use crate::row::{Row, Starts};
-use crate::sighting::{keep_others, nothing, see_families, starts_at};
+use crate::sighting::{Sighting, keep_others, nothing, see_beside, starts_among};
 use label_sets::{List, Memory, SeriesKey};
-use packed_keys::SeriesPlaces;
 use page_model::Page;
 use std::alloc::Global;
 use std::marker::Model;
@@ -72,16 +71,12 @@ impl Tracker {
     ) -> Result<(Starts, Tracker), Memory>
         ensures { IfOk result (λ r. Advances self.now page.now moment r.0 r.1) }
     {
-        let mut places = SeriesPlaces::of(alloc, self.keys.copy()?);
         let mut seen = nothing(alloc, self.rows.len())?;
         let families = page.families().as_slice();
-        see_families(alloc, moment, &self.rows, &mut places, &mut seen, families)?;
+        see_beside(alloc, moment, &self.keys, &self.rows, &mut seen, families)?;
         let found = seen.found.as_slice();
         keep_others(self.keep, &self.keys, &self.rows, found, &mut seen.entries)?;
-        let (keys, rows) = seen.entries.into_lists()?;
-        let list = List::from_vec(seen.starts)?;
-        let keep = self.keep;
-        Ok((Starts { list }, Tracker { keep, keys, rows }))
+        behind(self.keep, seen)
     }
 
     /// How many rows there are.
@@ -97,9 +92,17 @@ impl Tracker {
     pub fn starts_of(&self, alloc: Global, keys: &List<SeriesKey>) -> Result<Starts, Memory>
         ensures { IfOk result (λ starts. IsDistinct key_eq (keys_of self.now.rows) → starts.list ≡ map (kept_start self.now.rows) keys.now) }
     {
-        let mut places = SeriesPlaces::of(alloc, self.keys.copy()?);
-        let starts = starts_at(alloc, &self.rows, &mut places, keys.as_slice())?;
+        let starts = starts_among(alloc, &self.keys, &self.rows, keys.as_slice())?;
         let list = List::from_vec(starts)?;
         Ok(Starts { list })
     }
+}
+
+/// The starts that were seen on a page, and the rows behind it.
+fn behind(keep: u32, seen: Sighting) -> Result<(Starts, Tracker), Memory>
+    ensures { IfOk result (λ r. (r.0.list ≡ seen.starts.items) × (r.1.keep ≡ keep) × (r.1.rows ≡ seen.entries)) }
+{
+    let (keys, rows) = seen.entries.into_lists()?;
+    let list = List::from_vec(seen.starts)?;
+    Ok((Starts { list }, Tracker { keep, keys, rows }))
 }

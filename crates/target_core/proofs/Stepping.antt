@@ -24,7 +24,6 @@ use Rattle.staleness.specs.Vanished.{is_gone, keys_gone}
 use Rattle.otlp_tree.specs.declared.tree.Request.{Request}
 use Rattle.bridge_ports.specs.Targets.{Scraped}
 use Rattle.target_core.specs.declared.markers.Marker.{Marker}
-use Rattle.target_core.specs.MarkerGroups.{GroupedMarkers, marker_groups}
 use Rattle.target_core.specs.Trees.{request_of, up_of}
 use Rattle.target_core.specs.Events.{marker_with, markers_at, request_after, latest_shown, first_start, event_request}
 use Rattle.target_core.specs.States.{Following, StandsFor, Steps, told_scrapes}
@@ -117,21 +116,21 @@ first_steps old new e moment up page request none moment_is up_is page_is is the
       }),
     )
 
-pub later_steps : (old new : Following) (e : Event) (before moment up : ℕ) (page : Page) (request : Request) (k next : Tracked) (starts : Starts) (groups : List GroupedMarkers)
+pub later_steps : (old new : Following) (e : Event) (before moment up : ℕ) (page : Page) (request : Request) (k next : Tracked) (starts : Starts)
     → old.moment ≡ Some before → moment ≡ moment_after (Some before) e.reading → up ≡ up_of e.outcome → page ≡ page_of_outcome e.outcome
     → ((target : Scraped) (t : Tracking) (events : List Event) → StandsFor target t old events → Tracks t k (scrapes_of events)) → Advances k page moment starts next
-    → (IsDistinct key_eq (row_keys k.rows) → groups ≡ marker_groups [] (map (marker_with (kept_start k.rows) moment) (keys_gone old.page page)))
-    → ((start : Reading → Option ℕ) (ms : List Marker) → starts.list ≡ map start (all_readings page) → groups ≡ marker_groups [] ms → request ≡ request_of old.target start ms moment up page)
+    → ((start : Reading → Option ℕ) → starts.list ≡ map start (all_readings page) → IsDistinct key_eq (row_keys k.rows)
+    → request ≡ request_of old.target start (map (marker_with (kept_start k.rows) moment) (keys_gone old.page page)) moment up page)
     → new ≡ record { target = old.target; tracked = next; pending = false; page = page; moment = Some moment } → Steps old e request new
 unfolding request_after scrape_after
-later_steps old new e before moment up page request k next starts groups at moment_is up_is page_is told step gone is then target t earlier stands distinct =
+later_steps old new e before moment up page request k next starts at moment_is up_is page_is told step is then target t earlier stands distinct =
     let past = scrapes_of earlier in
     let tracks : Tracks t k past = told target t earlier stands in
     let now : scrape_of page moment ≡ scrape_after past e = λ i. record { moment = (moment_is ∙ ap (λ m. moment_after m e.reading) (sym at ∙ stands.moment_is)) i; page = page_is i } in
     let own = step t past tracks (subst HasDistinctKeys (sym page_is) distinct) in
     let ms = map (marker_with (kept_start k.rows) moment) (keys_gone old.page page) in
     let ms_are : ms ≡ markers_at t past (scrape_of page moment) = ap (λ p. map (marker_with (kept_start k.rows) moment) (keys_gone p page)) stands.page_is ∙ kept_markers t k past (scrape_of page moment) tracks in (
-      is (reading_start t past moment) ms own.0 (gone tracks.once)
+      is (reading_start t past moment) own.0 tracks.once
           ∙ (λ i. request_of (stands.target_is i) (reading_start t past (now i).moment) ((ms_are ∙ ap (markers_at t past) now) i) (now i).moment (up_is i) (now i).page),
       subst (λ (s : Following). StandsFor target t s (e ∷ earlier)) (sym then) (record {
         target_is = stands.target_is;

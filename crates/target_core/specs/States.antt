@@ -42,8 +42,8 @@ HasNextMoment None = ⊤
 HasNextMoment (Some moment) = moment < 2 ^ 64 - 1
 
 -- the state of the same target behind an event with this page and this moment, of whose series this is kept
-abbrev pub followed_by : Following → Tracked → Page → ℕ → Following
-followed_by before tracked page moment = record { target = before.target; tracked = tracked; pending = false; page = page; moment = Some moment }
+abbrev pub next_state : Following → Tracked → Page → ℕ → Following
+next_state before tracked page moment = record { target = before.target; tracked = tracked; pending = false; page = page; moment = Some moment }
 
 -- behind all events for which the state stood: the tree is that of the event, and the state that follows stands for one event more
 abbrev pub Steps : Following → Event → Request → Following → Type 0

@@ -9,7 +9,7 @@ ghost use Rattle.target_core.specs.Trees as trees;
 
 use crate::forms::PointForm;
 use crate::markers::{Marker, MarkerGroup};
-use label_sets::{Kind, List, Memory, Text};
+use label_sets::{Kind, List, Memory, SeriesKey, Text};
 use otlp_tree::{Metric, Shape};
 use page_model::{Family, Reading};
 use std::alloc::Global;
@@ -103,6 +103,29 @@ fn shape(
     })
 }
 
+/// The name and the unit of a series.
+fn name_and_unit(key: &SeriesKey) -> Result<(Text, Text), Memory>
+    ensures name { IfOk result (λ both. both.0 ≡ key.now.name) }
+    ensures unit { IfOk result (λ both. both.1 ≡ key.now.unit) }
+{
+    let name = key.name.copy()?.into_text();
+    let unit = key.unit.copy()?;
+    Ok((name, unit))
+}
+
+/// The metric of a shape that is named by a series.
+fn named(first: &SeriesKey, description: Text, shape: Shape) -> Result<Metric, Memory>
+    ensures { IfOk result (λ metric. metric ≡ record { name = first.now.name; description = description; unit = first.now.unit; shape = shape }) }
+{
+    let (name, unit) = name_and_unit(first)?;
+    Ok(Metric {
+        name,
+        description,
+        unit,
+        shape,
+    })
+}
+
 /// The metric of a family, where it has one, and these markers behind its points. It is named by the
 /// first reading. Texts are shared.
 #[tactic(auto, unfolding(crate::specs::Markers::metric_with))]
@@ -124,15 +147,9 @@ pub(crate) fn family_metric(
     let Some(shape) = shape(alloc, moment, family.kind, readings, starts, markers)? else {
         return Ok(None);
     };
-    let name = first.key.name.copy()?;
     let description = family.help.copy()?;
-    let unit = first.key.unit.copy()?;
-    Ok(Some(Metric {
-        name: name.into_text(),
-        description,
-        unit,
-        shape,
-    }))
+    let metric = named(&first.key, description, shape)?;
+    Ok(Some(metric))
 }
 
 /// The points of markers alone.
@@ -178,14 +195,8 @@ fn alone_metric(alloc: Global, group: &MarkerGroup) -> Result<Option<Metric>, Me
     let Some(shape) = marker_shape(alloc, first.kind, group.markers())? else {
         return Ok(None);
     };
-    let name = first.name.copy()?;
-    let unit = first.unit.copy()?;
-    Ok(Some(Metric {
-        name: name.into_text(),
-        description: Text::empty(),
-        unit,
-        shape,
-    }))
+    let metric = named(first, Text::empty(), shape)?;
+    Ok(Some(metric))
 }
 
 /// Puts the metrics of markers alone behind those of a page.

@@ -1,10 +1,11 @@
 //! What is kept of a target between its scrapes.
-ghost use Rattle.std.specs.Prelude.{◌≡◌, ◌≤◌, List as Seq, [], Some, None, map, IfOk, OnOk, OnErr};
+ghost use Rattle.std.specs.Prelude.{◌≡◌, ◌≤◌, ℕ, List as Seq, [], Option, Some, None, map, IfOk, OnOk, OnErr};
 ghost use Rattle.std.specs.List.{IsDistinct};
 ghost use Rattle.std.specs.Map.{keys_of};
 ghost use Rattle.label_sets.specs.Keys.{key_eq};
 ghost use Rattle.page_model.specs.declared.event.Event.{Event as AnyEvent};
-ghost use Rattle.page_model.specs.Presence.{page_of_outcome};
+ghost use Rattle.page_model.specs.declared.page.Reading.{Reading as AnyReading};
+ghost use Rattle.page_model.specs.Presence.{all_readings, page_of_outcome};
 ghost use Rattle.start_times.specs.Scrapes as scrapes;
 ghost use Rattle.start_times.specs.Starts.{Tracking};
 ghost use Rattle.start_times.specs.Rows.{Tracks, kept_start};
@@ -12,7 +13,7 @@ ghost use Rattle.staleness.specs.Vanished.{keys_gone};
 ghost use Rattle.bridge_ports.specs.Targets.{Scraped as AnyScraped};
 ghost use Rattle.target_core.specs.Events.{marker_with, first_start};
 ghost use Rattle.target_core.specs.MarkerGroups.{marker_groups};
-ghost use Rattle.target_core.specs.States.{Steps, StandsFor, HasNextMoment, followed_by, IsFirstTree, ShowsLatest};
+ghost use Rattle.target_core.specs.States.{Steps, StandsFor, HasNextMoment, next_state, IsFirstTree, ShowsLatest};
 ghost use Rattle.target_core.specs.Trees.{up_of, request_of};
 
 use crate::gone::gather;
@@ -120,6 +121,30 @@ impl TargetState {
         Ok(tracker)
     }
 
+    /// The tree of a first event.
+    fn first_tree(
+        &self,
+        alloc: Global,
+        moment: u64,
+        up: u64,
+        page: &Page,
+    ) -> Result<Request, Memory>
+        ensures { IfOk result (λ tree. tree ≡ request_of self.now.target (first_start moment) [] moment up page.now) }
+    {
+        let starts = first_starts(alloc, moment, page)?;
+        let groups = MarkerGroups::new(alloc);
+        let tree = request(
+            alloc,
+            &self.target,
+            moment,
+            up,
+            page,
+            starts.as_slice(),
+            groups,
+        )?;
+        Ok(tree)
+    }
+
     /// The first step.
     fn first_step(
         &mut self,
@@ -135,20 +160,28 @@ impl TargetState {
         ensures tree { IfOk result (λ request. request ≡ request_of self.old.target (first_start moment) [] moment up page) }
         ensures err { OnErr result (self.new ≡ self.old) }
     {
-        let starts = first_starts(alloc, moment, &page)?;
-        let groups = MarkerGroups::new(alloc);
-        let tree = request(
-            alloc,
-            &self.target,
-            moment,
-            up,
-            &page,
-            starts.as_slice(),
-            groups,
-        )?;
+        let tree = self.first_tree(alloc, moment, up, &page)?;
         self.pending = true;
         self.page = page;
         self.moment = Some(moment);
+        Ok(tree)
+    }
+
+    /// The tree of an event with these starts, where the series that its page lacks have these rows.
+    fn tree_with(
+        &self,
+        alloc: Global,
+        tracker: &Tracker,
+        moment: u64,
+        up: u64,
+        page: &Page,
+        starts: &[Option<u64>],
+    ) -> Result<Request, Memory>
+        ensures { (start : AnyReading → Option ℕ) → starts.now ≡ map start (all_readings page.now) → IsDistinct key_eq (keys_of tracker.now.rows)
+            → IfOk result (λ tree. tree ≡ request_of self.now.target start (map (marker_with (kept_start tracker.now.rows) moment) (keys_gone self.now.page page.now)) moment up page.now) }
+    {
+        let groups = gone_groups(alloc, tracker, &self.page, page, moment)?;
+        let tree = request(alloc, &self.target, moment, up, page, starts, groups)?;
         Ok(tree)
     }
 
@@ -163,13 +196,12 @@ impl TargetState {
     ) -> Result<(Request, Tracker), Memory>
         requires { self.now.moment ≡ Some before }
         ensures { (e : AnyEvent) → moment ≡ scrapes.moment_after (Some before) e.reading → up ≡ up_of e.outcome → page.now ≡ page_of_outcome e.outcome
-            → IfOk result (λ r. Steps self.now e r.0 (followed_by self.now r.1 page.now moment)) }
+            → IfOk result (λ r. Steps self.now e r.0 (next_state self.now r.1 page.now moment)) }
     {
         let tracker = self.told_tracker(alloc, before)?;
         let (starts, next) = tracker.advance(alloc, page, moment)?;
-        let groups = gone_groups(alloc, &tracker, &self.page, page, moment)?;
         let starts = starts.list.as_slice();
-        let tree = request(alloc, &self.target, moment, up, page, starts, groups)?;
+        let tree = self.tree_with(alloc, &tracker, moment, up, page, starts)?;
         Ok((tree, next))
     }
 

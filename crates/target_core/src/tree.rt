@@ -1,5 +1,5 @@
 //! The request tree of one event.
-ghost use Rattle.std.specs.Prelude.{◌≡◌, ◌++◌, ◌∷◌, [], ℕ, List as Seq, Option, map, filter_map, option_map, take, drop, All, IfOk, OnOk};
+ghost use Rattle.std.specs.Prelude.{◌≡◌, ◌++◌, ◌∷◌, [], ℕ, List as Seq, Option, map, filter_map, option_map, take, drop, codes, All, IfOk, OnOk};
 ghost use Rattle.std.specs.List.{flat_map};
 ghost use Rattle.page_model.specs.declared.page.Reading.{Reading as AnyReading};
 ghost use Rattle.page_model.specs.declared.page.Family.{Family as AnyFamily};
@@ -26,19 +26,35 @@ use std::alloc::Global;
 fn target_gauge(alloc: Global, name: &str, time: u64, number: u64) -> Result<Metric, Memory>
     ensures { IfOk result (λ metric. metric ≡ trees.target_gauge name.now time number) }
 {
-    let point = NumberPoint {
+    let mut points = Vec::with_capacity(alloc, 1)?;
+    points.push(NumberPoint {
         labels: LabelSet::empty(alloc),
         start: None,
         time,
         value: Some(exact_decimal::of(number)),
-    };
-    let points = List::from_vec(Vec::from_array(alloc, [point])?)?;
+    })?;
+    let points = List::from_vec(points)?;
+    let name = Text::from_str(alloc, name)?;
     Ok(Metric {
-        name: Text::from_str(alloc, name)?,
+        name,
         description: Text::empty(),
         unit: Text::empty(),
         shape: Shape::Gauge(points),
     })
+}
+
+/// Puts a gauge with one point and no labels behind other metrics.
+fn push_gauge(
+    alloc: Global,
+    metrics: &mut Vec<Metric>,
+    name: &str,
+    time: u64,
+    number: u64,
+) -> Result<(), Memory>
+    ensures { OnOk result (metrics.new.items ≡ metrics.old.items ++ trees.target_gauge name.now time number ∷ []) }
+{
+    metrics.push(target_gauge(alloc, name, time, number)?)?;
+    Ok(())
 }
 
 /// What the event says of its scrape.
@@ -46,9 +62,16 @@ fn target_gauge(alloc: Global, name: &str, time: u64, number: u64) -> Result<Met
 fn target_metrics(alloc: Global, moment: u64, up: u64, samples: u64) -> Result<Vec<Metric>, Memory>
     ensures { IfOk result (λ metrics. metrics.items ≡ trees.target_metrics moment up samples) }
 {
-    let up = target_gauge(alloc, "up", moment, up)?;
-    let scraped = target_gauge(alloc, "scrape_samples_scraped", moment, samples)?;
-    Ok(Vec::from_array(alloc, [up, scraped])?)
+    let mut metrics = Vec::with_capacity(alloc, 2)?;
+    push_gauge(alloc, &mut metrics, "up", moment, up)?;
+    push_gauge(
+        alloc,
+        &mut metrics,
+        "scrape_samples_scraped",
+        moment,
+        samples,
+    )?;
+    Ok(metrics)
 }
 
 /// The metric of a family with its starts and the markers of its series, where it has one; the markers
@@ -154,6 +177,39 @@ fn push_scope(
     Ok(())
 }
 
+/// The scope of what a page and the markers give, unless it has no metric.
+fn page_scope(
+    alloc: Global,
+    moment: u64,
+    page: &Page,
+    starts: &[Option<u64>],
+    groups: MarkerGroups,
+) -> Result<Vec<ScopeMetrics>, Memory>
+    ensures { (start : AnyReading → Option ℕ) (ms : Seq AnyMarker)
+        → starts.now ≡ map start (all_readings page.now) → groups ≡ marker_groups [] ms
+        → IfOk result (λ scopes. scopes.items ≡ trees.scope_of (codes "bridge") (trees.event_metrics start ms moment page.now)) }
+{
+    let metrics = event_metrics(alloc, moment, page, starts, groups)?;
+    let mut scopes = Vec::with_capacity(alloc, 2)?;
+    push_scope(alloc, &mut scopes, "bridge", metrics)?;
+    Ok(scopes)
+}
+
+/// Puts the scope of what an event says of its scrape behind the others.
+fn push_target(
+    alloc: Global,
+    scopes: &mut Vec<ScopeMetrics>,
+    moment: u64,
+    up: u64,
+    samples: u64,
+) -> Result<(), Memory>
+    ensures { OnOk result (scopes.new.items ≡ scopes.old.items ++ trees.scope_of (codes "bridge.target") (trees.target_metrics moment up samples)) }
+{
+    let metrics = target_metrics(alloc, moment, up, samples)?;
+    push_scope(alloc, scopes, "bridge.target", metrics)?;
+    Ok(())
+}
+
 /// The tree of a scrape of a target at a moment in nanoseconds since the Unix epoch (OTLP 1.x,
 /// `ExportMetricsServiceRequest`), with the starts of its readings in page order and the markers of the
 /// series that are gone. The names, labels and HELP texts of the page are shared with it. Want of memory
@@ -172,12 +228,9 @@ pub(crate) fn request(
         → starts.now ≡ map start (all_readings page.now) → groups ≡ marker_groups [] ms
         → IfOk result (λ request. request ≡ trees.request_of target.now start ms moment up page.now) }
 {
-    let resource = List::from_vec(resource(alloc, target)?)?;
-    let mut scopes = Vec::with_capacity(alloc, 2)?;
-    let metrics = event_metrics(alloc, moment, page, starts, groups)?;
-    push_scope(alloc, &mut scopes, "bridge", metrics)?;
-    let metrics = target_metrics(alloc, moment, up, u64::from(page.samples()))?;
-    push_scope(alloc, &mut scopes, "bridge.target", metrics)?;
+    let mut scopes = page_scope(alloc, moment, page, starts, groups)?;
+    push_target(alloc, &mut scopes, moment, up, u64::from(page.samples()))?;
     let scopes = List::from_vec(scopes)?;
+    let resource = List::from_vec(resource(alloc, target)?)?;
     Ok(Request { resource, scopes })
 }

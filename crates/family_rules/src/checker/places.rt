@@ -98,6 +98,7 @@ impl ItemChecker {
         ensures { OnOk result (self.new ≡ reached self.old family) }
     {
         if self.is_current(&family) {
+            drop(family);
             return Ok(());
         }
         self.begin(family)
@@ -117,10 +118,13 @@ impl ItemChecker {
     fn describe(&mut self, descriptor: Descriptor) -> Result<(), Memory>
         ensures { OnOk result (self.new ≡ with_descriptor self.old descriptor) }
     {
-        if let Some(current) = &mut self.current {
-            current.family.describe(self.alloc, descriptor)?;
+        match &mut self.current {
+            Some(current) => current.family.describe(self.alloc, descriptor),
+            None => {
+                drop(descriptor);
+                Ok(())
+            }
         }
-        Ok(())
     }
 
     /// Takes a descriptor, and answers the rule that it breaks.
@@ -133,11 +137,14 @@ impl ItemChecker {
     {
         let broken = self.place_rule(&family, &descriptor);
         if broken.is_some() {
+            drop(family);
+            drop(descriptor);
             return Ok(broken);
         }
         self.reach(family)?;
         let broken = self.unit_rule(&descriptor);
         if broken.is_some() {
+            drop(descriptor);
             return Ok(broken);
         }
         self.describe(descriptor)?;

@@ -1,4 +1,4 @@
-//! Samples of the family that goes on, and of one that they begin.
+//! Samples of the family that goes on.
 ghost use Rattle.std.specs.Prelude.{◌≡◌, Ok, Some, None, true, false, is_some, map, IfOk, IfSome, OnOk};
 ghost use Rattle.exact_decimal.specs.declared.number.Number.{Number as AnyNumber};
 ghost use Rattle.packed_keys.specs.declared.sample_key.SampleKey.{SampleKey as AnyKey};
@@ -6,23 +6,20 @@ ghost use Rattle.sample_groups.specs.LastSeen.{EndsWith};
 ghost use Rattle.label_sets.specs.declared.kind.Kind.TheVariants as kinds;
 ghost use Rattle.page_model.specs.Owners.{kept_labels};
 ghost use Rattle.page_model.specs.Rules.{is_open_metrics};
-ghost use Rattle.page_model.specs.declared.item.Item.TheVariants as items;
 ghost use Rattle.family_rules.specs.KeyedValues.{is_key_of, is_passed, samples_at_end};
 ghost use Rattle.family_rules.specs.GroupRuns.{has_runs};
 ghost use Rattle.family_rules.specs.GroupKeys.{IsNewGroup, NameTells};
-ghost use Rattle.family_rules.specs.Steps.{Takes, current_with, with_current, left_stop};
-ghost use Rattle.family_rules.specs.Samples.{TellsPart, is_current_sample, current_samples, own_samples, with_seen, has_bad_exemplar, is_overtaken_in, is_back_in_groups, AnswersTold, with_counted, with_part_in, with_part_at, with_told, told_left, fits_order, is_back, entered_by, with_sample, with_added, seen_rule, sample_stop, key_stop, with_key, add_stop, name_stop};
+ghost use Rattle.family_rules.specs.Steps.{current_with, with_current};
+ghost use Rattle.family_rules.specs.Samples.{current_samples, own_samples, with_seen, is_overtaken_in, is_back_in_groups, AnswersTold, with_counted, with_part_in, with_part_at, with_told, fits_order, is_back, entered_by, with_sample, with_added, seen_rule, sample_stop, key_stop, with_key, add_stop};
 
 use super::ItemChecker;
-use crate::exemplars::is_bad_exemplar;
 use crate::family::Current;
 use crate::group_keys::GroupKeys;
 use crate::runs::{group_labels, has_own_runs, is_alone};
-use crate::sample_values::part_or_rule;
 use exact_decimal::Number;
 use label_sets::{Kind, LabelSet, Memory, Name};
 use packed_keys::{SampleKey, SeenKeys};
-use page_model::{Format, Rule, Sample, Treatment, is_sample_name};
+use page_model::{Format, Rule, Sample, Treatment};
 use sample_groups::{Added, Part, is_grouped};
 use std::alloc::Global;
 
@@ -54,21 +51,9 @@ fn begin_in(
 }
 
 impl ItemChecker {
-    /// Whether the family of the nearest line owns a sample of this name.
-    fn is_current_sample(&self, name: &Name) -> bool
-        ensures { result ≡ is_current_sample self.now.setting.format self.now.current name.now }
-    {
-        match &self.current {
-            Some(current) => {
-                is_sample_name(self.format, current.family.kind(), &current.name, name)
-            }
-            None => false,
-        }
-    }
-
     /// A label set as a page of this treatment keeps it.
     #[inline(always)]
-    fn kept_labels(&self, labels: LabelSet) -> Result<LabelSet, Memory>
+    pub(super) fn kept_labels(&self, labels: LabelSet) -> Result<LabelSet, Memory>
         ensures { IfOk result (λ kept. kept ≡ kept_labels self.now.setting.treatment labels) }
     {
         match self.treatment {
@@ -98,7 +83,7 @@ impl ItemChecker {
     }
 
     /// How many samples at the end tell which groups have begun, where each has a group of its own.
-    fn own_samples(&self, kind: Kind) -> u32
+    pub(super) fn own_samples(&self, kind: Kind) -> u32
         ensures { result ≡ own_samples self.now kind }
     {
         match self.format {
@@ -109,7 +94,7 @@ impl ItemChecker {
 
     /// Whether one of so many samples at the end has these labels, and the last one has not. What was seen is
     /// forgotten.
-    fn take_passed(&mut self, own: u32, labels: &LabelSet) -> Result<bool, Memory>
+    pub(super) fn take_passed(&mut self, own: u32, labels: &LabelSet) -> Result<bool, Memory>
         ensures passed { IfOk result (λ passed. passed ≡ is_passed labels.now (samples_at_end own self.old.seen)) }
         ensures rest { self.new ≡ with_seen self.old self.new.seen }
     {
@@ -147,6 +132,7 @@ impl ItemChecker {
         let known = self.seen.insert(key, value)?;
         if let Some(known) = known {
             let rule = self.seen_rule(own, &known.labels)?;
+            drop(known);
             return Ok(Some(rule));
         }
         if broken.is_some() {
@@ -160,41 +146,10 @@ impl ItemChecker {
         Ok(None)
     }
 
-    /// What a sample of the current family is to its group, where its kind has groups, or the rule that it
-    /// breaks: 15 or 16.
-    fn part_or_rule(&self, kind: Kind, sample: &Sample) -> Result<Option<Part>, Rule>
-        ensures { TellsPart self.now kind sample.now result }
-    {
-        match &self.current {
-            Some(current) => part_or_rule(self.format, kind, &current.name, sample),
-            None => Err(Rule::Suffix),
-        }
-    }
-
-    /// Nothing, or rule 18 where a sample of another family leaves the current one.
-    fn no_part_or_rule(&self) -> Result<Option<Part>, Rule>
-        ensures { result ≡ told_left (left_stop self.now.current) }
-    {
-        match self.left_rule() {
-            Some(rule) => Err(rule),
-            None => Ok(None),
-        }
-    }
-
-    /// Rule 10: a sample of the current family has a bad exemplar.
-    fn has_bad_exemplar(&self, sample: &Sample) -> bool
-        ensures { result ≡ has_bad_exemplar self.now.current sample.now }
-    {
-        match &self.current {
-            Some(current) => is_bad_exemplar(current.family.kind(), &current.name, sample),
-            None => false,
-        }
-    }
-
     /// Adds a sample of the current family to its group, where that has no parts, and answers whether it goes back
     /// to it: rule 12.
     #[inline(always)]
-    fn enter(&mut self, kind: Kind, labels: &LabelSet) -> Result<bool, Memory>
+    pub(super) fn enter(&mut self, kind: Kind, labels: &LabelSet) -> Result<bool, Memory>
         ensures back { IfOk result (λ back. back ≡ is_back self.old kind labels.now) }
         ensures entered { IfOk result (λ back. back ≡ false → self.new ≡ entered_by self.old kind labels.now) }
     {
@@ -253,7 +208,7 @@ impl ItemChecker {
 
     /// Rule 12: a sample of a kind with groups goes back to its group in the current family. Nothing is said of the
     /// groups any more.
-    fn goes_back(&mut self, kind: Kind, labels: &LabelSet) -> Result<bool, Memory>
+    pub(super) fn goes_back(&mut self, kind: Kind, labels: &LabelSet) -> Result<bool, Memory>
         ensures back { IfOk result (λ back. back ≡ is_back_in_groups self.old.setting.format kind labels.now self.old.current) }
         ensures rest { OnOk result (self.new ≡ with_current self.old self.new.current) }
     {
@@ -319,10 +274,12 @@ impl ItemChecker {
         let own = self.own_samples(kind);
         let back = self.enter(kind, &key.labels)?;
         if back {
+            drop(key);
             return Ok(Some(Rule::Interleaved));
         }
         let met = self.add_told(kind, &key.labels, told)?;
         if met.back {
+            drop(key);
             return Ok(Some(Rule::Interleaved));
         }
         self.add_key(own, key, value, met.broken)
@@ -344,7 +301,9 @@ impl ItemChecker {
             part,
             self.seen.packed_keys(),
         )?;
-        self.group_keys = GroupKeys::Of(key.name);
+        let SampleKey { name, labels } = key;
+        drop(labels);
+        self.group_keys = GroupKeys::Of(name);
         Ok(())
     }
 
@@ -367,6 +326,7 @@ impl ItemChecker {
         let broken = self.add_key(0, key, value, None)?;
         if broken.is_some() {
             let back = self.goes_back(Kind::Counter, &first.labels)?;
+            drop(first);
             if back {
                 return Ok(Some(Rule::Interleaved));
             }
@@ -386,7 +346,7 @@ impl ItemChecker {
     /// Adds a sample of the current family, of which this was told, or answers the rule that it breaks: 12, 14
     /// to 18 or 20.
     #[inline(always)]
-    fn add_sample(
+    pub(super) fn add_sample(
         &mut self,
         kind: Kind,
         sample: Sample,
@@ -399,8 +359,10 @@ impl ItemChecker {
             name,
             labels,
             value,
+            exemplar,
             ..
         } = sample;
+        drop(exemplar);
         let labels = self.kept_labels(labels)?;
         let key = SampleKey { name, labels };
         if !self.tells_groups(kind, &key.name) {
@@ -410,72 +372,5 @@ impl ItemChecker {
             Ok(Some(part)) => self.add_first(key, value, part),
             told => self.add_keyed(kind, key, value, told),
         }
-    }
-
-    /// Takes a sample of the current family, and answers the rule that it breaks: 10, 12, 14 to 17 or 20.
-    fn take_own(&mut self, sample: Sample) -> Result<Option<Rule>, Memory>
-        requires { is_current_sample self.now.setting.format self.now.current sample.name ≡ true }
-        ensures { IfOk result (Takes (items.Sample sample) self.old self.new) }
-    {
-        if self.has_bad_exemplar(&sample) {
-            return Ok(Some(Rule::Exemplar));
-        }
-        let kind = self.current_kind();
-        let told = self.part_or_rule(kind, &sample);
-        self.add_sample(kind, sample, told)
-    }
-
-    /// The rule that a sample of the current family breaks whose name its kind doesn't allow: 12 or 13.
-    fn name_rule(&mut self, sample: Sample) -> Result<Rule, Memory>
-        ensures { IfOk result (λ rule. rule ≡ name_stop self.old sample) }
-    {
-        let kind = self.current_kind();
-        let labels = self.kept_labels(sample.labels)?;
-        let own = self.own_samples(kind);
-        let back = self.enter(kind, &labels)?;
-        if back {
-            return Ok(Rule::Interleaved);
-        }
-        let back = self.goes_back(kind, &labels)?;
-        if back {
-            return Ok(Rule::Interleaved);
-        }
-        let passed = self.take_passed(own, &labels)?;
-        if passed {
-            return Ok(Rule::Interleaved);
-        }
-        Ok(Rule::Suffix)
-    }
-
-    /// Takes a sample that is of the family of its own name, and answers the rule that it breaks.
-    fn take_other(&mut self, sample: Sample) -> Result<Option<Rule>, Memory>
-        requires { is_current_sample self.now.setting.format self.now.current sample.name ≡ false }
-        ensures { IfOk result (Takes (items.Sample sample) self.old self.new) }
-    {
-        // No name without a suffix may have one.
-        if sample.exemplar.is_some() {
-            return Ok(Some(Rule::Exemplar));
-        }
-        if self.is_current(&sample.name) {
-            let rule = self.name_rule(sample)?;
-            return Ok(Some(rule));
-        }
-        if self.is_left(&sample.name) {
-            return Ok(Some(Rule::Split));
-        }
-        let told = self.no_part_or_rule();
-        let family = sample.name.copy()?;
-        self.begin(family)?;
-        self.add_sample(Kind::Unknown, sample, told)
-    }
-
-    /// Takes a sample line, and answers the rule that it breaks.
-    pub(super) fn take_sample(&mut self, sample: Sample) -> Result<Option<Rule>, Memory>
-        ensures { IfOk result (Takes (items.Sample sample) self.old self.new) }
-    {
-        if self.is_current_sample(&sample.name) {
-            return self.take_own(sample);
-        }
-        self.take_other(sample)
     }
 }

@@ -4,14 +4,13 @@ use Rattle.label_sets.specs.declared.label.Label.{Label}
 use Rattle.label_sets.specs.Sets.{IsLabelSet}
 use Rattle.federation_page.specs.Candidates.{with_target}
 use Rattle.federation_page.proofs.CodeSteps.{labels_of_target, target_made}
-use Rattle.federation_page.proofs.targets.with_target.Goals.{In_ok-insert-2}
+use Rattle.federation_page.proofs.targets.with_target.Goals.{In_ok-put-2}
 use Rattle.federation_page.proofs.targets.with_target.Goals as goal
 
-made : (c : In_ok-insert-2) → c.insert-2.new.labels.items ≡ with_target c.args.shown.now.job c.args.shown.now.instance c.args.labels.now
+made : (c : In_ok-put-2) → c.put-2.new.labels.items ≡ with_target c.args.shown.now.job c.args.shown.now.instance c.args.labels.now
 made c =
-    target_made c.args.shown.now.job c.args.shown.now.instance c.args.labels.now c.in_ok-all.all.items c.insert.new.labels.items c.insert-2.new.labels.items
-    c.in_ok-from_str.field-0 c.in_ok-copy.field-0 c.in_ok-from_str-2.field-0 c.in_ok-copy-2.field-0
-    (c.in_ok-all.ensures ∙ c.labels.ensures) c.in_ok-from_str.ensures c.in_ok-copy.ensures c.in_ok-insert.ensures c.in_ok-from_str-2.ensures c.in_ok-copy-2.ensures c.in_ok-insert-2.ensures
+    target_made c.args.shown.now.job c.args.shown.now.instance c.args.labels.now c.in_ok-all.all.items c.put.new.labels.items c.put-2.new.labels.items
+    (c.in_ok-all.ensures ∙ c.labels.ensures) c.in_ok-put.ensures c.in_ok-put-2.ensures
 
 pub from_sorted-requires : goal.from_sorted-requires
 from_sorted-requires c = subst IsLabelSet (sym (made c)) (labels_of_target c.args.shown.now c.args.labels.now c.requires.named c.requires.free)

@@ -1,4 +1,4 @@
-use Rattle.std.proofs.Common.{◌∙◌, sym, Some, None}
+use Rattle.std.proofs.Common.{◌∙◌, ap, sym, Some, None}
 use Rattle.target_core.proofs.FamilyMetrics.{metric_is}
 use Rattle.target_core.proofs.metrics.family_metric.Goals as goal
 
@@ -9,6 +9,7 @@ returns-in_default-2 c = λ start own.
 
 pub returns : goal.returns
 returns c = λ start own.
-    (λ i. Some record { name = (c.into_text.ensures ∙ c.in_ok-name.ensures) i; description = c.in_ok-description.ensures i; unit = c.in_ok-unit.ensures i; shape = c.in-Some-2.shape })
+    ap Some c.in_ok-metric.ensures
+    ∙ ((λ i. Some record { name = c.in-Some.first.now.key.name; description = c.in_ok-description.ensures i; unit = c.in-Some.first.now.key.unit; shape = c.in-Some-2.shape })
     ∙ metric_is start c.args.moment c.args.family.now c.args.starts.now c.args.markers.now c.as_slice-readings.result.now c.in-Some.first.now (Some c.in-Some-2.shape) c.as_slice-readings.ensures c.in-Some.ensures.value
-    (sym c.in-Some-2.is ∙ c.in_ok-shape.ensures) own
+    (sym c.in-Some-2.is ∙ c.in_ok-shape.ensures) own)

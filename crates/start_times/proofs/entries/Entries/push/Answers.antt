@@ -6,6 +6,6 @@ use Rattle.start_times.proofs.entries.Entries.push.Goals as goal
 
 pub returns : goal.returns
 returns c =
-    let keys : c.push_reserved.new.self.items ≡ c.self.inside.keys.items ++ c.args.key ∷ [] = c.push_reserved.ensures.items ∙ ap (λ (ks : List SeriesKey). ks ++ c.args.key ∷ []) c.in_ok-reserve.ensures.items in
-    let rows : c.push_reserved-2.new.self.items ≡ c.self.inside.rows.items ++ c.args.row ∷ [] = c.push_reserved-2.ensures.items ∙ ap (λ (rs : List Row). rs ++ c.args.row ∷ []) c.in_ok-reserve-2.ensures.items in
-    rw (keys, rows) (zip_push c.self.inside.keys.items c.self.inside.rows.items c.args.key c.args.row c.self.invariant ∙ ap (λ (es : List (SeriesKey × Row)). es ++ (c.args.key, c.args.row) ∷ []) c.self.view_is)
+    let keys : c.push_reserved.new.self.items ≡ c.self.inside.keys.items ++ c.args.key.now ∷ [] = c.push_reserved.ensures.items ∙ (ap (λ (ks : List SeriesKey). ks ++ c.in_ok-key.key ∷ []) c.make_room.ensures.keys ∙ ap (λ (k : SeriesKey). c.self.inside.keys.items ++ k ∷ []) c.in_ok-key.ensures) in
+    let rows : c.push_reserved-2.new.self.items ≡ c.self.inside.rows.items ++ c.args.row ∷ [] = c.push_reserved-2.ensures.items ∙ ap (λ (rs : List Row). rs ++ c.args.row ∷ []) c.make_room.ensures.rows in
+    rw (keys, rows) (zip_push c.self.inside.keys.items c.self.inside.rows.items c.args.key.now c.args.row c.self.invariant ∙ ap (λ (es : List (SeriesKey × Row)). es ++ (c.args.key.now, c.args.row) ∷ []) c.self.view_is)

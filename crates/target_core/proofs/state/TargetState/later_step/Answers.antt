@@ -1,7 +1,7 @@
 use Rattle.std.proofs.Common.{subst, sym}
-use Rattle.target_core.specs.States.{Following, Steps, followed_by}
+use Rattle.target_core.specs.States.{Following, Steps, next_state}
 use Rattle.target_core.proofs.state.TargetState.later_step.Goals as goal
 
 pub returns-clause-ok : goal.returns-clause-ok
 returns-clause-ok c = λ e moment up page.
-    subst (λ (s : Following). Steps c.args.self.now e c.in_ok-tree.tree (followed_by s c.in_ok-tree.next c.args.page c.args.moment)) (sym c.self.view_is) (c.in_ok-tree.ensures e moment up page)
+    subst (λ (s : Following). Steps c.args.self.now e c.in_ok-tree.tree (next_state s c.in_ok-tree.next c.args.page c.args.moment)) (sym c.self.view_is) (c.in_ok-tree.ensures e moment up page)

@@ -1,7 +1,7 @@
 use Rattle.std.proofs.Common.{sym, subst, ◌∙◌}
 use Rattle.replay_script.specs.Progresses.{part_found_as, TakesPart, Ends}
 use Rattle.replay_script.proofs.ReadOn.{rest_short, fault_at, stuck_without, stuck_refused, stuck_at_end, read_more, some_left, none_left}
-use Rattle.replay_script.proofs.reading.read.Goals as goal
+use Rattle.replay_script.proofs.reading.read_into.Goals as goal
 
 pub returns-in-None-clause-fault : goal.returns-in-None-clause-fault
 returns-in-None-clause-fault c =
