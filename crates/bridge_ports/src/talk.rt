@@ -65,6 +65,16 @@ impl Address {
             path: self.path.copy()?,
         })
     }
+
+    /// Equal addresses, of the scrapes and of the posts of one pair of wires.
+    pub fn copy_both(scrape: &Address, post: &Address) -> Result<(Address, Address), Memory>
+        ensures scrape { IfOk result (λ copies. copies.0 ≡ scrape.now) }
+        ensures post { IfOk result (λ copies. copies.1 ≡ post.now) }
+    {
+        let scrape = scrape.copy()?;
+        let post = post.copy()?;
+        Ok((scrape, post))
+    }
 }
 
 /// Whose wire it is.

@@ -106,7 +106,7 @@ impl MemoryPairs {
         ensures others { KeepsOthers number (found_pair self.old) (found_pair self.new) }
         ensures kept { OnErr result (self.new ≡ self.old) }
     {
-        let (scrape, post) = both_copies(scrape, post)?;
+        let (scrape, post) = Address::copy_both(scrape, post)?;
         let pair = KeptPair {
             number,
             wires: None,
@@ -135,16 +135,6 @@ impl MemoryPairs {
         let place = place_of(self.kept.as_slice(), &number);
         self.kept[place].wires = Some(wires);
     }
-}
-
-/// Copies of two addresses.
-fn both_copies(scrape: &Address, post: &Address) -> Result<(Address, Address), Memory>
-    ensures scrape { IfOk result (λ copies. copies.0 ≡ scrape.now) }
-    ensures post { IfOk result (λ copies. copies.1 ≡ post.now) }
-{
-    let scrape = scrape.copy()?;
-    let post = post.copy()?;
-    Ok((scrape, post))
 }
 
 /// Takes the wires, which are at home, of the pair at this place, and keeps this pair there.

@@ -6,25 +6,26 @@ ghost use Rattle.bridge_ports.specs.Causes.{HasCause};
 ghost use Rattle.bridge_ports.specs.Edges.{untold};
 ghost use Rattle.bridge_ports.specs.InMemory.{one_more};
 
+use crate::deadline::{Deadline, MOST_WAIT};
 use bridge_ports::std_edge::{StdSink, StdSource};
 use bridge_ports::{Conn, Failed, Sink, Source};
 use std::io;
 use std::marker::Model;
 use std::net::TcpStream;
-use std::time::Duration;
+use std::time::Clock;
 
-/// How many milliseconds a connect, a read or a write stands still at most before it fails.
-pub const MOST_WAIT: u64 = 10_000;
-
-/// A connection to one peer.
+/// A connection to one peer, until its deadline.
 #[derive(Drop)]
-pub struct NetConn {
+pub struct NetConn<R> {
+    machine: R,
     stream: TcpStream,
+    deadline: Deadline,
+    patience: u64,
     reads: u64,
     writes: u64,
 }
 
-impl Model for NetConn {
+impl<R> Model for NetConn<R> {
     ghost use Rattle.std_edge.specs.Machine.{ConnCounts};
 
     ghost Value = { ConnCounts };
@@ -32,20 +33,25 @@ impl Model for NetConn {
     ghost view = { λ c. record { reads = c.reads; writes = c.writes } };
 }
 
-impl NetConn {
+impl<R: Drop> NetConn<R> {
     ghost use Rattle.std_edge.specs.Machine.{no_faults};
 
-    /// A connection over this stream, on which no call stands still for longer than so many milliseconds. What
-    /// is written goes out at once.
-    pub(crate) fn over(stream: TcpStream, wait: u64) -> io::Result<NetConn>
+    /// A connection over this stream, which ends at the deadline, and on which no read stands still for longer than
+    /// so many milliseconds. What is written goes out at once.
+    pub(crate) fn over(
+        machine: R,
+        stream: TcpStream,
+        deadline: Deadline,
+        patience: u64,
+    ) -> io::Result<NetConn<R>>
         ensures { IfOk result (λ conn. conn ≡ no_faults) }
     {
-        let wait = Some(Duration::from_millis(wait));
-        stream.set_read_timeout(wait)?;
-        stream.set_write_timeout(wait)?;
         stream.set_nodelay(true)?;
         Ok(NetConn {
+            machine,
             stream,
+            deadline,
+            patience,
             reads: 0,
             writes: 0,
         })
@@ -66,7 +72,45 @@ impl NetConn {
     }
 }
 
-impl Source for NetConn {
+impl<R: Clock + Drop> NetConn<R> {
+    // Whether there is time left for a read, which then stands still no longer than that.
+    fn may_read(&self) -> bool {
+        let left = self.deadline.left(&self.machine, self.patience);
+        left.is_some() && self.stream.set_read_timeout(left).is_ok()
+    }
+
+    // Whether there is time left for a write, which then stands still no longer than that.
+    fn may_write(&self) -> bool {
+        let left = self.deadline.left(&self.machine, MOST_WAIT);
+        left.is_some() && self.stream.set_write_timeout(left).is_ok()
+    }
+
+    // Reads, where there is time left.
+    fn read_in_time(&self, into: &mut [u8]) -> Result<u32, Failed>
+        requires { 0 < length into.old }
+        ensures bound { ReadsAtMost result into.new }
+        ensures bytes { ReadConsumes untold untold result into.new }
+    {
+        if !self.may_read() {
+            return Err(Failed);
+        }
+        StdSource::new(&self.stream).read(into)
+    }
+
+    // Writes, where there is time left.
+    fn write_in_time(&self, piece: &[u8]) -> Result<u32, Failed>
+        ensures bound { WritesAtMost result piece.now }
+        ensures bytes { WriteAppends untold untold result piece.now }
+        ensures progress { IfOk result (λ count. count ≡ 0 → piece.now ≡ []) }
+    {
+        if !self.may_write() {
+            return Err(Failed);
+        }
+        StdSink::new(&self.stream).write(piece)
+    }
+}
+
+impl<R: Clock + Drop> Source for NetConn<R> {
     ghost left = { λ _. untold };
 
     ghost read_faults = { λ c. c.reads };
@@ -81,7 +125,7 @@ impl Source for NetConn {
         ensures fault { OnErr result (self.new.reads ≡ one_more self.old.reads) }
         ensures writes { self.new.writes ≡ self.old.writes }
     {
-        match StdSource::new(&self.stream).read(into) {
+        match self.read_in_time(into) {
             Ok(count) => Ok(count),
             Err(failed) => {
                 self.reads = self.reads.saturating_add(1);
@@ -91,7 +135,7 @@ impl Source for NetConn {
     }
 }
 
-impl Sink for NetConn {
+impl<R: Clock + Drop> Sink for NetConn<R> {
     ghost held = { λ _. untold };
 
     ghost write_faults = { λ c. c.writes };
@@ -106,7 +150,7 @@ impl Sink for NetConn {
         ensures fault { OnErr result (self.new.writes ≡ one_more self.old.writes) }
         ensures reads { self.new.reads ≡ self.old.reads }
     {
-        match StdSink::new(&self.stream).write(piece) {
+        match self.write_in_time(piece) {
             Ok(count) => Ok(count),
             Err(failed) => {
                 self.writes = self.writes.saturating_add(1);
@@ -116,7 +160,7 @@ impl Sink for NetConn {
     }
 }
 
-impl Conn for NetConn {
+impl<R: Clock + Drop> Conn for NetConn<R> {
     ghost use Rattle.bridge_ports.specs.Connections.{conn_with};
 
     ghost seen = { λ c. conn_with untold untold c.reads c.writes };

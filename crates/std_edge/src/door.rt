@@ -6,10 +6,12 @@ ghost use Rattle.bridge_ports.specs.Edges.{untold};
 ghost use Rattle.bridge_ports.specs.InMemory.{one_more};
 ghost use Rattle.std_edge.specs.Machine.{no_faults};
 
-use crate::conn::{MOST_WAIT, NetConn};
+use crate::conn::NetConn;
+use crate::deadline::{Deadline, MOST_SERVED, MOST_WAIT};
 use bridge_ports::{Door, Failed, Sink, Source};
 use std::marker::Model;
 use std::net::TcpListener;
+use std::time::Clock;
 
 /// How many calls at a door failed, how many connections it handed out, and how many of them came back of which a
 /// read failed, and of which a write failed.
@@ -21,15 +23,16 @@ pub(crate) struct DoorCounts {
     broken_writes: u32,
 }
 
-/// A door at which peers connect over TCP.
+/// A door at which peers connect over TCP. A connection there takes at most [`MOST_SERVED`].
 #[derive(Drop)]
-pub struct NetDoor {
+pub struct NetDoor<R> {
+    machine: R,
     listener: TcpListener,
     counts: DoorCounts,
     out: bool,
 }
 
-impl Model for NetDoor {
+impl<R> Model for NetDoor<R> {
     ghost use Rattle.bridge_ports.specs.Doors.{DoorState};
     ghost use Rattle.std_edge.specs.Machine.{IsDoorCounted};
     ghost use Rattle.std_edge.specs.DoorCounts.{door_seen};
@@ -58,15 +61,16 @@ impl DoorCounts {
     }
 }
 
-impl NetDoor {
+impl<R> NetDoor<R> {
     ghost use Rattle.bridge_ports.specs.Doors.{new_door};
     ghost use Rattle.std_edge.specs.DoorCounts.{door_seen};
 
     /// A door at this listener.
-    pub fn new(listener: TcpListener) -> NetDoor
+    pub fn new(machine: R, listener: TcpListener) -> NetDoor<R>
         ensures { result ≡ new_door None }
     {
         NetDoor {
+            machine,
             listener,
             counts: DoorCounts::none(),
             out: false,
@@ -81,13 +85,13 @@ impl NetDoor {
     }
 }
 
-impl Door for NetDoor {
-    type Conn = NetConn;
+impl<R: Clock + Copy + Send + Drop> Door for NetDoor<R> {
+    type Conn = NetConn<R>;
 
     ghost door = { λ d. d };
 
     /// Waits for a peer, for as long as it takes.
-    fn accept(&mut self) -> Result<NetConn, Failed>
+    fn accept(&mut self) -> Result<NetConn<R>, Failed>
         requires home { self.old.out ≡ false }
         requires few { self.old.handed < most_handed }
         ensures cause { HasCause self.old.faults self.new.faults result }
@@ -96,7 +100,7 @@ impl Door for NetDoor {
 
         ensures fault { OnErr result (self.new.faults ≡ one_more self.old.faults) }
     {
-        match accepted(&self.listener) {
+        match accepted(self.machine, &self.listener) {
             Some(conn) => {
                 self.counts.handed += 1;
                 self.out = true;
@@ -109,7 +113,7 @@ impl Door for NetDoor {
         }
     }
 
-    fn close(&mut self, conn: NetConn)
+    fn close(&mut self, conn: NetConn<R>)
         requires { self.old.out ≡ true }
         ensures { self.new ≡ closed_with conn.reads conn.writes self.old }
     {
@@ -120,11 +124,12 @@ impl Door for NetDoor {
 }
 
 /// The next peer that connects, where that succeeds.
-fn accepted(listener: &TcpListener) -> Option<NetConn>
+fn accepted<R: Clock + Drop>(machine: R, listener: &TcpListener) -> Option<NetConn<R>>
     ensures { IfSome result (λ conn. conn ≡ no_faults) }
 {
     let (stream, _) = listener.accept().ok()?;
-    NetConn::over(stream, MOST_WAIT).ok()
+    let deadline = Deadline::after(&machine, MOST_SERVED);
+    NetConn::over(machine, stream, deadline, MOST_WAIT).ok()
 }
 
 /// A count that isn't 0 counts once.

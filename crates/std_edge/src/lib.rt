@@ -1,16 +1,20 @@
 //! The outside as the machine has it: connections, doors and wires over TCP, and a world of these and of files. They
-//! tell no bytes, and count each call that fails. Where the library lets a limit be set, a call waits at most
-//! [`MOST_WAIT`].
+//! tell no bytes, and count each call that fails. A call stands still at most [`MOST_WAIT`], and a talk as a whole has
+//! a limit too, where the library lets one be set; readings go by a clock that doesn't step.
 #![tactic(auto)]
 
 mod conn;
+mod deadline;
 mod door;
+mod pace;
 mod pairs;
 mod peer;
+mod steady_clock;
 mod wire;
 mod world;
 
-pub use conn::{MOST_WAIT, NetConn};
+pub use conn::NetConn;
+pub use deadline::{MOST_POST, MOST_SCRAPE, MOST_SERVED, MOST_WAIT};
 pub use door::NetDoor;
 pub use wire::{MOST_PEERS, NetWire};
 pub use world::StdWorld;

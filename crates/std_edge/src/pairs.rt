@@ -4,12 +4,14 @@ ghost use Rattle.bridge_ports.specs.Worlds.{IsHome, KeepsOthers};
 ghost use Rattle.std_edge.specs.KeptPairs.{kept_seen};
 ghost use Rattle.std_edge.specs.Pairs.{home_seen, home_in, last_given_in};
 
+use crate::steady_clock::SteadyClock;
 use crate::wire::NetWire;
 use bridge_ports::{Address, Place};
 use label_sets::Memory;
 use std::alloc::Global;
 use std::collections::BTreeMap;
 use std::marker::Model;
+use std::time::Clock;
 
 /// A pair that was handed out: its wires, for scrapes and for posts, where they are at home again, and the
 /// addresses with which it was handed out last.
@@ -54,12 +56,13 @@ impl<R: Drop> NetPairs<R> {
     pub(crate) fn hand_out(
         &mut self,
         machine: R,
+        clock: SteadyClock,
         number: u32,
         scrape: &Address,
         post: &Address,
     ) -> Result<(NetWire<R>, NetWire<R>), Memory>
     where
-        R: Copy,
+        R: Clock + Copy,
         requires { IsSome (home_in self.old number) }
         ensures pair { IfOk result (λ pair. home_in self.old number ≡ Some pair) }
         ensures scrape { IfOk result (λ pair. IsHome number false pair.0) }
@@ -71,15 +74,15 @@ impl<R: Drop> NetPairs<R> {
         ensures other_addresses { KeepsOthers number (last_given_in self.old) (last_given_in self.new) }
         ensures kept { OnErr result (self.new ≡ self.old) }
     {
-        let to_scrape = scrape.copy()?;
-        let to_post = post.copy()?;
+        let (to_scrape, to_post) = Address::copy_both(scrape, post)?;
+        let (scrape, post) = Address::copy_both(scrape, post)?;
         let kept = KeptPair {
             wires: None,
-            scrape: scrape.copy()?,
-            post: post.copy()?,
+            scrape,
+            post,
         };
         let before = self.kept.insert(number, kept)?;
-        Ok(wires_of(machine, number, before, to_scrape, to_post))
+        Ok(wires_of(machine, clock, number, before, to_scrape, to_post))
     }
 
     /// Takes the wires of a pair back that was handed out.
@@ -96,8 +99,9 @@ impl<R: Drop> NetPairs<R> {
 }
 
 /// The wires of a number, to these addresses: those at home of the pair that was kept before, or new ones.
-fn wires_of<R: Copy + Drop>(
+fn wires_of<R: Clock + Copy + Drop>(
     machine: R,
+    clock: SteadyClock,
     number: u32,
     before: Option<KeptPair<R>>,
     scrape: Address,
@@ -114,15 +118,16 @@ fn wires_of<R: Copy + Drop>(
             (scrapes, posts)
         }
         None => (
-            NetWire::new(
+            NetWire::with_clock(
                 machine,
+                clock,
                 Place {
                     number,
                     post: false,
                 },
                 scrape,
             ),
-            NetWire::new(machine, Place { number, post: true }, post),
+            NetWire::with_clock(machine, clock, Place { number, post: true }, post),
         ),
     }
 }

@@ -8,8 +8,11 @@ ghost use Rattle.bridge_ports.specs.declared.talk.Stage.TheVariants as stages;
 ghost use Rattle.bridge_ports.specs.Talks.{made_ready, begun_at, sent_on, after_read, failed_at, left_at};
 ghost use Rattle.std_edge.specs.Machine.{no_faults};
 
-use crate::conn::{MOST_WAIT, NetConn};
+use crate::conn::NetConn;
+use crate::deadline::{Deadline, MOST_POST, MOST_WAIT, nanos};
+use crate::pace::Pace;
 use crate::peer::host_of;
+use crate::steady_clock::SteadyClock;
 use bridge_ports::{Address, Failed, Place, Sink, Source, Wire};
 use label_sets::Memory;
 use std::alloc::Global;
@@ -20,23 +23,22 @@ use std::time::{Clock, Duration};
 /// The most addresses of a host that a connect tries.
 pub const MOST_PEERS: usize = 4;
 
-/// How often a wait for the clock sleeps at most.
-const MOST_SLEEPS: u32 = 100;
-
-/// A client over TCP.
+/// A client over TCP. A scrape takes at most [`MOST_SCRAPE`](crate::MOST_SCRAPE), a post [`MOST_POST`].
 #[derive(Drop)]
 pub struct NetWire<R> {
     machine: R,
+    clock: SteadyClock,
+    pace: Pace,
+    deadline: Deadline,
     place: Place,
     to: Address,
-    wait: u64,
     faults: u64,
     allowed: u32,
     room: u64,
     left: u64,
     reading: u64,
     has_begun: bool,
-    conn: Option<NetConn>,
+    conn: Option<NetConn<R>>,
 }
 
 impl<R> Model for NetWire<R> {
@@ -58,25 +60,37 @@ impl<R> Model for NetWire<R> {
     } };
 }
 
-impl<R> NetWire<R> {
+impl<R: Drop> NetWire<R> {
     ghost use Rattle.std_edge.specs.Machine.{unused_wire};
 
-    /// A wire in this place to this address.
+    /// A wire in this place to this address, whose clock starts now.
     pub fn new(machine: R, place: Place, to: Address) -> NetWire<R>
+    where
+        R: Clock,
         ensures { result ≡ unused_wire place }
     {
-        NetWire::waiting(machine, place, to, MOST_WAIT)
+        let clock = SteadyClock::new(&machine);
+        NetWire::with_clock(machine, clock, place, to)
     }
 
-    /// A wire on which no call stands still for longer than so many milliseconds.
-    pub(crate) fn waiting(machine: R, place: Place, to: Address, wait: u64) -> NetWire<R>
+    /// A wire in this place to this address, with this clock.
+    pub(crate) fn with_clock(
+        machine: R,
+        clock: SteadyClock,
+        place: Place,
+        to: Address,
+    ) -> NetWire<R>
+    where
+        R: Clock,
         ensures { result ≡ unused_wire place }
     {
         NetWire {
+            deadline: Deadline::after(&machine, 0),
             machine,
+            clock,
+            pace: Pace::new(),
             place,
             to,
-            wait,
             faults: 0,
             allowed: 0,
             room: 0,
@@ -92,6 +106,7 @@ impl<R> NetWire<R> {
         ensures { self.new ≡ self.old }
     {
         self.to = to;
+        self.pace = Pace::new();
     }
 
     // Counts a fault, which ends the talk.
@@ -106,7 +121,50 @@ impl<R> NetWire<R> {
     }
 }
 
-impl<R: Net<Listener = TcpListener, Stream = TcpStream> + Clock + Send + Drop> Wire for NetWire<R> {
+impl<R: Clock + Drop> NetWire<R> {
+    // Waits until a talk may begin that is due then, and sets its deadline.
+    fn wait(&mut self, due: u64)
+        ensures { self.new ≡ self.old }
+    {
+        let begin = self.earliest(due);
+        if let Some(at) = self.clock.wait(&self.machine, begin) {
+            self.reading = at;
+        }
+        self.pace.begin(self.reading);
+        self.deadline = Deadline::after(&self.machine, self.most());
+    }
+
+    // When a talk begins at the earliest that is due then.
+    fn earliest(&mut self, due: u64) -> u64
+        ensures { self.new ≡ self.old }
+    {
+        if self.place.post {
+            return due;
+        }
+        self.pace.next(due)
+    }
+
+    // How many milliseconds the talk takes at most.
+    fn most(&self) -> u64 {
+        if self.place.post {
+            return MOST_POST;
+        }
+        self.pace.most()
+    }
+
+    // How many milliseconds a read stands still at most.
+    fn patience(&self) -> u64 {
+        if self.place.post {
+            return MOST_POST;
+        }
+        MOST_WAIT
+    }
+}
+
+impl<R> Wire for NetWire<R>
+where
+    R: Net<Listener = TcpListener, Stream = TcpStream> + Clock + Copy + Send + Drop,
+{
     ghost state = { λ w. w };
 
     fn ready(&mut self, _alloc: Global, count: u32, room: u64) -> Result<(), Memory> {
@@ -115,11 +173,10 @@ impl<R: Net<Listener = TcpListener, Stream = TcpStream> + Clock + Send + Drop> W
         Ok(())
     }
 
-    /// Where the clock can't be read, or a sleep is cut short too often, it answers the reading before, 0 at first.
+    /// At least half an interval lies between the beginnings of two scrapes. Where the clock can't be read, or a sleep
+    /// is cut short too often, it answers the reading before, 0 at first.
     fn begin(&mut self, due: u64) -> u64 {
-        if let Some(at) = due_reading(&self.machine, due) {
-            self.reading = at;
-        }
+        self.wait(due);
         self.allowed -= 1;
         self.left = self.room;
         self.has_begun = true;
@@ -135,7 +192,7 @@ impl<R: Net<Listener = TcpListener, Stream = TcpStream> + Clock + Send + Drop> W
 
         ensures fault { OnErr result (self.new.faults ≡ one_more self.old.faults) }
     {
-        match connected(&self.machine, &self.to, self.wait) {
+        match connected(self.machine, &self.to, self.deadline, self.patience()) {
             Some(conn) => {
                 self.conn = Some(conn);
                 Ok(())
@@ -190,37 +247,34 @@ impl<R: Net<Listener = TcpListener, Stream = TcpStream> + Clock + Send + Drop> W
     }
 }
 
-/// A connection to the first of the host's addresses that answers. They share so many milliseconds.
-fn connected<R: Net<Listener = TcpListener, Stream = TcpStream>>(
-    net: &R,
+/// A connection to the first of the host's addresses that answers. They share what a connect may take.
+fn connected<R: Net<Listener = TcpListener, Stream = TcpStream> + Clock + Drop>(
+    machine: R,
     to: &Address,
-    wait: u64,
-) -> Option<NetConn>
+    deadline: Deadline,
+    patience: u64,
+) -> Option<NetConn<R>>
     ensures { IfSome result (λ conn. conn ≡ no_faults) }
 {
     let host = host_of(to)?;
     let mut found = [SocketAddr::from((Ipv4Addr::UNSPECIFIED, 0)); MOST_PEERS];
-    let count = net.lookup_host(host, to.port, &mut found).ok()?;
-    let each = Duration::from_millis(wait / count.max(1) as u64);
-    for peer in &found[..count] {
-        if let Ok(stream) = net.connect_timeout(*peer, each) {
-            return NetConn::over(stream, wait).ok();
-        }
-    }
-    None
+    let count = machine.lookup_host(host, to.port, &mut found).ok()?;
+    let left = deadline.left(&machine, MOST_WAIT)?;
+    let stream = stream_to(&machine, &found[..count], left)?;
+    NetConn::over(machine, stream, deadline, patience).ok()
 }
 
-/// Sleeps until the clock reads `due` at least, in nanoseconds since the Unix epoch, and answers the reading.
-fn due_reading<R: Clock>(clock: &R, due: u64) -> Option<u64>
-    ensures { IfSome result (λ at. due ≤ at) }
-{
-    for _ in 0..MOST_SLEEPS {
-        let since = clock.since_1970().ok()?;
-        let now = since.as_nanos().min(u64::MAX as u128) as u64;
-        if now >= due {
-            return Some(now);
+/// A stream to the first of these peers that answers. They share this time.
+fn stream_to<R: Net<Listener = TcpListener, Stream = TcpStream>>(
+    net: &R,
+    peers: &[SocketAddr],
+    time: Duration,
+) -> Option<TcpStream> {
+    let each = Duration::from_nanos(nanos(time) / peers.len().max(1) as u64);
+    for peer in peers {
+        if let Ok(stream) = net.connect_timeout(*peer, each) {
+            return Some(stream);
         }
-        clock.sleep(Duration::from_nanos(due - now));
     }
     None
 }

@@ -7,6 +7,7 @@ ghost use Rattle.bridge_ports.specs.InMemory.{one_more};
 use crate::door::{DoorCounts, NetDoor};
 use crate::pairs::NetPairs;
 use crate::peer::host_of;
+use crate::steady_clock::SteadyClock;
 use crate::wire::NetWire;
 use bridge_ports::std_edge::StdSource;
 use bridge_ports::{Address, Failed, MemoryWire, Source, World};
@@ -21,6 +22,7 @@ use std::time::Clock;
 #[derive(Drop)]
 pub struct StdWorld<R> {
     machine: R,
+    clock: SteadyClock,
     pairs: NetPairs<R>,
     file: Option<File>,
     file_faults: u64,
@@ -47,14 +49,17 @@ impl<R> Model for StdWorld<R> {
     } };
 }
 
-impl<R> StdWorld<R> {
+impl<R: Drop> StdWorld<R> {
     ghost use Rattle.std_edge.specs.World.{new_machine};
 
-    /// The world of this machine, of which nothing was asked yet.
+    /// The world of this machine, of which nothing was asked yet. The clock of its wires starts now.
     pub fn new(machine: R, alloc: Global) -> StdWorld<R>
+    where
+        R: Clock,
         ensures { result ≡ new_machine }
     {
         StdWorld {
+            clock: SteadyClock::new(&machine),
             machine,
             pairs: NetPairs::new(alloc),
             file: None,
@@ -100,7 +105,7 @@ where
 
     type Wire = NetWire<R>;
 
-    type Door = NetDoor;
+    type Door = NetDoor<R>;
 
     ghost world = { machine_world };
 
@@ -159,7 +164,8 @@ where
         scrape: &Address,
         post: &Address,
     ) -> Result<(NetWire<R>, NetWire<R>), Memory> {
-        match self.pairs.hand_out(self.machine, number, scrape, post) {
+        let (machine, clock) = (self.machine, self.clock);
+        match self.pairs.hand_out(machine, clock, number, scrape, post) {
             Ok(pair) => Ok(pair),
             Err(memory) => Err(memory),
         }
@@ -170,7 +176,7 @@ where
     }
 
     /// A door at the first address of the host that can be had.
-    fn door(&mut self, at: Address) -> Result<NetDoor, Failed>
+    fn door(&mut self, at: Address) -> Result<NetDoor<R>, Failed>
         requires { self.old.door_at ≡ None }
         ensures cause { HasCause self.old.door_faults self.new.door_faults result }
         ensures asked { machine_world self.new ≡ record (machine_world self.old)
@@ -186,13 +192,13 @@ where
         let listener = listener_at(&self.machine, &at);
         self.door_at = Some(at);
         match listener {
-            Some(listener) => Ok(NetDoor::new(listener)),
+            Some(listener) => Ok(NetDoor::new(self.machine, listener)),
             None => Err(self.fail_door()),
         }
     }
 
     /// No peer connects there from now on.
-    fn door_back(&mut self, door: NetDoor) {
+    fn door_back(&mut self, door: NetDoor<R>) {
         self.back_door = door.counts();
     }
 

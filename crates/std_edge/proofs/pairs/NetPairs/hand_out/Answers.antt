@@ -47,7 +47,7 @@ returns-clause-out g c = ap (home_seen c.args.number) (here_seen c.self.inside.k
 pub returns-clause-addresses : goal.returns-clause-addresses
 returns-clause-addresses g c =
     ap (option_map addresses_of) (here_seen c.self.inside.kept c.insert.new.self c.args.number _ c.in_ok-before.ensures.updates)
-    ∙ (λ i. Some (record { scrape = c.in_ok-copy.ensures i; post = c.in_ok-copy-2.ensures i }))
+    ∙ (λ i. Some (record { scrape = c.in_ok-scrape.ensures.scrape i; post = c.in_ok-scrape.ensures.post i }))
 
 pub returns-clause-others : goal.returns-clause-others
 returns-clause-others g c = λ m other.
