@@ -45,13 +45,22 @@ fn found_in(table: &ByteTable) -> (Option<usize>, Option<usize>, bool) {
     )
 }
 
+/// Whether a table answers right in front of two strings, as they are put in, and behind them, and has no more.
+fn are_kept_once(alloc: Global) -> Result<[bool; 4], AllocError> {
+    let mut table = ByteTable::new(alloc);
+    let none = table.find(b"").is_none();
+    let put_in = two_put_in(&mut table, b"one", b"")?;
+    Ok([
+        none,
+        put_in == [None, None, Some(0)],
+        found_in(&table) == (Some(1), None, true),
+        table.len() == 2 && table.get(2).is_none(),
+    ])
+}
+
 #[test]
 fn strings_are_kept_once(rt: HostRuntime) -> Result<(), Fail> {
-    let mut table = ByteTable::new(rt.alloc());
-    assert_eq!(rt; table.find(b""), None);
-    assert_eq!(rt; two_put_in(&mut table, b"one", b"")?, [None, None, Some(0)]);
-    assert_eq!(rt; found_in(&table), (Some(1), None, true));
-    assert_eq!(rt; (table.len(), table.get(2).is_none()), (2, true));
+    assert!(rt; are_kept_once(rt.alloc())? == [true; 4]);
     Ok(())
 }
 
@@ -66,22 +75,42 @@ fn string(alloc: Global, words: &[u64], number: u64) -> Result<Vec<u8>, AllocErr
     Ok(string)
 }
 
+/// Puts such a string in, and answers where it was, if it was in.
+fn put_in(
+    alloc: Global,
+    table: &mut ByteTable,
+    words: &[u64],
+    number: u64,
+) -> Result<Option<usize>, AllocError> {
+    let string = string(alloc, words, number)?;
+    table.insert(string.as_slice())
+}
+
 /// A table of forty strings that begin with these words.
 fn forty(alloc: Global, words: &[u64]) -> Result<ByteTable, AllocError> {
     let mut table = ByteTable::new(alloc);
     for number in 0..40 {
-        let string = string(alloc, words, number)?;
-        let _found = table.insert(string.as_slice())?;
+        put_in(alloc, &mut table, words, number)?;
     }
     Ok(table)
+}
+
+/// Where a table finds such a string.
+fn place(
+    alloc: Global,
+    table: &ByteTable,
+    words: &[u64],
+    number: u64,
+) -> Result<Option<usize>, AllocError> {
+    let string = string(alloc, words, number)?;
+    Ok(table.find(string.as_slice()))
 }
 
 /// How many of fifty such strings a table finds at their numbers.
 fn found(alloc: Global, table: &ByteTable, words: &[u64]) -> Result<usize, AllocError> {
     let mut found = 0usize;
     for number in 0..50 {
-        let string = string(alloc, words, number)?;
-        if table.find(string.as_slice()) == Some(number as usize) {
+        if place(alloc, table, words, number)? == Some(number as usize) {
             found = found.saturating_add(1);
         }
     }
@@ -92,37 +121,40 @@ fn found(alloc: Global, table: &ByteTable, words: &[u64]) -> Result<usize, Alloc
 fn kept(alloc: Global, words: &[u64]) -> Result<(usize, usize, Option<usize>), AllocError> {
     let mut table = forty(alloc, words)?;
     let found = found(alloc, &table, words)?;
-    let known = string(alloc, words, 7)?;
-    let place = table.insert(known.as_slice())?;
+    let place = put_in(alloc, &mut table, words, 7)?;
     Ok((table.len(), found, place))
 }
 
+const BEGINNINGS: [&[u64]; 3] = [&SAME_HASH, &SAME_FOLDED, &HONEST];
+
 #[test]
 fn strings_are_found_whatever_their_hashes(rt: HostRuntime) -> Result<(), Fail> {
-    for words in [
-        SAME_HASH.as_slice(),
-        SAME_FOLDED.as_slice(),
-        HONEST.as_slice(),
-    ] {
-        assert_eq!(rt; kept(rt.alloc(), words)?, (40, 40, Some(7)));
+    for words in &BEGINNINGS {
+        assert!(rt; kept(rt.alloc(), words)? == (40, 40, Some(7)));
     }
     Ok(())
 }
 
-/// Whether a table finds a string, and where, once one was put in that shares its second hash.
-fn second_put_in(table: &mut ByteTable) -> Result<(Option<usize>, Option<usize>), AllocError> {
+/// Where a table finds the second of two strings that share their second hash, once the first was put in; where it
+/// finds the first, once both were; and where the second was, as it is put in once more.
+fn second_put_in(table: &mut ByteTable) -> Result<[Option<usize>; 3], AllocError> {
     let [first, second] = SAME_SECOND;
     table.insert(&first.to_le_bytes())?;
     let unknown = table.find(&second.to_le_bytes());
     table.insert(&second.to_le_bytes())?;
-    Ok((unknown, table.find(&first.to_le_bytes())))
+    let found = table.find(&first.to_le_bytes());
+    let known = table.insert(&second.to_le_bytes())?;
+    Ok([unknown, found, known])
+}
+
+/// The same, where forty strings stand in the table that share their hash.
+fn second_behind_forty(alloc: Global) -> Result<[Option<usize>; 3], AllocError> {
+    let mut table = forty(alloc, &SAME_HASH)?;
+    second_put_in(&mut table)
 }
 
 #[test]
 fn strings_are_found_where_second_hashes_collide(rt: HostRuntime) -> Result<(), Fail> {
-    let mut table = forty(rt.alloc(), &SAME_HASH)?;
-    assert_eq!(rt; second_put_in(&mut table)?, (None, Some(40)));
-    let [_, second] = SAME_SECOND;
-    assert_eq!(rt; table.insert(&second.to_le_bytes())?, Some(41));
+    assert!(rt; second_behind_forty(rt.alloc())? == [None, Some(40), Some(41)]);
     Ok(())
 }

@@ -3,12 +3,16 @@ use label_sets::{Kind, Label, LabelFault, LabelSet, List, Name, SeriesKey, Text}
 use std::alloc::{AllocError, Global};
 use std::collections::{BTreeMap, BTreeSet, HashMap};
 
+fn label(alloc: Global, name: &str, value: &str) -> Result<Label, AllocError> {
+    let name = Name::from_str(alloc, name)?;
+    let value = Text::from_str(alloc, value)?;
+    Ok(Label { name, value })
+}
+
 fn pairs(alloc: Global, written: &[(&str, &str)]) -> Result<Vec<Label>, AllocError> {
     let mut labels = Vec::new(alloc);
     for (name, value) in written {
-        let name = Name::from_str(alloc, name)?;
-        let value = Text::from_str(alloc, value)?;
-        labels.push(Label { name, value })?;
+        labels.push(label(alloc, name, value)?)?;
     }
     Ok(labels)
 }
@@ -31,35 +35,42 @@ fn shown(alloc: Global, set: &LabelSet) -> Result<String, AllocError> {
     Ok(text)
 }
 
-/// The labels of a set that is built of these.
-fn built(alloc: Global, written: &[(&str, &str)]) -> Result<String, LabelFault> {
+/// Whether a set that is built of these labels has those.
+fn is_built(alloc: Global, written: &[(&str, &str)], expected: &str) -> Result<bool, LabelFault> {
     let set = set(alloc, written)?;
-    Ok(shown(alloc, &set)?)
+    Ok(shown(alloc, &set)?.as_str() == expected)
 }
+
+const BUILT: [&[(&str, &str)]; 2] = [
+    &[("b", "1"), ("a", "2"), ("c", "")],
+    &[("a", "2"), ("b", "1")],
+];
 
 #[test]
 fn sets_are_sorted_without_empty_values(rt: HostRuntime) -> Result<(), LabelFault> {
-    for written in [
-        [("b", "1"), ("a", "2"), ("c", "")].as_slice(),
-        [("a", "2"), ("b", "1")].as_slice(),
-    ] {
-        let built = built(rt.alloc(), written)?;
-        assert_eq!(rt; built.as_str(), "a=2,b=1");
+    for written in &BUILT {
+        assert!(rt; is_built(rt.alloc(), written, "a=2,b=1")?);
     }
     Ok(())
 }
 
-/// Whether a set equals its copy, and one that was built with an empty value more.
+/// Whether a set equals its copy.
+fn equals_its_copy(set: &LabelSet) -> Result<bool, LabelFault> {
+    let copy = set.copy()?;
+    Ok(*set == copy)
+}
+
+/// Whether a set equals one that was built with an empty value more, and its copy.
 fn equals_its_copies(alloc: Global) -> Result<[bool; 2], LabelFault> {
     let first = set(alloc, &[("b", "1"), ("a", "2")])?;
+    let is_copied = equals_its_copy(&first)?;
     let second = set(alloc, &[("a", "2"), ("b", "1"), ("c", "")])?;
-    let copy = first.copy()?;
-    Ok([first == second, first == copy])
+    Ok([first == second, is_copied])
 }
 
 #[test]
 fn sets_of_the_same_labels_are_equal(rt: HostRuntime) -> Result<(), LabelFault> {
-    assert_eq!(rt; equals_its_copies(rt.alloc())?, [true, true]);
+    assert!(rt; equals_its_copies(rt.alloc())? == [true, true]);
     Ok(())
 }
 
@@ -78,14 +89,14 @@ fn are_without(alloc: Global) -> Result<[bool; 4], LabelFault> {
 
 #[test]
 fn a_label_is_left_out(rt: HostRuntime) -> Result<(), LabelFault> {
-    assert_eq!(rt; are_without(rt.alloc())?, [true, true, false, false]);
+    assert!(rt; are_without(rt.alloc())? == [true, true, false, false]);
     Ok(())
 }
 
-/// The labels of a set of these, as those of a page are renamed.
-fn renamed(alloc: Global, written: &[(&str, &str)]) -> Result<String, LabelFault> {
+/// Whether the labels of a set of these, as those of a page are renamed, are those.
+fn is_renamed(alloc: Global, written: &[(&str, &str)], expected: &str) -> Result<bool, LabelFault> {
     let renamed = set(alloc, written)?.renamed(alloc)?;
-    Ok(shown(alloc, &renamed)?)
+    Ok(shown(alloc, &renamed)?.as_str() == expected)
 }
 
 // Labels of a page, and what they become.
@@ -108,20 +119,24 @@ const RENAMED: [(&[(&str, &str)], &str); 3] = [
 
 #[test]
 fn labels_of_the_target_are_renamed(rt: HostRuntime) -> Result<(), LabelFault> {
-    for (written, shown) in &RENAMED {
-        let renamed = renamed(rt.alloc(), written)?;
-        assert_eq!(rt; renamed.as_str(), *shown);
+    for (written, expected) in &RENAMED {
+        assert!(rt; is_renamed(rt.alloc(), written, expected)?, "{expected}");
     }
     Ok(())
+}
+
+/// A label whose name has this number.
+fn numbered(alloc: Global, number: u32) -> Result<Label, AllocError> {
+    let name = Name::from_string(format!(in alloc; "l{number:03}")?)?;
+    let value = Text::from_str(alloc, "v")?;
+    Ok(Label { name, value })
 }
 
 /// So many labels, the last names first.
 fn many(alloc: Global, count: u32) -> Result<Vec<Label>, AllocError> {
     let mut labels = Vec::new(alloc);
-    for n in (0..count).rev() {
-        let name = Name::from_string(format!(in alloc; "l{n:03}")?)?;
-        let value = Text::from_str(alloc, "v")?;
-        labels.push(Label { name, value })?;
+    for number in (0..count).rev() {
+        labels.push(numbered(alloc, number)?)?;
     }
     Ok(labels)
 }
@@ -138,44 +153,48 @@ fn of_many(alloc: Global, count: u32) -> Result<(usize, bool), LabelFault> {
 
 #[test]
 fn a_set_has_64_labels_at_most(rt: HostRuntime) -> Result<(), LabelFault> {
-    assert_eq!(rt; of_many(rt.alloc(), 64)?, (64, true));
-    assert_eq!(rt; of_many(rt.alloc(), 65).err(), Some(LabelFault::TooMany));
+    assert!(rt; of_many(rt.alloc(), 64)? == (64, true));
+    assert!(rt; of_many(rt.alloc(), 65).err() == Some(LabelFault::TooMany));
     Ok(())
 }
 
 /// Forty labels, and one of a name that one of them has.
 fn one_twice(alloc: Global) -> Result<Vec<Label>, AllocError> {
     let mut labels = many(alloc, 40)?;
-    let name = Name::from_str(alloc, "l036")?;
-    let value = Text::from_str(alloc, "v")?;
-    labels.push(Label { name, value })?;
+    labels.push(numbered(alloc, 36)?)?;
     Ok(labels)
+}
+
+/// The fault of many labels of which a name comes twice, and that of a few.
+fn twice(alloc: Global) -> Result<[Option<LabelFault>; 2], LabelFault> {
+    let many = LabelSet::build(alloc, one_twice(alloc)?, 64).err();
+    let few = set(alloc, &[("a", ""), ("b", "1"), ("a", "2"), ("b", "3")]).err();
+    Ok([many, few])
 }
 
 #[test]
 fn a_name_comes_once(rt: HostRuntime) -> Result<(), LabelFault> {
-    let alloc = rt.alloc();
-    let twice = LabelSet::build(alloc, one_twice(alloc)?, 64);
-    assert_eq!(rt; twice.err(), Some(LabelFault::Twice(40)));
-    let few = set(alloc, &[("a", ""), ("b", "1"), ("a", "2"), ("b", "3")]);
-    assert_eq!(rt; few.err(), Some(LabelFault::Twice(2)));
+    let expected = [Some(LabelFault::Twice(40)), Some(LabelFault::Twice(2))];
+    assert!(rt; twice(rt.alloc())? == expected);
     Ok(())
 }
 
 fn key(alloc: Global, name: &str, kind: Kind, value: &str) -> Result<SeriesKey, LabelFault> {
+    let name = Name::from_str(alloc, name)?;
+    let labels = set(alloc, &[("a", value)])?;
     Ok(SeriesKey {
-        name: Name::from_str(alloc, name)?,
+        name,
         kind,
-        unit: Text::from_str(alloc, "")?,
-        labels: set(alloc, &[("a", value)])?,
+        unit: Text::empty(),
+        labels,
     })
 }
 
 // Names and kinds of series, the last of which stands first in a map.
 const SERIES: [(&str, Kind); 3] = [("b", Kind::Gauge), ("a", Kind::Gauge), ("a", Kind::Counter)];
 
-/// Which of the series has this name, this kind and a label of this value, by a map in order.
-fn place_in_order(alloc: Global, value: &str) -> Result<Option<u32>, LabelFault> {
+/// The places of the series, by a map in order.
+fn places_in_order(alloc: Global) -> Result<BTreeMap<SeriesKey, u32>, LabelFault> {
     let mut places = BTreeMap::new(alloc);
     let mut count = 0u32;
     for (name, kind) in &SERIES {
@@ -184,12 +203,11 @@ fn place_in_order(alloc: Global, value: &str) -> Result<Option<u32>, LabelFault>
         }
         count = count.wrapping_add(1);
     }
-    let sought = key(alloc, "a", Kind::Counter, value)?;
-    Ok(places.get(&sought).copied())
+    Ok(places)
 }
 
 /// The same by a table of hashes.
-fn place_by_hash(alloc: Global, value: &str) -> Result<Option<u32>, LabelFault> {
+fn places_by_hash(alloc: Global) -> Result<HashMap<SeriesKey, u32>, LabelFault> {
     let mut places = HashMap::new(alloc);
     let mut count = 0u32;
     for (name, kind) in &SERIES {
@@ -198,28 +216,39 @@ fn place_by_hash(alloc: Global, value: &str) -> Result<Option<u32>, LabelFault> 
         }
         count = count.wrapping_add(1);
     }
+    Ok(places)
+}
+
+/// Which of the series is the counter with a label of this value, by each of the two.
+fn places(alloc: Global, value: &str) -> Result<[Option<u32>; 2], LabelFault> {
     let sought = key(alloc, "a", Kind::Counter, value)?;
-    Ok(places.get(&sought).copied())
+    let in_order = places_in_order(alloc)?.get(&sought).copied();
+    let by_hash = places_by_hash(alloc)?.get(&sought).copied();
+    Ok([in_order, by_hash])
 }
 
 #[test]
 fn keys_of_maps(rt: HostRuntime) -> Result<(), LabelFault> {
-    for (value, place) in [("1", Some(2)), ("2", None)] {
-        assert_eq!(rt; place_in_order(rt.alloc(), value)?, place);
-        assert_eq!(rt; place_by_hash(rt.alloc(), value)?, place);
-    }
+    assert!(rt; places(rt.alloc(), "1")? == [Some(2), Some(2)]);
+    assert!(rt; places(rt.alloc(), "2")? == [None, None]);
     Ok(())
 }
 
-/// Whether the first of the series in order is that of the lesser name and the lesser kind.
-fn is_first_by_name_and_kind(alloc: Global) -> Result<bool, LabelFault> {
+/// The keys of the series in order.
+fn keys_in_order(alloc: Global) -> Result<BTreeSet<SeriesKey>, LabelFault> {
     let mut keys = BTreeSet::new(alloc);
     for (name, kind) in &SERIES {
         if keys.insert(key(alloc, name, *kind, "1")?).is_err() {
             return Err(LabelFault::Memory);
         }
     }
+    Ok(keys)
+}
+
+/// Whether the first of the series in order is that of the lesser name and the lesser kind.
+fn is_first_by_name_and_kind(alloc: Global) -> Result<bool, LabelFault> {
     let least = key(alloc, "a", Kind::Counter, "1")?;
+    let keys = keys_in_order(alloc)?;
     Ok(keys.iter().next() == Some(&least))
 }
 
@@ -238,8 +267,8 @@ fn length_of_text(alloc: Global, bytes: &[u8]) -> Result<Option<usize>, AllocErr
 #[test]
 fn texts_of_bytes(rt: HostRuntime) -> Result<(), AllocError> {
     let alloc = rt.alloc();
-    assert_eq!(rt; length_of_text(alloc, &[0x71, 0xc3, 0xa9])?, Some(2));
-    assert_eq!(rt; length_of_text(alloc, &[0x61, 0xff])?, None);
+    assert!(rt; length_of_text(alloc, &[0x71, 0xc3, 0xa9])? == Some(2));
+    assert!(rt; length_of_text(alloc, &[0x61, 0xff])?.is_none());
     Ok(())
 }
 
@@ -254,38 +283,55 @@ fn names_are_told(alloc: Global) -> Result<[bool; 2], AllocError> {
 
 #[test]
 fn names_of_bytes(rt: HostRuntime) -> Result<(), AllocError> {
-    assert_eq!(rt; names_are_told(rt.alloc())?, [true, true]);
+    assert!(rt; names_are_told(rt.alloc())? == [true, true]);
     Ok(())
+}
+
+/// The copy of a list of one value.
+fn copied(alloc: Global) -> Result<List<u64>, AllocError> {
+    List::from_vec(vec![in alloc; 7]?)?.copy()
 }
 
 #[test]
 fn a_copy_of_a_list_has_its_values(rt: HostRuntime) -> Result<(), AllocError> {
-    let copies = List::from_vec(vec![in rt.alloc(); 7u64]?)?.copy()?;
-    assert_eq!(rt; copies.as_slice(), [7].as_slice());
+    let copies = copied(rt.alloc())?;
+    assert!(rt; copies.as_slice() == [7].as_slice());
     Ok(())
 }
 
-/// Whether a text stays what it was, made and copied in each way.
-fn stays(alloc: Global, text: &str) -> Result<bool, AllocError> {
-    let name = Name::from_utf8(alloc, text.as_bytes())?;
-    let same_name = name.copy()?.as_str() == text;
-    let first = name.into_text();
-    let second = Text::from_string(String::from_str(alloc, text)?)?;
-    let third = Text::from_utf8(alloc, text.as_bytes())?.copy()?;
-    let same_text = first.as_str() == text && first == second && second == third;
-    Ok(same_name && same_text && third.len() == text.len())
+/// Whether a text is that of a name of these bytes, which is copied.
+fn is_of_name(alloc: Global, text: &Text, expected: &str) -> Result<bool, AllocError> {
+    let name = Name::from_utf8(alloc, expected.as_bytes())?;
+    let is_copied = name.copy()?.as_str() == expected;
+    let named = name.into_text();
+    Ok(is_copied && named == *text)
 }
+
+/// Whether a text is the copy of one of these bytes.
+fn is_copied(alloc: Global, text: &Text, expected: &str) -> Result<bool, AllocError> {
+    let copy = Text::from_utf8(alloc, expected.as_bytes())?.copy()?;
+    Ok(copy.as_str() == expected && copy.len() == expected.len() && *text == copy)
+}
+
+/// Whether a text stays what it was, made and copied in each way.
+fn stays(alloc: Global, text: &str) -> Result<[bool; 2], AllocError> {
+    let made = Text::from_string(String::from_str(alloc, text)?)?;
+    let is_name = is_of_name(alloc, &made, text)?;
+    let is_text = is_copied(alloc, &made, text)?;
+    Ok([is_name, is_text])
+}
+
+const TEXTS: [&str; 4] = [
+    "",
+    "qé",
+    "just twenty-eight bytes ....",
+    "just twenty-nine bytes ......",
+];
 
 #[test]
 fn texts_of_any_length(rt: HostRuntime) -> Result<(), AllocError> {
-    let alloc = rt.alloc();
-    for text in [
-        "",
-        "qé",
-        "just twenty-eight bytes ....",
-        "just twenty-nine bytes ......",
-    ] {
-        assert!(rt; stays(alloc, text)?, "{text}");
+    for text in &TEXTS {
+        assert!(rt; stays(rt.alloc(), text)? == [true, true], "{text}");
     }
     Ok(())
 }

@@ -34,31 +34,37 @@ fn fronts(rt: HostRuntime) {
     assert!(rt; is_word(b"HELP", "HELP") && !is_word(b"HELP ", "HELP"));
 }
 
-fn unescaped(alloc: Global, escapes: Escapes, written: &str) -> Result<String, Memory> {
+/// Whether this text stands for that one.
+fn is_unescaped(
+    alloc: Global,
+    escapes: Escapes,
+    written: &str,
+    expected: &str,
+) -> Result<bool, Memory> {
     let bytes = written.as_bytes();
     let text = unescaped_text(alloc, escapes, bytes, has_backslash(bytes))?;
-    String::from_str(alloc, text.as_str())
+    Ok(text.as_str() == expected)
 }
+
+const ESCAPED: [(Escapes, &str, &str); 3] = [
+    (Escapes::Help, "a\\n\\\\\\\"b", "a\n\\\\\"b"),
+    (Escapes::Quoted, "a\\n\\\\\\\"b\\", "a\n\\\"b\\"),
+    (Escapes::Quoted, "\u{e9}", "\u{e9}"),
+];
 
 #[test]
 fn escapes(rt: HostRuntime) -> Result<(), Memory> {
-    assert_eq!(rt;
-        unescaped(rt.alloc(), Escapes::Help, "a\\n\\\\\\\"b")?.as_str(),
-        "a\n\\\\\"b"
-    );
-    assert_eq!(rt;
-        unescaped(rt.alloc(), Escapes::Quoted, "a\\n\\\\\\\"b\\")?.as_str(),
-        "a\n\\\"b\\"
-    );
-    assert_eq!(rt;
-        unescaped(rt.alloc(), Escapes::Quoted, "\u{e9}")?.as_str(),
-        "\u{e9}"
-    );
+    for (escapes, written, expected) in &ESCAPED {
+        assert!(rt;
+            is_unescaped(rt.alloc(), *escapes, written, expected)?,
+            "{written}"
+        );
+    }
     Ok(())
 }
 
 #[test]
-fn labels(rt: HostRuntime) -> Result<(), Memory> {
+fn quoted_values(rt: HostRuntime) {
     let quoted = quoted_at(b"x\\\"y\",z").expect(&rt, "a value");
     assert!(rt; quoted.written == b"x\\\"y".as_slice() && quoted.has_backslash);
     let more = match after_label(quoted.rest) {
@@ -66,17 +72,30 @@ fn labels(rt: HostRuntime) -> Result<(), Memory> {
         _ => b"".as_slice(),
     };
     assert!(rt; more == b"z".as_slice());
-    let name = cut_name::<LabelChar>(b"a").expect(&rt, "a name");
+}
+
+/// How many labels the set of one label has.
+fn size_of_one(alloc: Global) -> Result<Option<usize>, Memory> {
+    let Some(name) = cut_name::<LabelChar>(b"a") else {
+        return Ok(None);
+    };
     let parts = LabelParts {
         name: name.front,
         written: b"v",
         has_backslash: has_backslash(b"v"),
-        rest: more,
+        rest: b"",
     };
-    let mut labels = vec![in rt.alloc()]?;
-    labels.push(label_of(rt.alloc(), parts)?)?;
-    let own = own_labels(rt.alloc(), &mut labels)?;
-    let set = set_of(rt.alloc(), Treatment::Scraped, own)?.expect(&rt, "a set");
-    assert_eq!(rt; set.len(), 1);
+    let mut labels = Vec::new(alloc);
+    labels.push(label_of(alloc, parts)?)?;
+    let own = own_labels(alloc, &mut labels)?;
+    match set_of(alloc, Treatment::Scraped, own)? {
+        Some(set) => Ok(Some(set.len())),
+        None => Ok(None),
+    }
+}
+
+#[test]
+fn labels(rt: HostRuntime) -> Result<(), Memory> {
+    assert!(rt; size_of_one(rt.alloc())? == Some(1));
     Ok(())
 }

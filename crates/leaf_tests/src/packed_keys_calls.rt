@@ -4,18 +4,26 @@ use packed_keys::{Keys, SampleKey, SeenKeys, SeenNames, SeenSets, SeriesPlaces};
 use std::alloc::{AllocError, Global};
 use std::test::Fail;
 
-/// The set of labels that are written as `name=value`, with a blank between two.
-fn set(alloc: Global, written: &str) -> Result<LabelSet, Memory> {
+/// A label that is written as `name=value`.
+fn label(alloc: Global, written: &str) -> Result<Label, Memory> {
+    let (name, value) = written.split_once('=').unwrap_or((written, ""));
+    let name = Name::from_str(alloc, name)?;
+    let value = Text::from_str(alloc, value)?;
+    Ok(Label { name, value })
+}
+
+/// The labels that are written so, with a blank between two.
+fn labels(alloc: Global, written: &str) -> Result<Vec<Label>, Memory> {
     let mut labels = Vec::new(alloc);
     for pair in written.split_whitespace() {
-        if let Some((name, value)) = pair.split_once('=') {
-            labels.push(Label {
-                name: Name::from_str(alloc, name)?,
-                value: Text::from_str(alloc, value)?,
-            })?;
-        }
+        labels.push(label(alloc, pair)?)?;
     }
-    match LabelSet::build(alloc, labels, 64) {
+    Ok(labels)
+}
+
+/// Their set.
+fn set(alloc: Global, written: &str) -> Result<LabelSet, Memory> {
+    match LabelSet::build(alloc, labels(alloc, written)?, 64) {
         Ok(set) => Ok(set),
         Err(_) => Err(AllocError),
     }
@@ -55,13 +63,22 @@ fn read_back(alloc: Global, keys: &mut Keys) -> Result<[bool; 3], Memory> {
     Ok([first, last, end])
 }
 
+/// Whether three of four keys are new and counted, and are read back.
+fn are_seen_once(alloc: Global) -> Result<[bool; 3], Memory> {
+    let mut seen = SeenKeys::new(alloc);
+    let new = four_put_in(alloc, &mut seen)?;
+    let count = seen.len();
+    let back = read_back(alloc, &mut seen.into_keys())?;
+    Ok([
+        new == [true, true, false, true],
+        count == 3,
+        back == [true; 3],
+    ])
+}
+
 #[test]
 fn keys_are_seen_once_and_read_back(rt: HostRuntime) -> Result<(), Fail> {
-    let alloc = rt.alloc();
-    let mut seen = SeenKeys::new(alloc);
-    assert_eq!(rt; four_put_in(alloc, &mut seen)?, [true, true, false, true]);
-    assert_eq!(rt; seen.len(), 3);
-    assert_eq!(rt; read_back(alloc, &mut seen.into_keys())?, [true; 3]);
+    assert!(rt; are_seen_once(rt.alloc())? == [true; 3]);
     Ok(())
 }
 
@@ -82,12 +99,16 @@ fn is_kept(alloc: Global, name: &str, labels: &str) -> Result<bool, Memory> {
     Ok(new && back)
 }
 
-#[test]
-fn long_parts_are_read_back(rt: HostRuntime) -> Result<(), Fail> {
-    let alloc = rt.alloc();
+/// Whether this is so for a long name and a long value.
+fn are_long_parts_kept(alloc: Global) -> Result<bool, Memory> {
     let name = long(alloc, "", "n")?;
     let labels = long(alloc, "code=2 job=", "é")?;
-    assert!(rt; is_kept(alloc, name.as_str(), labels.as_str())?);
+    is_kept(alloc, name.as_str(), labels.as_str())
+}
+
+#[test]
+fn long_parts_are_read_back(rt: HostRuntime) -> Result<(), Fail> {
+    assert!(rt; are_long_parts_kept(rt.alloc())?);
     Ok(())
 }
 
@@ -114,13 +135,17 @@ fn is_set(alloc: Global, seen: &SeenSets, at: usize, labels: &str) -> Result<boo
     Ok(seen.set(alloc, at)? == set(alloc, labels)?)
 }
 
+/// Whether four sets are two without their `le`, of which the second is `job=b`.
+fn are_two_without_le(alloc: Global) -> Result<bool, Memory> {
+    let mut seen = SeenSets::new(alloc);
+    let places = four_places(alloc, &mut seen)?;
+    let is_second = is_set(alloc, &seen, 1, "job=b")?;
+    Ok(is_second && places == [0, 0, 1, 0] && seen.len() == 2)
+}
+
 #[test]
 fn sets_are_seen_without_a_label(rt: HostRuntime) -> Result<(), Fail> {
-    let alloc = rt.alloc();
-    let mut seen = SeenSets::new(alloc);
-    assert_eq!(rt; four_places(alloc, &mut seen)?, [0, 0, 1, 0]);
-    assert_eq!(rt; seen.len(), 2);
-    assert!(rt; is_set(alloc, &seen, 1, "job=b")?);
+    assert!(rt; are_two_without_le(rt.alloc())?);
     Ok(())
 }
 
@@ -153,22 +178,29 @@ fn is_name(alloc: Global, seen: &SeenNames, at: usize, name: &str) -> Result<boo
     Ok(seen.name(alloc, at)?.as_str() == name)
 }
 
+/// Whether only the first of two names is found as it is put in once more, and the second is `request`.
+fn are_names_seen_once(alloc: Global) -> Result<bool, Memory> {
+    let mut seen = SeenNames::new(alloc);
+    let found = two_names(alloc, &mut seen)?;
+    let is_second = is_name(alloc, &seen, 1, "request")?;
+    Ok(is_second && found == [None, None, None, Some(0)])
+}
+
 #[test]
 fn names_are_seen_once(rt: HostRuntime) -> Result<(), Fail> {
-    let alloc = rt.alloc();
-    let mut seen = SeenNames::new(alloc);
-    assert_eq!(rt; two_names(alloc, &mut seen)?, [None, None, None, Some(0)]);
-    assert!(rt; is_name(alloc, &seen, 1, "request")?);
+    assert!(rt; are_names_seen_once(rt.alloc())?);
     Ok(())
 }
 
 /// A key of this name and kind.
 fn series(alloc: Global, name: &str, kind: Kind) -> Result<SeriesKey, Memory> {
+    let name = Name::from_str(alloc, name)?;
+    let labels = set(alloc, "")?;
     Ok(SeriesKey {
-        name: Name::from_str(alloc, name)?,
+        name,
         kind,
-        unit: Text::from_str(alloc, "")?,
-        labels: set(alloc, "")?,
+        unit: Text::empty(),
+        labels,
     })
 }
 
@@ -205,16 +237,20 @@ const SOUGHT: [(&str, Kind, Option<usize>); 9] = [
     ("a", Kind::Counter, Some(0)),
 ];
 
+/// How many of the keys stand where they should.
+fn right_places(alloc: Global) -> Result<usize, Memory> {
+    let mut places = places_of_counters(alloc, "a b c d e f g h i j")?;
+    let mut right = 0usize;
+    for (name, kind, place) in &SOUGHT {
+        if place_of(alloc, &mut places, name, *kind)? == *place {
+            right = right.saturating_add(1);
+        }
+    }
+    Ok(right)
+}
+
 #[test]
 fn keys_of_a_kind_that_is_lacking_stand_nowhere(rt: HostRuntime) -> Result<(), Fail> {
-    let alloc = rt.alloc();
-    let mut places = places_of_counters(alloc, "a b c d e f g h i j")?;
-    for (name, kind, place) in &SOUGHT {
-        assert_eq!(rt;
-            place_of(alloc, &mut places, name, *kind)?,
-            *place,
-            "{name}"
-        );
-    }
+    assert!(rt; right_places(rt.alloc())? == SOUGHT.len());
     Ok(())
 }

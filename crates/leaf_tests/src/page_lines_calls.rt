@@ -3,86 +3,120 @@ use page_lines::{Last, Lines, Step};
 use std::alloc::{AllocError, Global};
 use std::test::Fail;
 
-/// What is told of a page that comes in pieces of `cut` bytes, as text: each line behind its
-/// number, `!` behind the number of one that is too long, and how the page ends.
-fn told(alloc: Global, page: &[u8], cut: usize, most: u32) -> Result<String, AllocError> {
-    let mut lines = Lines::new(alloc, most)?;
-    let mut told = String::new(alloc);
-    for piece in page.chunks(cut.max(1)) {
-        let mut rest = piece;
-        for _ in 0..piece.len() {
-            if rest.is_empty() || !lines.has_room(rest) {
-                break;
-            }
-            let mut taken = 0;
-            let step = lines.feed(rest, &mut taken);
-            rest = &rest[taken as usize..];
-            let number = lines.number();
-            match step {
-                Step::Line => {
-                    let line = std::str::from_utf8(lines.line()).unwrap_or("?");
-                    write!(told, "{number}:{line} ")?;
-                }
-                Step::TooLong => write!(told, "{number}! ")?,
-                Step::More => {}
-            }
-        }
-    }
-    let last = lines.finish();
+/// Tells of a line behind its number.
+fn tell_line(told: &mut String, lines: &Lines, end: &str) -> Result<(), AllocError> {
     let number = lines.number();
-    match last {
-        Last::Clean => write!(told, "clean {number}")?,
-        Last::Open => {
-            let line = std::str::from_utf8(lines.line()).unwrap_or("?");
-            write!(told, "open {number}:{line}")?;
-        }
-    }
-    Ok(told)
+    let line = std::str::from_utf8(lines.line()).unwrap_or("?");
+    write!(told, "{number}:{line}{end}")
 }
 
-#[test]
-fn pages_come_in_any_pieces(rt: HostRuntime) -> Result<(), Fail> {
-    let rows = [
-        ("", "clean 1"),
-        ("\n", "1: clean 2"),
-        ("a", "open 1:a"),
-        ("a\n", "1:a clean 2"),
-        ("a\n\n", "1:a 2: clean 3"),
-        ("a\r\nbc", "1:a\r open 2:bc"),
-        ("abcd\nabcde\n\nfg\n", "1:abcd 2! 3: 4:fg clean 5"),
-        ("abcdefgh\nabcdefgh", "1! 2! open 2:abcd"),
-        ("abcde", "1! open 1:abcd"),
-    ];
-    for (page, want) in rows {
-        for cut in 1..=page.len() + 1 {
-            let told = told(rt.alloc(), page.as_bytes(), cut, 4)?;
-            assert_eq!(rt; told.as_str(), want, "at {page:?} in pieces of {cut}");
+/// Feeds a piece, and tells of each line that it ends: `!` stands behind the number of one that is too long.
+fn tell_piece(told: &mut String, lines: &mut Lines, piece: &[u8]) -> Result<(), AllocError> {
+    let mut rest = piece;
+    for _ in 0..piece.len() {
+        if rest.is_empty() || !lines.has_room(rest) {
+            break;
+        }
+        let mut taken = 0;
+        let step = lines.feed(rest, &mut taken);
+        rest = &rest[taken as usize..];
+        match step {
+            Step::Line => tell_line(told, lines, " ")?,
+            Step::TooLong => write!(told, "{}! ", lines.number())?,
+            Step::More => {}
         }
     }
     Ok(())
 }
 
+/// Tells how a page ends.
+fn tell_end(told: &mut String, lines: &mut Lines) -> Result<(), AllocError> {
+    match lines.finish() {
+        Last::Clean => write!(told, "clean {}", lines.number()),
+        Last::Open => {
+            told.push_str("open ")?;
+            tell_line(told, lines, "")
+        }
+    }
+}
+
+/// What is told of a page that comes in pieces of `cut` bytes, with four bytes a line at most.
+fn told(alloc: Global, page: &[u8], cut: usize) -> Result<String, AllocError> {
+    let mut told = String::new(alloc);
+    let mut lines = Lines::new(alloc, 4)?;
+    for piece in page.chunks(cut.max(1)) {
+        tell_piece(&mut told, &mut lines, piece)?;
+    }
+    tell_end(&mut told, &mut lines)?;
+    Ok(told)
+}
+
+/// Whether this is told of a page, whatever the pieces in which it comes.
+fn is_told(alloc: Global, page: &str, want: &str) -> Result<bool, AllocError> {
+    for cut in 1..=page.len() + 1 {
+        if told(alloc, page.as_bytes(), cut)?.as_str() != want {
+            return Ok(false);
+        }
+    }
+    Ok(true)
+}
+
+// Pages, and what is told of them.
+const PAGES: [(&str, &str); 9] = [
+    ("", "clean 1"),
+    ("\n", "1: clean 2"),
+    ("a", "open 1:a"),
+    ("a\n", "1:a clean 2"),
+    ("a\n\n", "1:a 2: clean 3"),
+    ("a\r\nbc", "1:a\r open 2:bc"),
+    ("abcd\nabcde\n\nfg\n", "1:abcd 2! 3: 4:fg clean 5"),
+    ("abcdefgh\nabcdefgh", "1! 2! open 2:abcd"),
+    ("abcde", "1! open 1:abcd"),
+];
+
+#[test]
+fn pages_come_in_any_pieces(rt: HostRuntime) -> Result<(), Fail> {
+    for (page, want) in &PAGES {
+        assert!(rt; is_told(rt.alloc(), page, want)?, "{page}");
+    }
+    Ok(())
+}
+
+/// A line of 65,536 bytes, and this one behind it.
+fn long_line(alloc: Global, last: u8) -> Result<Vec<u8>, AllocError> {
+    let mut line = vec![in alloc; b'x'; 65_536]?;
+    line.push(last)?;
+    Ok(line)
+}
+
+/// What such a line comes to: how much of it is taken, how long the line is, and its number.
+fn long_fed(
+    alloc: Global,
+    lines: &mut Lines,
+    last: u8,
+) -> Result<Option<(Step, u32, usize, u32)>, AllocError> {
+    let line = long_line(alloc, last)?;
+    if !lines.has_room(line.as_slice()) {
+        return Ok(None);
+    }
+    let mut taken = 0;
+    let step = lines.feed(line.as_slice(), &mut taken);
+    Ok(Some((step, taken, lines.line().len(), lines.number())))
+}
+
+/// Whether one that ends is a line, and one that goes on is too long.
+fn are_long(alloc: Global) -> Result<[bool; 2], AllocError> {
+    let mut lines = Lines::new(alloc, 65_536)?;
+    let first = long_fed(alloc, &mut lines, b'\n')?;
+    let second = long_fed(alloc, &mut lines, b'x')?;
+    Ok([
+        first == Some((Step::Line, 65_537, 65_536, 1)),
+        second == Some((Step::TooLong, 65_537, 65_536, 2)),
+    ])
+}
+
 #[test]
 fn a_line_has_65536_bytes_at_most(rt: HostRuntime) -> Result<(), Fail> {
-    let alloc = rt.alloc();
-    let mut page = vec![in alloc; b'x'; 65_536]?;
-    page.push(b'\n')?;
-    let mut lines = Lines::new(alloc, 65_536)?;
-    let mut taken = 0;
-    assert!(rt; lines.has_room(page.as_slice()));
-    assert_eq!(rt; lines.feed(page.as_slice(), &mut taken), Step::Line);
-    assert_eq!(rt;
-        (taken, lines.line().len(), lines.number()),
-        (65_537, 65_536, 1)
-    );
-
-    page.pop();
-    page.push(b'x')?;
-    assert!(rt; lines.has_room(page.as_slice()));
-    assert_eq!(rt; lines.feed(page.as_slice(), &mut taken), Step::TooLong);
-    assert_eq!(rt;
-        (taken, lines.line().len(), lines.number()),
-        (65_537, 65_536, 2)
-    );
+    assert!(rt; are_long(rt.alloc())? == [true, true]);
     Ok(())
 }

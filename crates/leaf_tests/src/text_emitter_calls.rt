@@ -41,28 +41,43 @@ fn text_of(alloc: Global, sample: &Sample) -> Result<Vec<u8>, AllocError> {
     Ok(out)
 }
 
-#[test]
-fn writes_behind_what_is_there(rt: HostRuntime) -> Result<(), AllocError> {
-    let rows = [
-        ("1.50", 0u64, "> up 1.5 0 0 # 1.5"),
-        ("-12e30", 9, "> up -1.2e31 9 9 # -1.2e31"),
-        ("+Inf", 10, "> up +Inf 10 10 # \"Infinity\""),
-        (
-            "-Inf",
-            u64::MAX,
-            "> up -Inf 18446744073709551615 18446744073709551615 # \"-Infinity\"",
-        ),
-        ("nan", 1000, "> up NaN 1000 1000 # \"NaN\""),
-    ];
-    for (token, time, expected) in rows {
+/// Whether a sample is written so behind what is there, and has the length of that.
+fn is_written(alloc: Global, sample: &Sample, expected: &str) -> Result<bool, AllocError> {
+    let out = text_of(alloc, sample)?;
+    let is_as_long = length(sample).saturating_add(2) == expected.len() as u64;
+    Ok(is_as_long && std::str::from_utf8(&out) == Ok(expected))
+}
+
+// Values and times, and what is written of them.
+const SAMPLES: [(&str, u64, &str); 5] = [
+    ("1.50", 0, "> up 1.5 0 0 # 1.5"),
+    ("-12e30", 9, "> up -1.2e31 9 9 # -1.2e31"),
+    ("+Inf", 10, "> up +Inf 10 10 # \"Infinity\""),
+    (
+        "-Inf",
+        u64::MAX,
+        "> up -Inf 18446744073709551615 18446744073709551615 # \"-Infinity\"",
+    ),
+    ("nan", 1000, "> up NaN 1000 1000 # \"NaN\""),
+];
+
+/// The first value of those that is not written so.
+fn wrong_value(alloc: Global) -> Result<Option<&'static str>, AllocError> {
+    for (token, time, expected) in &SAMPLES {
         let sample = Sample {
             value: number(token),
-            time,
+            time: *time,
         };
-        let out = text_of(rt.alloc(), &sample)?;
-        assert_eq!(rt; std::str::from_utf8(&out), Ok(expected));
-        assert_eq!(rt; length(&sample).saturating_add(2), expected.len() as u64);
+        if !is_written(alloc, &sample, expected)? {
+            return Ok(Some(*token));
+        }
     }
+    Ok(None)
+}
+
+#[test]
+fn writes_behind_what_is_there(rt: HostRuntime) -> Result<(), AllocError> {
+    assert!(rt; wrong_value(rt.alloc())?.is_none());
     Ok(())
 }
 
@@ -73,21 +88,30 @@ fn seven() -> Sample {
     }
 }
 
+/// What the print of a line to an output with this much room answers, whether the output holds this then, and how many
+/// faults it has.
+fn printed(
+    alloc: Global,
+    room: u64,
+    held: &[u8],
+) -> Result<(Result<(), Failed>, bool, u64), AllocError> {
+    let mut out = MemorySink::new(alloc, room, List::new(alloc))?;
+    let printed = print_line(&seven(), &mut out);
+    Ok((printed, out.held() == held, out.faults()))
+}
+
 #[test]
 fn prints_a_line(rt: HostRuntime) -> Result<(), AllocError> {
-    let mut out = MemorySink::new(rt.alloc(), 100, List::new(rt.alloc()))?;
-    assert_eq!(rt; print_line(&seven(), &mut out), Ok(()));
-    assert_eq!(rt; std::str::from_utf8(out.held()), Ok("up 7 20 20 # 7\n"));
+    let printed = printed(rt.alloc(), 100, b"up 7 20 20 # 7\n")?;
+    assert!(rt; printed == (Ok(()), true, 0));
     Ok(())
 }
 
 // What is written is a front of the text, and the fault is counted once.
 #[test]
 fn prints_a_front_where_a_write_fails(rt: HostRuntime) -> Result<(), AllocError> {
-    let mut out = MemorySink::new(rt.alloc(), 4, List::new(rt.alloc()))?;
-    assert_eq!(rt; print_line(&seven(), &mut out), Err(Failed));
-    assert_eq!(rt; std::str::from_utf8(out.held()), Ok("up 7"));
-    assert_eq!(rt; out.faults(), 1);
+    let printed = printed(rt.alloc(), 4, b"up 7")?;
+    assert!(rt; printed == (Err(Failed), true, 1));
     Ok(())
 }
 
@@ -103,7 +127,7 @@ fn writes_all_or_nothing(rt: HostRuntime) {
         Ok(()) => b"up 7 20 20 # 7",
         Err(_) => b"",
     };
-    assert_eq!(rt; out.as_slice(), expected);
+    assert!(rt; out.as_slice() == expected);
 }
 
 // With any allocation failing, what was there stays. The text is longer than the vector's first growths.
@@ -119,7 +143,7 @@ fn keeps_what_was_there(rt: HostRuntime) -> Result<(), AllocError> {
         Ok(()) => whole,
         Err(_) => "> ",
     };
-    assert_eq!(rt; std::str::from_utf8(&out), Ok(expected));
+    assert!(rt; std::str::from_utf8(&out) == Ok(expected));
     Ok(())
 }
 
@@ -149,24 +173,48 @@ fn text_with(alloc: Global, len: usize) -> Result<Long, AllocError> {
     Ok(Long { bytes })
 }
 
-/// Whether a line is printed as far as an output has room, and the call says whether that was all of it.
-fn is_printed_into(alloc: Global, text: &Long, room: usize) -> Result<bool, AllocError> {
+/// A text, and the line feed behind it.
+fn line_of(alloc: Global, text: &Long) -> Result<Vec<u8>, AllocError> {
     let mut line = Vec::new(alloc);
     write(text, &mut line)?;
     line.push(b'\n')?;
+    Ok(line)
+}
+
+/// Whether a line is printed as far as an output has room, and the call says whether that was all of it.
+fn is_printed_into(
+    alloc: Global,
+    text: &Long,
+    line: &[u8],
+    room: usize,
+) -> Result<bool, AllocError> {
     let mut out = MemorySink::new(alloc, room as u64, List::new(alloc))?;
     let printed = print_line(text, &mut out).is_ok();
     let end = line.len().min(room);
     Ok(printed == (line.len() <= room) && out.held() == &line[..end])
 }
 
+const ROOMS: [usize; 5] = [0, 1, 32_768, 69_000, 200_000];
+
+/// Into how many of the outputs a text of this length is printed as it should be.
+fn right_rooms(alloc: Global, len: usize) -> Result<usize, AllocError> {
+    let text = text_with(alloc, len)?;
+    let line = line_of(alloc, &text)?;
+    let mut right = 0usize;
+    for room in &ROOMS {
+        if is_printed_into(alloc, &text, line.as_slice(), *room)? {
+            right = right.saturating_add(1);
+        }
+    }
+    Ok(right)
+}
+
+const LENGTHS: [usize; 6] = [32_765, 32_766, 32_767, 32_768, 32_769, 70_000];
+
 #[test]
 fn prints_what_is_longer_than_its_room(rt: HostRuntime) -> Result<(), AllocError> {
-    for len in [32_765usize, 32_766, 32_767, 32_768, 32_769, 70_000] {
-        let text = text_with(rt.alloc(), len)?;
-        for room in [0usize, 1, 32_768, 69_000, 200_000] {
-            assert_eq!(rt; is_printed_into(rt.alloc(), &text, room)?, true);
-        }
+    for len in &LENGTHS {
+        assert!(rt; right_rooms(rt.alloc(), *len)? == ROOMS.len());
     }
     Ok(())
 }

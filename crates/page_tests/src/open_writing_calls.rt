@@ -56,25 +56,40 @@ fn open_page(alloc: Global, text: &[u8]) -> Result<Page, PageFault> {
     page_of::<OpenLines>(alloc, 100, text)
 }
 
+/// A page that is written behind what is there.
+fn written(alloc: Global, page: &Page, front: &[u8]) -> Result<Vec<u8>, Memory> {
+    let mut out = Vec::from_slice(alloc, front)?;
+    write(page, &mut out)?;
+    Ok(out)
+}
+
+/// Whether the page is written so.
+fn is_written(alloc: Global) -> Result<bool, PageFault> {
+    let page = open_page(alloc, READ.as_bytes())?;
+    Ok(written(alloc, &page, b"> ")?.as_slice() == WRITTEN.as_bytes())
+}
+
 #[test]
 fn writes_behind_what_is_there(rt: HostRuntime) -> Result<(), PageFault> {
-    let page = open_page(rt.alloc(), READ.as_bytes())?;
-    let mut out = Vec::from_slice(rt.alloc(), b"> ")?;
-    write(&page, &mut out)?;
-    assert_eq!(rt; std::str::from_utf8(&out), Ok(WRITTEN));
+    assert!(rt; is_written(rt.alloc())?);
     Ok(())
+}
+
+/// Whether a page is written, or what was there stays.
+fn is_written_or_not(alloc: Global, page: &Page) -> Result<bool, Memory> {
+    let mut out = Vec::from_slice(alloc, b"> ")?;
+    let expected = match write(page, &mut out) {
+        Ok(()) => WRITTEN,
+        Err(_) => "> ",
+    };
+    Ok(out.as_slice() == expected.as_bytes())
 }
 
 // With any allocation failing, what was there stays.
 #[test]
 fn writes_all_or_nothing(rt: HostRuntime) -> Result<(), PageFault> {
     let page = open_page(rt.alloc(), READ.as_bytes())?;
-    let mut out = Vec::from_slice(rt.alloc(), b"> ")?;
-    let expected = match write(&page, &mut out) {
-        Ok(()) => WRITTEN,
-        Err(_) => "> ",
-    };
-    assert_eq!(rt; std::str::from_utf8(&out), Ok(expected));
+    assert!(rt; is_written_or_not(rt.alloc(), &page)?);
     Ok(())
 }
 
@@ -92,16 +107,16 @@ fn long_text(alloc: Global, len: usize) -> Result<Vec<u8>, Memory> {
 fn is_kept(alloc: Global, len: usize) -> Result<bool, PageFault> {
     let text = long_text(alloc, len)?;
     let page = open_page(alloc, text.as_slice())?;
-    let mut out = Vec::new(alloc);
-    write(&page, &mut out)?;
-    Ok(out == text)
+    Ok(written(alloc, &page, b"")? == text)
 }
 
 // Lines of 4,095 to 4,097 bytes, of which the last is longer than what is put at once, and a far longer one.
+const LENGTHS: [usize; 4] = [4085, 4086, 4087, 9000];
+
 #[test]
 fn writes_long_lines(rt: HostRuntime) -> Result<(), PageFault> {
-    for len in [4085, 4086, 4087, 9000] {
-        assert!(rt; is_kept(rt.alloc(), len)?, "{len}");
+    for len in &LENGTHS {
+        assert!(rt; is_kept(rt.alloc(), *len)?, "{len}");
     }
     Ok(())
 }

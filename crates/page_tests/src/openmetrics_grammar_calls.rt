@@ -18,10 +18,12 @@ fn read(alloc: Global, line: &[u8]) -> Result<LineRead, Memory> {
 
 /// The rule that refuses a line.
 fn refusal(alloc: Global, line: &[u8]) -> Result<Option<Rule>, Memory> {
-    match read(alloc, line)? {
-        LineRead::Item(_) => Ok(None),
-        LineRead::Refused(rule) => Ok(Some(rule)),
-    }
+    let read = read(alloc, line)?;
+    let rule = match &read {
+        LineRead::Item(_) => None,
+        LineRead::Refused(rule) => Some(*rule),
+    };
+    Ok(rule)
 }
 
 const SYNTAX: [&str; 47] = [
@@ -85,22 +87,33 @@ const RANGE: [&str; 6] = [
 
 const LABELS: [&str; 2] = ["x{a=\"1\",a=\"2\"} 1", "x 1 # {a=\"b\",a=\"c\"} 2"];
 
+const REFUSED: [(&[&str], Rule); 3] = [
+    (&SYNTAX, Rule::Syntax),
+    (&RANGE, Rule::Range),
+    (&LABELS, Rule::Labels),
+];
+
+/// The first of some lines that this rule does not refuse, or that one does, where there is none.
+fn other_line<'a>(
+    alloc: Global,
+    lines: &[&'a str],
+    rule: Option<Rule>,
+) -> Result<Option<&'a str>, Memory> {
+    for line in lines {
+        if refusal(alloc, line.as_bytes())? != rule {
+            return Ok(Some(*line));
+        }
+    }
+    Ok(None)
+}
+
 #[test]
 fn refused_lines(rt: HostRuntime) -> Result<(), Memory> {
-    for line in &SYNTAX {
-        let rule = refusal(rt.alloc(), line.as_bytes())?;
-        assert!(rt; rule == Some(Rule::Syntax), "{line}");
+    for (lines, rule) in &REFUSED {
+        let other = other_line(rt.alloc(), lines, Some(*rule))?;
+        assert!(rt; other.is_none(), "{other:?}");
     }
-    for line in &RANGE {
-        let rule = refusal(rt.alloc(), line.as_bytes())?;
-        assert!(rt; rule == Some(Rule::Range), "{line}");
-    }
-    for line in &LABELS {
-        let rule = refusal(rt.alloc(), line.as_bytes())?;
-        assert!(rt; rule == Some(Rule::Labels), "{line}");
-    }
-    let rule = refusal(rt.alloc(), b"x{a=\"\xff\"} y")?;
-    assert!(rt; rule == Some(Rule::Utf8));
+    assert!(rt; refusal(rt.alloc(), b"x{a=\"\xff\"} y")? == Some(Rule::Utf8));
     Ok(())
 }
 
@@ -131,16 +144,13 @@ const RIGHT: [&str; 22] = [
 
 #[test]
 fn right_lines(rt: HostRuntime) -> Result<(), Memory> {
-    for line in &RIGHT {
-        let rule = refusal(rt.alloc(), line.as_bytes())?;
-        assert!(rt; rule.is_none(), "{line}");
-    }
+    assert!(rt; other_line(rt.alloc(), &RIGHT, None)?.is_none());
     Ok(())
 }
 
-/// What the line says of a family, in one text: its sort, its name and what it says.
-fn told(alloc: Global, line: &[u8]) -> Result<String, Memory> {
-    match read(alloc, line)? {
+/// What a line says of a family, in one text: its sort, its name and what it says.
+fn told(alloc: Global, read: &LineRead) -> Result<String, Memory> {
+    match read {
         LineRead::Item(Item::Help { name, text }) => {
             format!(in alloc; "help {} {}", name.as_str(), text.as_str())
         }
@@ -158,6 +168,12 @@ fn told(alloc: Global, line: &[u8]) -> Result<String, Memory> {
     }
 }
 
+/// Whether this is what a line says.
+fn is_told(alloc: Global, line: &[u8], expected: &str) -> Result<bool, Memory> {
+    let read = read(alloc, line)?;
+    Ok(told(alloc, &read)?.as_str() == expected)
+}
+
 const DESCRIPTORS: [(&str, &str); 5] = [
     (
         "# HELP x a\\nb\\\\c\\\"d\"e\\q ",
@@ -172,8 +188,7 @@ const DESCRIPTORS: [(&str, &str); 5] = [
 #[test]
 fn descriptors(rt: HostRuntime) -> Result<(), Memory> {
     for (line, text) in &DESCRIPTORS {
-        let told = told(rt.alloc(), line.as_bytes())?;
-        assert_eq!(rt; told.as_str(), *text);
+        assert!(rt; is_told(rt.alloc(), line.as_bytes(), text)?, "{line}");
     }
     Ok(())
 }
@@ -222,27 +237,37 @@ fn has_labels(sample: &Sample, own: (&[u8], &[u8]), other: (&[u8], &[u8])) -> bo
     is_one(&sample.labels, own.0, own.1) && on_exemplar
 }
 
+/// Whether the sample of a line with labels has its parts, and its labels on both sides.
+fn has_all_parts(alloc: Global) -> Result<[bool; 2], Memory> {
+    let line = b"x{b=\"\",a=\"p\\n\\\"\\\\\\q\"} 1.50 2.5 # {t=\"\xc3\xbc\"} 3 4";
+    let numbers = [number(b"1.5"), number(b"2.5"), number(b"3"), number(b"4")];
+    match sample(alloc, line)? {
+        Some(sample) => Ok([
+            is_sample(&sample, "x", numbers),
+            has_labels(&sample, (b"a", b"p\n\"\\\\q"), (b"t", b"\xc3\xbc")),
+        ]),
+        None => Ok([false; 2]),
+    }
+}
+
 #[test]
 fn samples(rt: HostRuntime) -> Result<(), Memory> {
-    let line = b"x{b=\"\",a=\"p\\n\\\"\\\\\\q\"} 1.50 2.5 # {t=\"\xc3\xbc\"} 3 4";
-    let sample = sample(rt.alloc(), line)?.expect(&rt, "a sample");
-    let numbers = [number(b"1.5"), number(b"2.5"), number(b"3"), number(b"4")];
-    assert!(rt; is_sample(&sample, "x", numbers));
-    assert!(rt; has_labels(&sample, (b"a", b"p\n\"\\\\q"), (b"t", b"\xc3\xbc")));
+    assert!(rt; has_all_parts(rt.alloc())? == [true; 2]);
     Ok(())
+}
+
+/// Whether the sample of a line without labels has its parts, and no labels.
+fn has_plain_parts(alloc: Global) -> Result<[bool; 2], Memory> {
+    let numbers = [number(b"-Inf"), None, number(b"nan"), None];
+    match sample(alloc, b"x:y -inf # {} NaN")? {
+        Some(sample) => Ok([is_sample(&sample, "x:y", numbers), sample.labels.is_empty()]),
+        None => Ok([false; 2]),
+    }
 }
 
 #[test]
 fn plain_samples(rt: HostRuntime) -> Result<(), Memory> {
-    let sample = sample(rt.alloc(), b"x:y -inf # {} NaN")?.expect(&rt, "a sample");
-    assert!(rt;
-        is_sample(
-            &sample,
-            "x:y",
-            [number(b"-Inf"), None, number(b"nan"), None]
-        )
-    );
-    assert!(rt; sample.labels.is_empty());
+    assert!(rt; has_plain_parts(rt.alloc())? == [true; 2]);
     Ok(())
 }
 
@@ -268,16 +293,18 @@ fn refusal_of_many(
     refusal(alloc, line.as_bytes())
 }
 
-/// The most labels that a target's sample may have, and one more.
+// The most labels that a target's sample may have, and one more.
+const MANY: [(&str, u32, Option<Rule>); 3] = [
+    ("x{", 64, None),
+    ("x{", 65, Some(Rule::Labels)),
+    ("x 1 # {", 65, Some(Rule::Labels)),
+];
+
 #[test]
 fn many_labels(rt: HostRuntime) -> Result<(), Memory> {
-    for (front, count, end, rule) in [
-        ("x{", 64, "} 1", None),
-        ("x{", 65, "} 1", Some(Rule::Labels)),
-        ("x 1 # {", 65, "} 1", Some(Rule::Labels)),
-    ] {
-        let refusal = refusal_of_many(rt.alloc(), front, count, end)?;
-        assert!(rt; refusal == rule, "{front} {count}");
+    for (front, count, rule) in &MANY {
+        let refusal = refusal_of_many(rt.alloc(), front, *count, "} 1")?;
+        assert!(rt; refusal == *rule, "{front} {count}");
     }
     Ok(())
 }

@@ -14,10 +14,20 @@ fn number(token: &str) -> Number {
 }
 
 fn label(alloc: Global, name: &str, value: &str) -> Result<Label, Memory> {
-    Ok(Label {
-        name: Name::from_str(alloc, name)?,
-        value: Text::from_str(alloc, value)?,
-    })
+    let name = Name::from_str(alloc, name)?;
+    let value = Text::from_str(alloc, value)?;
+    Ok(Label { name, value })
+}
+
+/// The set of the label `code` and the one of this name.
+fn labels(alloc: Global, code: &str, place: &str, at: &str) -> Result<LabelSet, Memory> {
+    let mut pairs = Vec::new(alloc);
+    pairs.push(label(alloc, "code", code)?)?;
+    pairs.push(label(alloc, place, at)?)?;
+    match LabelSet::build(alloc, pairs, 64) {
+        Ok(labels) => Ok(labels),
+        Err(_) => Err(AllocError),
+    }
 }
 
 fn sample(alloc: Global, kind: Kind, row: Row<'_>) -> Result<Sample, Memory> {
@@ -26,14 +36,10 @@ fn sample(alloc: Global, kind: Kind, row: Row<'_>) -> Result<Sample, Memory> {
     } else {
         "le"
     };
-    let mut pairs = Vec::new(alloc);
-    pairs.push(label(alloc, "code", row.1)?)?;
-    pairs.push(label(alloc, place, row.2)?)?;
-    let Ok(labels) = LabelSet::build(alloc, pairs, 64) else {
-        return Err(AllocError);
-    };
+    let name = Name::from_str(alloc, row.0)?;
+    let labels = labels(alloc, row.1, place, row.2)?;
     Ok(Sample {
-        name: Name::from_str(alloc, row.0)?,
+        name,
         labels,
         value: number(row.3),
         stamp: None,
@@ -45,6 +51,35 @@ fn is_plain(value: &Value, token: &str) -> bool {
     matches!(value, Value::Plain(plain) if *plain == number(token))
 }
 
+/// Gathers a sample of a family, and answers the rule that it breaks.
+fn gather_sample(
+    alloc: Global,
+    kind: Kind,
+    family: &Name,
+    sample: &Sample,
+    groups: &mut Groups,
+) -> Result<Option<Rule>, Memory> {
+    match part_of(kind, family, sample) {
+        Ok(part) => {
+            let added = groups.add(alloc, kind, &sample.labels, part)?;
+            Ok(if added.fits { None } else { Some(Rule::Order) })
+        }
+        Err(rule) => Ok(Some(rule)),
+    }
+}
+
+/// Gathers a row of a family.
+fn gather_row(
+    alloc: Global,
+    kind: Kind,
+    family: &Name,
+    row: Row<'_>,
+    groups: &mut Groups,
+) -> Result<Option<Rule>, Memory> {
+    let sample = sample(alloc, kind, row)?;
+    gather_sample(alloc, kind, family, &sample, groups)
+}
+
 /// Gathers the rows of the family `h`, and answers the rule that the first wrong one breaks.
 fn gather(
     alloc: Global,
@@ -54,15 +89,9 @@ fn gather(
 ) -> Result<Option<Rule>, Memory> {
     let family = Name::from_str(alloc, "h")?;
     for row in rows {
-        let sample = sample(alloc, kind, *row)?;
-        match part_of(kind, &family, &sample) {
-            Ok(part) => {
-                let added = groups.add(alloc, kind, &sample.labels, part)?;
-                if !added.fits {
-                    return Ok(Some(Rule::Order));
-                }
-            }
-            Err(rule) => return Ok(Some(rule)),
+        let broken = gather_row(alloc, kind, &family, *row, groups)?;
+        if broken.is_some() {
+            return Ok(broken);
         }
     }
     Ok(None)
@@ -120,7 +149,7 @@ fn are_whole(alloc: Global) -> Result<[bool; 2], Memory> {
 
 #[test]
 fn groups_are_whole_once_each_has_its_last_bucket(rt: HostRuntime) -> Result<(), Memory> {
-    assert_eq!(rt; are_whole(rt.alloc())?, [false, true]);
+    assert!(rt; are_whole(rt.alloc())? == [false, true]);
     Ok(())
 }
 
@@ -243,16 +272,15 @@ fn created_of(
 // A group with nothing but a created time makes no reading, and of two created times the first one counts.
 #[test]
 fn takes_created_times(rt: HostRuntime) -> Result<(), Memory> {
-    let alloc = rt.alloc();
-    let summaries = [("h_created", "a", "", "3"), ("h_sum", "b", "", "4")];
-    assert_eq!(rt; created_of(alloc, Kind::Summary, &summaries)?, Some(None));
-    let histograms = [
+    const SUMMARIES: [Row<'_>; 2] = [("h_created", "a", "", "3"), ("h_sum", "b", "", "4")];
+    const HISTOGRAMS: [Row<'_>; 3] = [
         ("h_created", "", "", "3"),
         ("h_bucket", "", "+Inf", "4"),
         ("h_created", "", "", "5"),
     ];
-    let created = created_of(alloc, Kind::Histogram, &histograms)?;
-    assert_eq!(rt; created, Some(Some(number("3"))));
+    let summary = created_of(rt.alloc(), Kind::Summary, &SUMMARIES)?;
+    let histogram = created_of(rt.alloc(), Kind::Histogram, &HISTOGRAMS)?;
+    assert!(rt; summary == Some(None) && histogram == Some(Some(number("3"))));
     Ok(())
 }
 
@@ -266,13 +294,13 @@ fn is_whole_with(alloc: Global, count: &str) -> Result<bool, Memory> {
 
 #[test]
 fn tells_a_whole_gauge_histogram(rt: HostRuntime) -> Result<(), Memory> {
-    for (count, whole) in [("4", true), ("5", false)] {
-        assert_eq!(rt; is_whole_with(rt.alloc(), count)?, whole);
-    }
+    let four = is_whole_with(rt.alloc(), "4")?;
+    let five = is_whole_with(rt.alloc(), "5")?;
+    assert!(rt; four && !five);
     Ok(())
 }
 
-/// Whether the row breaks the rule behind a first row of its family.
+/// Whether the row breaks the rule behind a first row of its family, which has groups.
 fn breaks(alloc: Global, kind: Kind, row: Row<'_>, rule: Rule) -> Result<bool, Memory> {
     let first = match kind {
         Kind::Summary => "h",
@@ -281,50 +309,38 @@ fn breaks(alloc: Global, kind: Kind, row: Row<'_>, rule: Rule) -> Result<bool, M
     };
     let rows = [(first, "", "1", "3"), row];
     let mut groups = Groups::new(alloc);
-    Ok(gather(alloc, kind, &rows, &mut groups)? == Some(rule))
+    let broken = gather(alloc, kind, &rows, &mut groups)?;
+    Ok(is_grouped(Format::OpenMetrics, kind) && broken == Some(rule))
 }
 
+// Kinds, the names of rows without a code, their `le` or `quantile`, their values, and the rule that each breaks.
+const BREAKING: [(Kind, &str, &str, &str, Rule); 18] = [
+    (Kind::Histogram, "h_bucket", "", "1", Rule::Threshold),
+    (Kind::Histogram, "h_bucket", "-Inf", "1", Rule::Threshold),
+    (Kind::Histogram, "h_bucket", "x", "1.5", Rule::Value),
+    (Kind::Histogram, "h_count", "1", "1", Rule::Threshold),
+    (Kind::Histogram, "h_count", "", "-1", Rule::Value),
+    (Kind::Histogram, "h_created", "", "NaN", Rule::Value),
+    (Kind::Histogram, "h_bucket", "1.0", "3", Rule::Order),
+    (Kind::Histogram, "h_bucket", "2", "2", Rule::Order),
+    (Kind::GaugeHistogram, "h_gcount", "", "0.5", Rule::Value),
+    (Kind::GaugeHistogram, "h_gsum", "1", "1", Rule::Threshold),
+    (Kind::Summary, "h", "+Inf", "1", Rule::Threshold),
+    (Kind::Summary, "h_sum", "1", "1", Rule::Threshold),
+    (Kind::Summary, "h_count", "", "NaN", Rule::Value),
+    (Kind::Summary, "h_created", "1", "5", Rule::Threshold),
+    (Kind::Summary, "h", "1.00", "1", Rule::Order),
+    (Kind::Counter, "h_total", "", "-1", Rule::Value),
+    (Kind::Counter, "h_total", "", "NaN", Rule::Value),
+    (Kind::Counter, "h_created", "", "+Inf", Rule::Value),
+];
+
 #[test]
-fn names_the_broken_rule_of_a_histogram(rt: HostRuntime) -> Result<(), Memory> {
-    let cases = [
-        (("h_bucket", "", "", "1"), Rule::Threshold),
-        (("h_bucket", "", "-Inf", "1"), Rule::Threshold),
-        (("h_bucket", "", "x", "1.5"), Rule::Value),
-        (("h_count", "", "1", "1"), Rule::Threshold),
-        (("h_count", "", "", "-1"), Rule::Value),
-        (("h_created", "", "", "NaN"), Rule::Value),
-        (("h_bucket", "", "1.0", "3"), Rule::Order),
-        (("h_bucket", "", "2", "2"), Rule::Order),
-    ];
+fn names_the_broken_rule(rt: HostRuntime) -> Result<(), Memory> {
+    for (kind, name, place, value, rule) in &BREAKING {
+        let row = (*name, "", *place, *value);
+        assert!(rt; breaks(rt.alloc(), *kind, row, *rule)?, "{name}");
+    }
     assert!(rt; is_grouped(Format::Text, Kind::Histogram));
-    for (row, rule) in cases {
-        assert!(rt;
-            breaks(rt.alloc(), Kind::Histogram, row, rule)?,
-            "{}",
-            row.0
-        );
-    }
-    Ok(())
-}
-
-#[test]
-fn names_the_broken_rule_of_other_kinds(rt: HostRuntime) -> Result<(), Memory> {
-    use Kind::{Counter, GaugeHistogram, Summary};
-    let cases = [
-        (GaugeHistogram, ("h_gcount", "", "", "0.5"), Rule::Value),
-        (GaugeHistogram, ("h_gsum", "", "1", "1"), Rule::Threshold),
-        (Summary, ("h", "", "+Inf", "1"), Rule::Threshold),
-        (Summary, ("h_sum", "", "1", "1"), Rule::Threshold),
-        (Summary, ("h_count", "", "", "NaN"), Rule::Value),
-        (Summary, ("h_created", "", "1", "5"), Rule::Threshold),
-        (Summary, ("h", "", "1.00", "1"), Rule::Order),
-        (Counter, ("h_total", "", "", "-1"), Rule::Value),
-        (Counter, ("h_total", "", "", "NaN"), Rule::Value),
-        (Counter, ("h_created", "", "", "+Inf"), Rule::Value),
-    ];
-    for (kind, row, rule) in cases {
-        assert!(rt; is_grouped(Format::OpenMetrics, kind));
-        assert!(rt; breaks(rt.alloc(), kind, row, rule)?, "{}", row.0);
-    }
     Ok(())
 }

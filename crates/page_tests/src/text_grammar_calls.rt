@@ -1,8 +1,9 @@
 //! Pages with the answers that the standard and the bridge's rules give.
 
+use crate::pages::page_of;
 use page_model::{Page, PageFault, Rule, Shown, Treatment};
 use std::alloc::Global;
-use text_grammar::TextPage;
+use text_grammar::{TextLines, TextPage};
 
 const LIMIT: u32 = 200_000;
 
@@ -13,24 +14,43 @@ fn feed(reader: &mut TextPage, piece: &[u8]) -> Result<(), PageFault> {
     reader.feed(piece)
 }
 
-fn whole(alloc: Global, page: &[u8]) -> Result<Page, PageFault> {
-    let mut reader = TextPage::new(alloc, Treatment::Scraped, LIMIT)?;
-    feed(&mut reader, page)?;
-    reader.finish()
-}
-
-fn byte_by_byte(alloc: Global, page: &[u8]) -> Result<Page, PageFault> {
-    let mut reader = TextPage::new(alloc, Treatment::Scraped, LIMIT)?;
+fn feed_bytes(reader: &mut TextPage, page: &[u8]) -> Result<(), PageFault> {
     for byte in page {
-        feed(&mut reader, &[*byte])?;
+        feed(reader, &[*byte])?;
     }
-    reader.finish()
+    Ok(())
 }
 
 /// The families and samples of a page, or its line and rule.
 fn seen(read: Result<Page, PageFault>) -> Result<(usize, u32), PageFault> {
     let page = read?;
     Ok((page.families().len(), page.samples()))
+}
+
+/// The same of what a reader was fed, where the feeding had no fault.
+fn seen_of(fed: Result<(), PageFault>, reader: TextPage) -> Result<(usize, u32), PageFault> {
+    let end = seen(reader.finish());
+    match fed {
+        Ok(()) => end,
+        Err(fault) => Err(fault),
+    }
+}
+
+fn whole(alloc: Global, page: &[u8]) -> Result<(usize, u32), PageFault> {
+    let mut reader = TextPage::new(alloc, Treatment::Scraped, LIMIT)?;
+    let fed = feed(&mut reader, page);
+    seen_of(fed, reader)
+}
+
+fn byte_by_byte(alloc: Global, page: &[u8]) -> Result<(usize, u32), PageFault> {
+    let mut reader = TextPage::new(alloc, Treatment::Scraped, LIMIT)?;
+    let fed = feed_bytes(&mut reader, page);
+    seen_of(fed, reader)
+}
+
+/// Whether a page that is fed whole comes to this, and one that is fed byte by byte.
+fn comes_to(alloc: Global, page: &[u8], expected: Result<(usize, u32), PageFault>) -> bool {
+    whole(alloc, page) == expected && byte_by_byte(alloc, page) == expected
 }
 
 const PAGES: [(&[u8], usize, u32); 6] = [
@@ -49,13 +69,8 @@ const PAGES: [(&[u8], usize, u32); 6] = [
 #[test]
 fn right_pages(rt: HostRuntime) {
     for (page, families, samples) in &PAGES {
-        let expected = Ok((*families, *samples));
         assert!(rt;
-            seen(whole(rt.alloc(), page)) == expected,
-            "{families} families"
-        );
-        assert!(rt;
-            seen(byte_by_byte(rt.alloc(), page)) == expected,
+            comes_to(rt.alloc(), page, Ok((*families, *samples))),
             "{families} families"
         );
     }
@@ -93,16 +108,21 @@ const REFUSED: [(&[u8], u32, Rule); 14] = [
 #[test]
 fn refused_pages(rt: HostRuntime) {
     for (page, line, rule) in &REFUSED {
-        let expected = Err(PageFault::Refused {
+        let fault = PageFault::Refused {
             line: *line,
             rule: *rule,
-        });
-        assert!(rt; seen(whole(rt.alloc(), page)) == expected, "line {line}");
-        assert!(rt;
-            seen(byte_by_byte(rt.alloc(), page)) == expected,
-            "line {line}"
-        );
+        };
+        assert!(rt; comes_to(rt.alloc(), page, Err(fault)), "line {line}");
     }
+}
+
+/// What a wrong line comes to, a right one behind it, and the end.
+fn wrong_and_right(alloc: Global) -> Result<[Option<PageFault>; 3], PageFault> {
+    let mut reader = TextPage::new(alloc, Treatment::Scraped, LIMIT)?;
+    let wrong = feed(&mut reader, b"?\n").err();
+    let right = feed(&mut reader, b"x 1\n").err();
+    let end = seen(reader.finish()).err();
+    Ok([wrong, right, end])
 }
 
 #[test]
@@ -111,10 +131,7 @@ fn goes_on_refusing(rt: HostRuntime) -> Result<(), PageFault> {
         line: 1,
         rule: Rule::Syntax,
     };
-    let mut reader = TextPage::new(rt.alloc(), Treatment::Scraped, LIMIT)?;
-    assert!(rt; feed(&mut reader, b"?\n") == Err(fault));
-    assert!(rt; feed(&mut reader, b"x 1\n") == Err(fault));
-    assert!(rt; seen(reader.finish()) == Err(fault));
+    assert!(rt; wrong_and_right(rt.alloc())? == [Some(fault); 3]);
     Ok(())
 }
 
@@ -130,29 +147,52 @@ fn first_value(page: &Page) -> &[u8] {
     b""
 }
 
+/// The page of two pieces. A fault of theirs, the end answers again.
+fn page_of_two(alloc: Global, first: &[u8], second: &[u8]) -> Result<Page, PageFault> {
+    let mut reader = TextPage::new(alloc, Treatment::Scraped, LIMIT)?;
+    let _first = feed(&mut reader, first);
+    let _second = feed(&mut reader, second);
+    reader.finish()
+}
+
+/// Whether the first value of a page is this, and that of its copy.
+fn has_first_value(page: &Page, value: &[u8]) -> Result<[bool; 2], PageFault> {
+    let copy = page.copy()?;
+    Ok([first_value(page) == value, first_value(&copy) == value])
+}
+
 #[test]
 fn escapes_across_pieces(rt: HostRuntime) -> Result<(), PageFault> {
-    let mut reader = TextPage::new(rt.alloc(), Treatment::Scraped, LIMIT)?;
-    feed(&mut reader, b"x{a=\"p\\n\\\"\\\\\\q\xc3")?;
-    feed(&mut reader, b"\xa9\"} 1\n")?;
-    let page = reader.finish()?;
-    let copy = page.copy()?;
-    assert!(rt; first_value(&page) == b"p\n\"\\\\q\xc3\xa9".as_slice());
-    assert!(rt; first_value(&copy) == first_value(&page));
+    let page = page_of_two(rt.alloc(), b"x{a=\"p\\n\\\"\\\\\\q\xc3", b"\xa9\"} 1\n")?;
+    assert!(rt; has_first_value(&page, b"p\n\"\\\\q\xc3\xa9")? == [true, true]);
     Ok(())
+}
+
+/// What a target shows that has this page.
+fn shown(alloc: Global, page: Page) -> Result<Shown, PageFault> {
+    let job = label_sets::Text::from_str(alloc, "j")?;
+    let instance = label_sets::Text::from_str(alloc, "h:1")?;
+    Ok(Shown {
+        job,
+        instance,
+        moment: Some(5),
+        page,
+    })
+}
+
+/// Whether the copy has the job, one sample, and the first value of the page.
+fn is_copied(alloc: Global) -> Result<[bool; 3], PageFault> {
+    let page = page_of::<TextLines>(alloc, LIMIT, b"x{a=\"1\"} 1\n")?;
+    let copy = shown(alloc, page)?.copy()?;
+    Ok([
+        copy.job.as_str() == "j",
+        copy.page.samples() == 1,
+        first_value(&copy.page) == b"1".as_slice(),
+    ])
 }
 
 #[test]
 fn what_is_shown_is_copied(rt: HostRuntime) -> Result<(), PageFault> {
-    let shown = Shown {
-        job: label_sets::Text::from_str(rt.alloc(), "j")?,
-        instance: label_sets::Text::from_str(rt.alloc(), "h:1")?,
-        moment: Some(5),
-        page: whole(rt.alloc(), b"x{a=\"1\"} 1\n")?,
-    };
-    let copy = shown.copy()?;
-    assert_eq!(rt; copy.job.as_str(), "j");
-    assert_eq!(rt; copy.page.samples(), 1);
-    assert!(rt; first_value(&copy.page) == b"1".as_slice());
+    assert!(rt; is_copied(rt.alloc())? == [true; 3]);
     Ok(())
 }

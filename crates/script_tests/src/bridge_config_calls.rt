@@ -1,58 +1,57 @@
 //! Tests of `bridge_config`.
 use bridge_config::{Config, ConfigFault, configs_are_right, numbers_are_right, push_line, read};
+use label_sets::Memory;
 use std::alloc::Global;
+use std::test::Fail;
 
-const HEAD: &str = "collector = \"http://127.0.0.1:4318\"\nrounds = 10\n";
+const HEAD: &[u8] = b"collector = \"http://127.0.0.1:4318\"\nrounds = 10\n";
 
-const NODE: &str = "[[target]]\njob = \"node\"\nurl = \"http://127.0.0.1:9100/metrics?x=1\"\n";
+const NODE: &[u8] = b"[[target]]\njob = \"node\"\nurl = \"http://127.0.0.1:9100/metrics?x=1\"\n";
 
 /// A configuration with some lines between the needed keys and one target.
-fn with(alloc: Global, lines: &str) -> Option<String> {
-    let mut text = String::from_str(alloc, HEAD).ok()?;
-    text.push_str(lines).ok()?;
-    text.push_str(NODE).ok()?;
-    Some(text)
+fn with(alloc: Global, lines: &str) -> Result<Vec<u8>, Memory> {
+    let mut text = Vec::from_slice(alloc, HEAD)?;
+    text.extend_from_slice(lines.as_bytes())?;
+    text.extend_from_slice(NODE)?;
+    Ok(text)
+}
+
+/// Puts the table of a target with this number in its host behind a configuration.
+fn push_target(text: &mut Vec<u8>, number: u32) -> Result<(), Memory> {
+    let mut digits = itoa::Buffer::new();
+    text.extend_from_slice(b"[[target]]\njob = \"j\"\nurl = \"http://h")?;
+    text.extend_from_slice(digits.format(number).as_bytes())?;
+    text.extend_from_slice(b"/\"\n")
 }
 
 /// A configuration of so many targets, with some lines before them.
-fn many(alloc: Global, lines: &str, count: u32) -> Option<String> {
-    let mut text = String::from_str(alloc, HEAD).ok()?;
-    text.push_str(lines).ok()?;
-    for n in 0..count {
-        let mut digits = itoa::Buffer::new();
-        text.push_str("[[target]]\njob = \"j\"\nurl = \"http://h")
-            .ok()?;
-        text.push_str(digits.format(n)).ok()?;
-        text.push_str("/\"\n").ok()?;
+fn many(alloc: Global, lines: &str, count: u32) -> Result<Vec<u8>, Memory> {
+    let mut text = Vec::from_slice(alloc, HEAD)?;
+    text.extend_from_slice(lines.as_bytes())?;
+    for number in 0..count {
+        push_target(&mut text, number)?;
     }
-    Some(text)
+    Ok(text)
 }
 
-/// The line that is printed of a text's fault, or none where it is a configuration.
-fn line(alloc: Global, text: Option<String>) -> Option<Vec<u8>> {
-    match read(alloc, text?.as_bytes()) {
-        Ok(_) => None,
-        Err(ConfigFault::Memory) => None,
-        Err(fault) => {
-            let mut line = Vec::new(alloc);
-            push_line(&mut line, &fault).ok()?;
-            Some(line)
-        }
-    }
+/// Whether a fault has this line.
+fn is_line(alloc: Global, fault: &ConfigFault, expected: &str) -> bool {
+    let mut line = Vec::new(alloc);
+    push_line(&mut line, fault).is_ok() && line.as_slice() == expected.as_bytes()
 }
 
-/// Whether the line of a text's fault is this one.
-fn has_line(alloc: Global, text: Option<String>, expected: &str) -> bool {
-    match line(alloc, text) {
-        Some(line) => line.as_slice() == expected.as_bytes(),
-        None => false,
+/// Whether a text is no configuration, and the line of its fault is this one.
+fn has_line(alloc: Global, text: &[u8], expected: &str) -> bool {
+    match read(alloc, text) {
+        Ok(_) => false,
+        Err(fault) => is_line(alloc, &fault, expected),
     }
 }
 
 /// The configuration with some lines between the needed keys and one target.
 fn config(alloc: Global, lines: &str) -> Option<Config> {
-    let text = with(alloc, lines)?;
-    read(alloc, text.as_bytes()).ok()
+    let text = with(alloc, lines).ok()?;
+    read(alloc, text.as_slice()).ok()
 }
 
 /// The rounds, the longest page, the time between two visits, and how many targets there are.
@@ -79,10 +78,10 @@ fn has_texts(config: &Config, collector: &[u8], instance: &[u8], path: &[u8]) ->
 
 #[test]
 fn numbers_of_a_configuration(rt: HostRuntime) {
-    let config = config(rt.alloc(), "listen = \"127.0.0.1:9464\"\n").expect(&rt, "a configuration");
-    assert_eq!(rt; numbers(&config), (10, 16_777_216, 15_000_000_000, 1));
     numbers_are_right();
     configs_are_right();
+    let config = config(rt.alloc(), "listen = \"127.0.0.1:9464\"\n").expect(&rt, "a configuration");
+    assert_eq!(rt; numbers(&config), (10, 16_777_216, 15_000_000_000, 1));
 }
 
 #[test]
@@ -92,7 +91,7 @@ fn texts_of_a_configuration(rt: HostRuntime) {
 }
 
 #[test]
-fn faults(rt: HostRuntime) {
+fn faults(rt: HostRuntime) -> Result<(), Fail> {
     const ROWS: [(&str, &str); 5] = [
         ("colour = 1\n", "config: unknown colour\n"),
         ("listen = \"127.0.0.1:\"\n", "config: range listen\n"),
@@ -100,29 +99,35 @@ fn faults(rt: HostRuntime) {
         ("pages = 1001\n", "config: missing listen\n"),
         ("keep\n", "config: toml\n"),
     ];
-    let alloc = rt.alloc();
-    for (lines, expected) in ROWS {
-        assert!(rt; has_line(alloc, with(alloc, lines), expected), "at {lines}");
+    for (lines, expected) in &ROWS {
+        let text = with(rt.alloc(), lines)?;
+        assert!(rt;
+            has_line(rt.alloc(), text.as_slice(), expected),
+            "at {lines}"
+        );
     }
+    Ok(())
 }
 
 #[test]
-fn faults_of_many_targets(rt: HostRuntime) {
+fn faults_of_many_targets(rt: HostRuntime) -> Result<(), Fail> {
     const ROWS: [(&str, u32, &str); 2] = [
         ("sample_limit = 1\n", 257, "config: range target\n"),
         ("sample_limit = 181819\n", 11, "config: product samples\n"),
     ];
-    let alloc = rt.alloc();
-    for (lines, count, expected) in ROWS {
+    for (lines, count, expected) in &ROWS {
+        let text = many(rt.alloc(), lines, *count)?;
         assert!(rt;
-            has_line(alloc, many(alloc, lines, count), expected),
+            has_line(rt.alloc(), text.as_slice(), expected),
             "at {lines}"
         );
     }
+    Ok(())
 }
 
 #[test]
-fn many_targets(rt: HostRuntime) {
-    let alloc = rt.alloc();
-    assert!(rt; line(alloc, many(alloc, "sample_limit = 181818\n", 11)).is_none());
+fn many_targets(rt: HostRuntime) -> Result<(), Fail> {
+    let text = many(rt.alloc(), "sample_limit = 181818\n", 11)?;
+    assert!(rt; read(rt.alloc(), text.as_slice()).is_ok());
+    Ok(())
 }

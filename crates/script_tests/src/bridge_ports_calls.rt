@@ -1,6 +1,7 @@
 //! What no clause says: that calls succeed, and how the adapters take a reader and a writer that
 //! fail in mid-stream.
-ghost use Rattle.std.specs.Prelude.{◌≡◌, IfOk, OnOk};
+ghost use Rattle.std.specs.Prelude.{◌≡◌, ◌<◌, false, IfOk, OnOk};
+ghost use Rattle.bridge_ports.specs.Doors.{most_handed};
 ghost use Rattle.bridge_ports.specs.InMemory.{IsFreshConn};
 ghost use Rattle.bridge_ports.specs.declared.talk.Stage.TheVariants as stages;
 
@@ -24,14 +25,14 @@ enum Act {
 
 /// A stream that goes through its acts in order, and fails with the last one from then on.
 #[derive(Drop)]
-struct Scripted {
-    acts: [Act; 4],
+struct Scripted<'a> {
+    acts: &'a [Act; 4],
     calls: usize,
     bytes: u64,
 }
 
-impl Scripted {
-    fn new(acts: [Act; 4]) -> Scripted {
+impl Scripted<'_> {
+    fn new(acts: &[Act; 4]) -> Scripted<'_> {
         Scripted {
             acts,
             calls: 0,
@@ -53,7 +54,7 @@ impl Scripted {
     }
 }
 
-impl Read for Scripted {
+impl Read for Scripted<'_> {
     fn read(&mut self, buf: &mut [u8]) -> io::Result<usize> {
         let count = self.act(buf.len())?;
         let count = count.min(buf.len());
@@ -64,7 +65,7 @@ impl Read for Scripted {
     }
 }
 
-impl Write for Scripted {
+impl Write for Scripted<'_> {
     fn write(&mut self, buf: &[u8]) -> io::Result<usize> {
         let count = self.act(buf.len())?;
         Ok(count.min(buf.len()))
@@ -95,7 +96,7 @@ fn numbers(alloc: Global, numbers: &[u64]) -> Result<List<u64>, AllocError> {
 }
 
 /// What four reads give, one behind another.
-fn four_reads<S: Source>(source: &mut S, into: &mut [u8; 3]) -> [Result<u32, Failed>; 4] {
+fn four_reads<S: Source + Drop>(mut source: S, into: &mut [u8; 3]) -> [Result<u32, Failed>; 4] {
     [
         source.read(into),
         source.read(into),
@@ -105,7 +106,7 @@ fn four_reads<S: Source>(source: &mut S, into: &mut [u8; 3]) -> [Result<u32, Fai
 }
 
 /// What writes of these pieces give, one behind another.
-fn four_writes<S: Sink>(sink: &mut S, pieces: [&[u8]; 4]) -> [Result<u32, Failed>; 4] {
+fn four_writes<S: Sink>(sink: &mut S, pieces: &[&[u8]; 4]) -> [Result<u32, Failed>; 4] {
     [
         sink.write(pieces[0]),
         sink.write(pieces[1]),
@@ -117,64 +118,74 @@ fn four_writes<S: Sink>(sink: &mut S, pieces: [&[u8]; 4]) -> [Result<u32, Failed
 #[test]
 fn std_source_fills_what_it_read(rt: HostRuntime) {
     let mut into = [0u8; 8];
-    let read = StdSource::new(Scripted::new(MID_STREAM)).read(&mut into);
+    let read = StdSource::new(Scripted::new(&MID_STREAM)).read(&mut into);
     assert_eq!(rt; (read, into), (Ok(2), *b"xx\0\0\0\0\0\0"));
 }
 
 // An interrupted read is made anew, but not without end.
 #[test]
 fn std_source_fails_in_mid_stream(rt: HostRuntime) {
-    const ROWS: [([Act; 4], [Result<u32, Failed>; 4]); 3] = [
-        (MID_STREAM, [Ok(2), Ok(1), Err(Failed), Err(Failed)]),
-        (NOTHING, [Ok(0); 4]),
-        (INTERRUPTED, [Err(Failed); 4]),
+    const ROWS: [(&[Act; 4], [Result<u32, Failed>; 4]); 3] = [
+        (&MID_STREAM, [Ok(2), Ok(1), Err(Failed), Err(Failed)]),
+        (&NOTHING, [Ok(0); 4]),
+        (&INTERRUPTED, [Err(Failed); 4]),
     ];
-    for (acts, expected) in ROWS {
-        let mut source = StdSource::new(Scripted::new(acts));
-        assert_eq!(rt; four_reads(&mut source, &mut [0; 3]), expected);
+    for (acts, expected) in &ROWS {
+        let reads = four_reads(StdSource::new(Scripted::new(acts)), &mut [0; 3]);
+        assert_eq!(rt; reads, *expected);
     }
+}
+
+/// What writes of these pieces to a stream of these acts give.
+fn std_writes(acts: &[Act; 4], pieces: &[&[u8]; 4]) -> [Result<u32, Failed>; 4] {
+    four_writes(&mut StdSink::new(Scripted::new(acts)), pieces)
 }
 
 // An interrupted write is made anew, but not without end; a writer that takes nothing fails.
 #[test]
 fn std_sink_fails_in_mid_stream(rt: HostRuntime) {
-    const ROWS: [([Act; 4], [&[u8]; 4], [Result<u32, Failed>; 4]); 3] = [
+    const ROWS: [(&[Act; 4], [&[u8]; 4], [Result<u32, Failed>; 4]); 3] = [
         (
-            MID_STREAM,
+            &MID_STREAM,
             [b"abcd", b"cd", b"d", b"d"],
             [Ok(2), Ok(1), Err(Failed), Err(Failed)],
         ),
         (
-            NOTHING,
+            &NOTHING,
             [b"a", b"", b"a", b""],
             [Err(Failed), Ok(0), Err(Failed), Ok(0)],
         ),
-        (INTERRUPTED, [b"a", b"a", b"a", b"a"], [Err(Failed); 4]),
+        (&INTERRUPTED, [b"a", b"a", b"a", b"a"], [Err(Failed); 4]),
     ];
-    for (acts, pieces, expected) in ROWS {
-        let mut sink = StdSink::new(Scripted::new(acts));
-        assert_eq!(rt; four_writes(&mut sink, pieces), expected);
+    for (acts, pieces, expected) in &ROWS {
+        assert_eq!(rt; std_writes(acts, pieces), *expected);
     }
+}
+
+/// A source of four bytes, of which the second read fails.
+fn source(alloc: Global) -> Result<MemorySource, AllocError>
+    ensures { IfOk result (λ source. source.faults ≡ 0) }
+{
+    let failing = numbers(alloc, &[2])?;
+    Ok(MemorySource::new(bytes(alloc, b"abcd")?, failing))
 }
 
 #[test]
 fn memory_source_gives_its_bytes(rt: HostRuntime) -> Result<(), Fail> {
-    let alloc = rt.alloc();
     let mut into = [0u8; 3];
-    let mut source = MemorySource::new(bytes(alloc, b"abcd")?, numbers(alloc, &[2])?);
+    let reads = four_reads(source(rt.alloc())?, &mut into);
     assert_eq!(rt;
-        four_reads(&mut source, &mut into),
-        [Ok(3), Err(Failed), Ok(1), Ok(0)]
+        (reads, into),
+        ([Ok(3), Err(Failed), Ok(1), Ok(0)], *b"dbc")
     );
-    assert_eq!(rt; into, *b"dbc");
     Ok(())
 }
 
 #[test]
 fn sure_source_gives_its_bytes(rt: HostRuntime) -> Result<(), Fail> {
-    let mut source = SureSource::new(bytes(rt.alloc(), b"ab")?);
+    let source = SureSource::new(bytes(rt.alloc(), b"ab")?);
     assert_eq!(rt;
-        four_reads(&mut source, &mut [0; 3]),
+        four_reads(source, &mut [0; 3]),
         [Ok(2), Ok(0), Ok(0), Ok(0)]
     );
     Ok(())
@@ -182,13 +193,16 @@ fn sure_source_gives_its_bytes(rt: HostRuntime) -> Result<(), Fail> {
 
 #[test]
 fn memory_sink_takes_what_it_has_room_for(rt: HostRuntime) -> Result<(), Fail> {
-    let alloc = rt.alloc();
-    let mut sink = MemorySink::new(alloc, 4, numbers(alloc, &[2])?)?;
+    let mut sink = MemorySink::new(rt.alloc(), 4, numbers(rt.alloc(), &[2])?)?;
+    let writes = four_writes(&mut sink, &[b"abc", b"d", b"def", b"ef"]);
     assert_eq!(rt;
-        four_writes(&mut sink, [b"abc", b"d", b"def", b"ef"]),
-        [Ok(3), Err(Failed), Ok(1), Err(Failed)]
+        (writes, sink.write(b""), sink.held()),
+        (
+            [Ok(3), Err(Failed), Ok(1), Err(Failed)],
+            Ok(0),
+            b"abcd".as_slice()
+        )
     );
-    assert_eq!(rt; (sink.write(b""), sink.held()), (Ok(0), b"abcd".as_slice()));
     Ok(())
 }
 
@@ -218,10 +232,12 @@ fn wire(alloc: Global, got: &[u8], failing: &[u64]) -> Result<MemoryWire, AllocE
     Ok(MemoryWire::new(alloc, place, replies, Some(after), 2, failing))
 }
 
-/// A talk that sends three bytes, reads once and is left, unless a call failed: when it began, how many bytes were
-/// read, and eight places of which the first hold these.
+/// When a talk began, how many bytes were read in it, and eight places of which the first hold these.
+type Talk = (u64, Option<u32>, [u8; 8]);
+
+/// A talk that sends three bytes, reads once and is left, unless a call failed.
 #[tactic(auto, using(bridge_ports::proofs::Laws::left_is_idle))]
-fn one_talk<W: Wire>(alloc: Global, wire: &mut W) -> Result<(u64, Option<u32>, [u8; 8]), AllocError>
+fn one_talk<W: Wire>(alloc: Global, wire: &mut W) -> Result<Talk, AllocError>
     requires { (W.state wire.old).stage ≡ stages.Idle }
     ensures { OnOk result ((W.state wire.new).stage ≡ stages.Idle) }
 {
@@ -267,36 +283,64 @@ fn memory_wire_tells_its_replies(rt: HostRuntime) -> Result<(), Fail> {
     Ok(())
 }
 
+/// Two talks over a wire, and how many it made that were left.
+fn two_talks(alloc: Global, wire: &mut MemoryWire) -> Result<([Talk; 2], Option<u64>), AllocError>
+    requires { wire.old.stage ≡ stages.Idle }
+{
+    let first = one_talk(alloc, wire)?;
+    let second = one_talk(alloc, wire)?;
+    Ok(([first, second], talks_left(wire)))
+}
+
 #[test]
 fn memory_wire_answers_its_replies(rt: HostRuntime) -> Result<(), Fail> {
-    let alloc = rt.alloc();
-    let mut wire = wire(alloc, b"abc", &[])?;
-    let first = one_talk(alloc, &mut wire)?;
-    let second = one_talk(alloc, &mut wire)?;
+    let mut wire = wire(rt.alloc(), b"abc", &[])?;
     assert_eq!(rt;
-        [first, second],
-        [
-            (7, Some(2), *b"ab\0\0\0\0\0\0"),
-            (9, Some(2), *b"ab\0\0\0\0\0\0")
-        ]
+        two_talks(rt.alloc(), &mut wire)?,
+        (
+            [
+                (7, Some(2), *b"ab\0\0\0\0\0\0"),
+                (9, Some(2), *b"ab\0\0\0\0\0\0")
+            ],
+            Some(2)
+        )
     );
-    assert_eq!(rt; talks_left(&wire), Some(2));
     Ok(())
+}
+
+/// One talk over a wire, and how its only one ended.
+fn talk_and_end(
+    alloc: Global,
+    wire: &mut MemoryWire,
+) -> Result<(Talk, Option<(End, bool)>), AllocError>
+    requires { wire.old.stage ≡ stages.Idle }
+{
+    let talk = one_talk(alloc, wire)?;
+    Ok((talk, only_talk(wire)))
+}
+
+/// The same over a wire that forgets, once it allowed a talk of any length.
+fn forgotten_talk(alloc: Global) -> Result<(Talk, Option<(End, bool)>), AllocError> {
+    let mut wire = wire(alloc, b"abc", &[])?;
+    wire.forget();
+    wire.ready(alloc, 1, u64::MAX)?;
+    talk_and_end(alloc, &mut wire)
 }
 
 // It takes no memory for what is sent, however much that may be.
 #[test]
 fn memory_wire_that_forgets_tells_its_talks(rt: HostRuntime) -> Result<(), Fail> {
-    let alloc = rt.alloc();
-    let mut wire = wire(alloc, b"abc", &[])?;
-    wire.forget();
-    wire.ready(alloc, 1, u64::MAX)?;
-    let talk = one_talk(alloc, &mut wire)?;
     assert_eq!(rt;
-        (talk, only_talk(&wire)),
+        forgotten_talk(rt.alloc())?,
         ((7, Some(2), *b"ab\0\0\0\0\0\0"), Some((End::Left, false)))
     );
     Ok(())
+}
+
+/// The same over a wire of which this call fails.
+fn failed_talk(alloc: Global, call: u64) -> Result<(Talk, Option<(End, bool)>), AllocError> {
+    let mut wire = wire(alloc, b"abc", &[call])?;
+    talk_and_end(alloc, &mut wire)
 }
 
 #[test]
@@ -306,13 +350,10 @@ fn memory_wire_fails_where_it_is_named_to(rt: HostRuntime) -> Result<(), Fail> {
         (2, End::WriteFailed),
         (3, End::ReadFailed),
     ];
-    let alloc = rt.alloc();
-    for (call, end) in ROWS {
-        let mut wire = wire(alloc, b"abc", &[call])?;
-        let talk = one_talk(alloc, &mut wire)?;
+    for (call, end) in &ROWS {
         assert_eq!(rt;
-            (talk, only_talk(&wire)),
-            ((7, None, [0; 8]), Some((end, true)))
+            failed_talk(rt.alloc(), *call)?,
+            ((7, None, [0; 8]), Some((*end, true)))
         );
     }
     Ok(())
@@ -320,11 +361,10 @@ fn memory_wire_fails_where_it_is_named_to(rt: HostRuntime) -> Result<(), Fail> {
 
 #[test]
 fn memory_wire_wants_memory_where_it_is_lean(rt: HostRuntime) -> Result<(), Fail> {
-    let alloc = rt.alloc();
-    let mut wire = wire(alloc, b"", &[])?;
+    let mut wire = wire(rt.alloc(), b"", &[])?;
     wire.lean_at(1);
-    assert!(rt; one_talk(alloc, &mut wire).is_err());
-    assert_eq!(rt; wire.finished(), 0);
+    let refused = one_talk(rt.alloc(), &mut wire).is_err();
+    assert_eq!(rt; (refused, wire.finished()), (true, 0));
     Ok(())
 }
 
@@ -332,7 +372,7 @@ fn memory_wire_wants_memory_where_it_is_lean(rt: HostRuntime) -> Result<(), Fail
 fn conn(alloc: Global) -> Result<MemoryConn, AllocError>
     ensures { IfOk result IsFreshConn }
 {
-    let source = MemorySource::new(bytes(alloc, b"abcd")?, numbers(alloc, &[2])?);
+    let source = source(alloc)?;
     let sink = MemorySink::new(alloc, 4, numbers(alloc, &[])?)?;
     Ok(MemoryConn::new(source, sink))
 }
@@ -343,23 +383,44 @@ fn memory_door_without_connections_hands_out_none(rt: HostRuntime) {
     assert!(rt; door.accept().is_err());
 }
 
+/// What two reads and a write of a connection give.
+fn two_reads_and_a_write(conn: &mut MemoryConn) -> [Result<u32, Failed>; 3] {
+    let mut into = [0u8; 4];
+    [
+        conn.read(&mut into),
+        conn.read(&mut into),
+        conn.write(b"ok"),
+    ]
+}
+
 #[test]
 fn memory_connection_gives_and_takes(rt: HostRuntime) -> Result<(), Fail> {
-    let mut into = [0u8; 4];
     let mut conn = conn(rt.alloc())?;
-    let reads = [conn.read(&mut into), conn.read(&mut into)];
-    assert_eq!(rt; reads, [Ok(4), Err(Failed)]);
-    assert_eq!(rt; (conn.write(b"ok"), conn.held()), (Ok(2), b"ok".as_slice()));
+    let calls = two_reads_and_a_write(&mut conn);
+    assert_eq!(rt;
+        (calls, conn.held()),
+        ([Ok(4), Err(Failed), Ok(2)], b"ok".as_slice())
+    );
     Ok(())
+}
+
+/// Whether a door hands out a connection; it gets it back.
+fn hands_out<D: Door>(door: &mut D) -> bool
+    requires home { (D.door door.old).out ≡ false }
+    requires few { (D.door door.old).handed < most_handed }
+{
+    match door.accept() {
+        Ok(conn) => {
+            door.close(conn);
+            true
+        }
+        Err(Failed) => false,
+    }
 }
 
 #[test]
 fn memory_door_takes_its_connection_back(rt: HostRuntime) -> Result<(), Fail> {
-    let alloc = rt.alloc();
-    let mut door = MemoryDoor::new(Vec::from_array(alloc, [conn(alloc)?])?);
-    match door.accept() {
-        Ok(conn) => door.close(conn),
-        Err(Failed) => assert!(rt; false),
-    }
+    let conns = Vec::from_array(rt.alloc(), [conn(rt.alloc())?])?;
+    assert!(rt; hands_out(&mut MemoryDoor::new(conns)));
     Ok(())
 }

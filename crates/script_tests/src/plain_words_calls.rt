@@ -16,8 +16,8 @@ fn numbers(rt: HostRuntime) {
         (b"\xc3", 5, None),
         (b"18446744073709551616", 5, None),
     ];
-    for (word, most, expected) in ROWS {
-        assert_eq!(rt; number(word, most), expected);
+    for (word, most, expected) in &ROWS {
+        assert_eq!(rt; number(word, *most), *expected);
     }
 }
 
@@ -29,26 +29,34 @@ fn place(word: &[u8]) -> Option<(&[u8], u16)> {
 
 #[test]
 fn places(rt: HostRuntime) {
-    const OTHERS: [&[u8]; 8] = [
-        b"h", b":80", b"h:0", b"h:65536", b"h:080", b"long:80", b"h h:80", b"h:",
+    const ROWS: [(&[u8], Option<(&[u8], u16)>); 9] = [
+        (b"a:b:80", Some((b"a:b", 80))),
+        (b"h", None),
+        (b":80", None),
+        (b"h:0", None),
+        (b"h:65536", None),
+        (b"h:080", None),
+        (b"long:80", None),
+        (b"h h:80", None),
+        (b"h:", None),
     ];
-    assert_eq!(rt; place(b"a:b:80"), Some((b"a:b".as_slice(), 80)));
-    for word in OTHERS {
-        assert_eq!(rt; place(word), None);
+    for (word, expected) in &ROWS {
+        assert_eq!(rt; place(word), *expected);
     }
 }
 
 #[test]
 fn visible_words(rt: HostRuntime) {
-    assert!(rt; is_visible_word(1, b"!"));
-    assert!(rt; !is_visible_word(1, b""));
+    assert_eq!(rt;
+        (is_visible_word(1, b"!"), is_visible_word(1, b"")),
+        (true, false)
+    );
 }
 
 #[test]
 fn parts(rt: HostRuntime) {
     assert_eq!(rt;
-        cut_first(b' ', b"a b c"),
-        Some((b"a".as_slice(), b"b c".as_slice()))
+        (cut_first(b' ', b"a b c"), cut_first(b' ', b"abc")),
+        (Some((b"a".as_slice(), b"b c".as_slice())), None)
     );
-    assert!(rt; cut_first(b' ', b"abc").is_none());
 }

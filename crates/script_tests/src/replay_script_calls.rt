@@ -1,5 +1,6 @@
 //! Tests of `replay_script`.
 use bridge_ports::End;
+use label_sets::Memory;
 use replay_script::{Script, ScriptFault, collector, default_reply, read, scripts_are_right};
 use std::alloc::Global;
 use std::test::Fail;
@@ -60,26 +61,29 @@ fn first_post(script: &Script) -> Option<End> {
 
 #[test]
 fn one_script_has_its_head_and_target(rt: HostRuntime) {
-    let script = read(rt.alloc(), FALLS).expect(&rt, "a script");
-    assert_eq!(rt; head(&script), (1, 7, 2, 1));
-    assert_eq!(rt;
-        named(&script, 0),
-        Some((b"j".as_slice(), b"h:1".as_slice()))
-    );
     scripts_are_right();
+    let script = read(rt.alloc(), FALLS).expect(&rt, "a script");
+    assert_eq!(rt;
+        (head(&script), named(&script, 0)),
+        ((1, 7, 2, 1), Some((b"j".as_slice(), b"h:1".as_slice())))
+    );
 }
 
 #[test]
 fn one_script_has_its_replies(rt: HostRuntime) {
     let script = read(rt.alloc(), FALLS).expect(&rt, "a script");
     assert_eq!(rt;
-        (counts(&script, 0), scraped(&script, 0, 1)),
-        (Some((2, 0)), Some((20, End::Ended)))
-    );
-    assert_eq!(rt;
-        first_bytes(&script),
-        Some(
-            b"HTTP/1.1 200 OK\r\nContent-Type: text/plain; version=0.0.4\r\nContent-Length: 4\r\n\r\nx 1\n".as_slice()
+        (
+            counts(&script, 0),
+            scraped(&script, 0, 1),
+            first_bytes(&script)
+        ),
+        (
+            Some((2, 0)),
+            Some((20, End::Ended)),
+            Some(
+                b"HTTP/1.1 200 OK\r\nContent-Type: text/plain; version=0.0.4\r\nContent-Length: 4\r\n\r\nx 1\n".as_slice()
+            )
         )
     );
 }
@@ -90,26 +94,41 @@ const RAW: &[u8] =
 #[test]
 fn raw_scrape_has_its_time_its_end_and_its_bytes(rt: HostRuntime) {
     let script = read(rt.alloc(), RAW).expect(&rt, "a script");
-    assert_eq!(rt; scraped(&script, 0, 0), Some((7, End::ReadFailed)));
-    assert_eq!(rt; first_bytes(&script), Some(b"HT".as_slice()));
+    assert_eq!(rt;
+        (scraped(&script, 0, 0), first_bytes(&script)),
+        (Some((7, End::ReadFailed)), Some(b"HT".as_slice()))
+    );
 }
 
 #[test]
 fn raw_replies_are_counted(rt: HostRuntime) {
     let script = read(rt.alloc(), RAW).expect(&rt, "a script");
     assert_eq!(rt;
-        (script.targets.len(), counts(&script, 0)),
-        (1, Some((1, 1)))
+        (
+            script.targets.len(),
+            counts(&script, 0),
+            first_post(&script)
+        ),
+        (1, Some((1, 1)), Some(End::ConnectFailed))
     );
-    assert_eq!(rt; first_post(&script), Some(End::ConnectFailed));
+}
+
+/// When the reply that is not planned comes.
+fn default_time(alloc: Global) -> Option<u64> {
+    Some(default_reply(alloc).ok()?.at)
+}
+
+/// The port of the collector.
+fn collector_port(alloc: Global) -> Option<u16> {
+    Some(collector(alloc).ok()?.port)
 }
 
 #[test]
 fn what_wires_answer(rt: HostRuntime) {
-    let reply = default_reply(rt.alloc()).expect(&rt, "a reply");
-    assert_eq!(rt; reply.at, 0);
-    let collector = collector(rt.alloc()).expect(&rt, "an address");
-    assert_eq!(rt; collector.port, 4_318);
+    assert_eq!(rt;
+        (default_time(rt.alloc()), collector_port(rt.alloc())),
+        (Some(0), Some(4_318))
+    );
 }
 
 /// Refused scripts, each with the line that is named.
@@ -143,9 +162,8 @@ const REFUSED: [(&[u8], u64); 7] = [
 
 #[test]
 fn refused_records_and_targets(rt: HostRuntime) {
-    let alloc = rt.alloc();
-    for (script, expected) in REFUSED {
-        assert_eq!(rt; line(alloc, script), Some(expected));
+    for (script, expected) in &REFUSED {
+        assert_eq!(rt; line(rt.alloc(), script), Some(*expected));
     }
 }
 
@@ -158,45 +176,66 @@ fn target_with_its_page_is_taken(rt: HostRuntime) {
 const THREE: &[u8] =
     b"bridge-script 1\nrounds 1\ntarget j h:1 /m\nscrape 1 connect 0\n\npost 2 write 0\n\ntarget j h:2 /m\nscrape 3 write 0\n\ntarget k h:1 /m\npost 4 connect 0\n\nscrape 5 ended 0\n\n";
 
+/// The names of the three targets.
+const NAMES: [(&[u8], &[u8]); 3] = [(b"j", b"h:1"), (b"j", b"h:2"), (b"k", b"h:1")];
+
+/// How many targets of a script have these names at their places.
+fn named_so(script: &Script) -> usize {
+    let mut count = 0usize;
+    for (place, names) in NAMES.iter().enumerate() {
+        if named(script, place) == Some(*names) {
+            count = count.saturating_add(1);
+        }
+    }
+    count
+}
+
 #[test]
 fn three_targets_are_named(rt: HostRuntime) {
-    const ROWS: [(usize, (&[u8], &[u8])); 3] = [
-        (0, (b"j", b"h:1")),
-        (1, (b"j", b"h:2")),
-        (2, (b"k", b"h:1")),
-    ];
     let script = read(rt.alloc(), THREE).expect(&rt, "a script");
-    assert_eq!(rt; script.targets.len(), 3);
-    for (place, expected) in ROWS {
-        assert_eq!(rt; named(&script, place), Some(expected));
+    assert_eq!(rt; (script.targets.len(), named_so(&script)), (3, 3));
+}
+
+/// How many scrapes and posts each of the three targets has, and when and how its first scrape ends.
+const REPLIES: [((usize, usize), (u64, End)); 3] = [
+    ((1, 1), (1, End::ConnectFailed)),
+    ((1, 0), (3, End::WriteFailed)),
+    ((1, 1), (5, End::Ended)),
+];
+
+/// How many targets of a script have these replies at their places.
+fn replied_so(script: &Script) -> usize {
+    let mut count = 0usize;
+    for (place, (numbers, first)) in REPLIES.iter().enumerate() {
+        if counts(script, place) == Some(*numbers) && scraped(script, place, 0) == Some(*first) {
+            count = count.saturating_add(1);
+        }
     }
+    count
 }
 
 // Each target has its own scrape and posts, in whichever order a script names these.
 #[test]
 fn three_targets_have_their_replies(rt: HostRuntime) {
-    const ROWS: [(usize, (usize, usize), (u64, End)); 3] = [
-        (0, (1, 1), (1, End::ConnectFailed)),
-        (1, (1, 0), (3, End::WriteFailed)),
-        (2, (1, 1), (5, End::Ended)),
-    ];
     let script = read(rt.alloc(), THREE).expect(&rt, "a script");
-    for (place, count, first) in ROWS {
-        assert_eq!(rt;
-            (counts(&script, place), scraped(&script, place, 0)),
-            (Some(count), Some(first))
-        );
-    }
+    assert_eq!(rt; replied_so(&script), 3);
 }
 
 /// A script of so many targets, each with an empty page.
-fn of_targets(alloc: Global, count: u16) -> Result<Vec<u8>, Fail> {
+fn of_targets(alloc: Global, count: u16) -> Result<Vec<u8>, Memory> {
     let mut script = Vec::from_slice(alloc, b"bridge-script 1\nrounds 1\n")?;
     for port in 1..=count {
-        let lines = format!(in alloc; "target j h:{port} /m\npage 1 text 0\n\n")?;
-        script.extend_from_slice(lines.as_bytes())?;
+        push_target(&mut script, port)?;
     }
     Ok(script)
+}
+
+/// Puts the lines of a target with this port behind a script.
+fn push_target(script: &mut Vec<u8>, port: u16) -> Result<(), Memory> {
+    let mut digits = itoa::Buffer::new();
+    script.extend_from_slice(b"target j h:")?;
+    script.extend_from_slice(digits.format(port).as_bytes())?;
+    script.extend_from_slice(b" /m\npage 1 text 0\n\n")
 }
 
 /// How many targets a script has, where it is one.

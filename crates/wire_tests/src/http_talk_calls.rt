@@ -75,180 +75,260 @@ fn address(alloc: Global) -> Result<Address, AllocError> {
     })
 }
 
+/// Whether the request for a page is this one.
+fn is_get(alloc: Global, to: &Address) -> Result<bool, AllocError> {
+    let text = get_text(alloc, to)?;
+    Ok(
+        text.as_slice()
+            == b"GET /metrics HTTP/1.1\r\nHost: h:80\r\nAccept: text/plain;version=0.0.4;q=0.9,application/openmetrics-text;version=1.0.0;q=0.5\r\nAccept-Encoding: identity\r\nConnection: close\r\n\r\n".as_slice(),
+    )
+}
+
+/// Whether the request that posts two bytes is this one.
+fn is_post(alloc: Global, to: &Address) -> Result<bool, AllocError> {
+    let text = post_text(alloc, to, b"{}")?;
+    Ok(
+        text.as_slice()
+            == b"POST /metrics HTTP/1.1\r\nHost: h:80\r\nContent-Type: application/json\r\nContent-Length: 2\r\nConnection: close\r\n\r\n{}".as_slice(),
+    )
+}
+
 #[test]
 fn requests_are_written(rt: HostRuntime) -> Result<(), Fail> {
-    let alloc = rt.alloc();
-    let to = address(alloc)?;
-    let get = get_text(alloc, &to)?;
-    assert!(rt;
-        get.as_slice()
-            == b"GET /metrics HTTP/1.1\r\nHost: h:80\r\nAccept: text/plain;version=0.0.4;q=0.9,application/openmetrics-text;version=1.0.0;q=0.5\r\nAccept-Encoding: identity\r\nConnection: close\r\n\r\n".as_slice()
-    );
-    let post = post_text(alloc, &to, b"{}")?;
-    assert!(rt;
-        post.as_slice()
-            == b"POST /metrics HTTP/1.1\r\nHost: h:80\r\nContent-Type: application/json\r\nContent-Length: 2\r\nConnection: close\r\n\r\n{}".as_slice()
-    );
+    let to = address(rt.alloc())?;
+    let are_right = (is_get(rt.alloc(), &to)?, is_post(rt.alloc(), &to)?);
+    assert_eq!(rt; are_right, (true, true));
     Ok(())
+}
+
+/// The parts of a reply, and what it comes to.
+type Row<'a> = (&'a [(&'a [u8], usize)], Result<usize, ReplyFault>);
+
+/// The place of the first row whose reply comes to something else, at once or byte by byte.
+fn first_other(alloc: Global, rows: &[Row<'_>]) -> Result<Option<usize>, AllocError> {
+    for (place, (parts, expected)) in rows.iter().enumerate() {
+        if read(alloc, parts)? != [*expected, *expected] {
+            return Ok(Some(place));
+        }
+    }
+    Ok(None)
 }
 
 #[test]
 fn heads_at_their_limits(rt: HostRuntime) -> Result<(), Fail> {
-    let alloc = rt.alloc();
-    let by_fields: [(usize, Result<usize, ReplyFault>); 2] = [
-        (64, Ok(1)),
-        (65, Err(ReplyFault::Head)),
+    const ROWS: [Row<'static>; 4] = [
+        (&[(OK, 1), (b"a: b\r\n", 64), (b"\r\n+", 1)], Ok(1)),
+        (
+            &[(OK, 1), (b"a: b\r\n", 65), (b"\r\n+", 1)],
+            Err(ReplyFault::Head),
+        ),
+        (
+            &[(OK, 1), (b"a: ", 1), (b"v", 16_360), (b"\r\n\r\n", 1)],
+            Ok(0),
+        ),
+        (
+            &[(OK, 1), (b"a: ", 1), (b"v", 16_361), (b"\r\n\r\n", 1)],
+            Err(ReplyFault::Head),
+        ),
     ];
-    for (fields, expected) in by_fields {
-        let parts: [(&[u8], usize); 3] = [(OK, 1), (b"a: b\r\n", fields), (b"\r\n+", 1)];
-        assert_eq!(rt; read(alloc, &parts)?, [expected, expected]);
-    }
-    let by_letters: [(usize, Result<usize, ReplyFault>); 2] = [
-        (16_360, Ok(0)),
-        (16_361, Err(ReplyFault::Head)),
-    ];
-    for (letters, expected) in by_letters {
-        let parts: [(&[u8], usize); 4] = [(OK, 1), (b"a: ", 1), (b"v", letters), (b"\r\n\r\n", 1)];
-        assert_eq!(rt; read(alloc, &parts)?, [expected, expected]);
-    }
+    assert_eq!(rt; first_other(rt.alloc(), &ROWS)?, None);
     Ok(())
 }
 
 #[test]
 fn heads_that_are_refused(rt: HostRuntime) -> Result<(), Fail> {
-    let alloc = rt.alloc();
-    let rows: [(&[u8], ReplyFault); 4] = [
-        (b"HTTP/1.1 200 OK\r\na: b\r\n", ReplyFault::Truncated),
-        (b"HTTP/1.1 204 No Content\r\n\r\n", ReplyFault::Status(204)),
-        (b"HTTP/1.1 20O", ReplyFault::Head),
+    const ROWS: [Row<'static>; 4] = [
         (
-            b"HTTP/1.1 200 OK\r\nTransfer-Encoding: gzip\r\n\r\n",
-            ReplyFault::Encoding,
+            &[(b"HTTP/1.1 200 OK\r\na: b\r\n", 1)],
+            Err(ReplyFault::Truncated),
+        ),
+        (
+            &[(b"HTTP/1.1 204 No Content\r\n\r\n", 1)],
+            Err(ReplyFault::Status(204)),
+        ),
+        (&[(b"HTTP/1.1 20O", 1)], Err(ReplyFault::Head)),
+        (
+            &[(b"HTTP/1.1 200 OK\r\nTransfer-Encoding: gzip\r\n\r\n", 1)],
+            Err(ReplyFault::Encoding),
         ),
     ];
-    for (head, fault) in rows {
-        assert_eq!(rt; read(alloc, &[(head, 1)])?, [Err(fault), Err(fault)]);
-    }
+    assert_eq!(rt; first_other(rt.alloc(), &ROWS)?, None);
     Ok(())
 }
 
 #[test]
 fn lengths_by_their_digits(rt: HostRuntime) -> Result<(), Fail> {
-    let alloc = rt.alloc();
-    let rows: [(&[u8], Result<usize, ReplyFault>); 4] = [
-        (b"Content-Length: 000000000000000002\r\n\r\nab+", Ok(2)),
+    const ROWS: [Row<'static>; 4] = [
         (
-            b"Content-Length: 0000000000000000002\r\n\r\nab",
+            &[
+                (OK, 1),
+                (b"Content-Length: 000000000000000002\r\n\r\nab+", 1),
+            ],
+            Ok(2),
+        ),
+        (
+            &[
+                (OK, 1),
+                (b"Content-Length: 0000000000000000002\r\n\r\nab", 1),
+            ],
             Err(ReplyFault::Head),
         ),
-        (b"Content-Length: 2\r\nContent-Length: 02\r\n\r\nab", Ok(2)),
         (
-            b"Content-Length: 2\r\nContent-Length: 3\r\n\r\nab",
+            &[
+                (OK, 1),
+                (b"Content-Length: 2\r\nContent-Length: 02\r\n\r\nab", 1),
+            ],
+            Ok(2),
+        ),
+        (
+            &[
+                (OK, 1),
+                (b"Content-Length: 2\r\nContent-Length: 3\r\n\r\nab", 1),
+            ],
             Err(ReplyFault::Head),
         ),
     ];
-    for (rest, expected) in rows {
-        assert_eq!(rt; read(alloc, &[(OK, 1), (rest, 1)])?, [expected, expected]);
-    }
+    assert_eq!(rt; first_other(rt.alloc(), &ROWS)?, None);
     Ok(())
 }
 
 #[test]
 fn bodies_at_their_limit(rt: HostRuntime) -> Result<(), Fail> {
-    let alloc = rt.alloc();
-    let rows: [(&[u8], usize, Result<usize, ReplyFault>); 5] = [
-        (b"Content-Length: 1024\r\n\r\n", 1_024, Ok(1_024)),
+    const ROWS: [Row<'static>; 5] = [
         (
-            b"Content-Length: 1024\r\n\r\n",
-            1_023,
+            &[(OK, 1), (b"Content-Length: 1024\r\n\r\n", 1), (b"a", 1_024)],
+            Ok(1_024),
+        ),
+        (
+            &[(OK, 1), (b"Content-Length: 1024\r\n\r\n", 1), (b"a", 1_023)],
             Err(ReplyFault::Truncated),
         ),
-        (b"Content-Length: 1025\r\n\r\n", 0, Err(ReplyFault::TooLong)),
-        (b"\r\n", 1_024, Ok(1_024)),
-        (b"\r\n", 1_025, Err(ReplyFault::TooLong)),
+        (
+            &[(OK, 1), (b"Content-Length: 1025\r\n\r\n", 1)],
+            Err(ReplyFault::TooLong),
+        ),
+        (&[(OK, 1), (b"\r\n", 1), (b"a", 1_024)], Ok(1_024)),
+        (
+            &[(OK, 1), (b"\r\n", 1), (b"a", 1_025)],
+            Err(ReplyFault::TooLong),
+        ),
     ];
-    for (rest, letters, expected) in rows {
-        let parts: [(&[u8], usize); 3] = [(OK, 1), (rest, 1), (b"a", letters)];
-        assert_eq!(rt; read(alloc, &parts)?, [expected, expected]);
-    }
+    assert_eq!(rt; first_other(rt.alloc(), &ROWS)?, None);
     Ok(())
 }
 
 #[test]
 fn chunks_by_their_sizes(rt: HostRuntime) -> Result<(), Fail> {
-    let alloc = rt.alloc();
-    let rows: [(&[u8], Result<usize, ReplyFault>); 7] = [
-        (b"2\r\nab\r\n1\r\nc\r\n0\r\n\r\n+", Ok(3)),
-        (b"00000001\r\na\r\n0\r\n\r\n", Ok(1)),
-        (b"000000001\r\na\r\n0\r\n\r\n", Err(ReplyFault::Chunk)),
-        (b"1\na", Err(ReplyFault::Chunk)),
-        (b"1\r\nab", Err(ReplyFault::Chunk)),
-        (b"FFFFFFFF\r\nab", Err(ReplyFault::Truncated)),
-        (b"2\r\nab\r\n0\r\n\r", Err(ReplyFault::Truncated)),
+    const ROWS: [Row<'static>; 7] = [
+        (
+            &[(CHUNKED, 1), (b"2\r\nab\r\n1\r\nc\r\n0\r\n\r\n+", 1)],
+            Ok(3),
+        ),
+        (&[(CHUNKED, 1), (b"00000001\r\na\r\n0\r\n\r\n", 1)], Ok(1)),
+        (
+            &[(CHUNKED, 1), (b"000000001\r\na\r\n0\r\n\r\n", 1)],
+            Err(ReplyFault::Chunk),
+        ),
+        (&[(CHUNKED, 1), (b"1\na", 1)], Err(ReplyFault::Chunk)),
+        (&[(CHUNKED, 1), (b"1\r\nab", 1)], Err(ReplyFault::Chunk)),
+        (
+            &[(CHUNKED, 1), (b"FFFFFFFF\r\nab", 1)],
+            Err(ReplyFault::Truncated),
+        ),
+        (
+            &[(CHUNKED, 1), (b"2\r\nab\r\n0\r\n\r", 1)],
+            Err(ReplyFault::Truncated),
+        ),
     ];
-    for (body, expected) in rows {
-        assert_eq!(rt;
-            read(alloc, &[(CHUNKED, 1), (body, 1)])?,
-            [expected, expected]
-        );
-    }
+    assert_eq!(rt; first_other(rt.alloc(), &ROWS)?, None);
     Ok(())
 }
 
 #[test]
 fn chunks_at_their_limits(rt: HostRuntime) -> Result<(), Fail> {
-    let alloc = rt.alloc();
-    let rows: [(&[u8], usize, &[u8], Result<usize, ReplyFault>); 6] = [
-        (b"1;", 1_020, b"\r\na\r\n0\r\n\r\n", Ok(1)),
-        (b"1;", 1_021, b"\r\na\r\n0\r\n\r\n", Err(ReplyFault::Chunk)),
-        (b"0\r\nt:", 16_380, b"\r\n\r\n", Ok(0)),
-        (b"0\r\nt:", 16_381, b"\r\n\r\n", Err(ReplyFault::Chunk)),
-        (b"400\r\n", 1_024, b"\r\n0\r\n\r\n", Ok(1_024)),
+    const ONE: (&[u8], usize) = (b"\r\na\r\n0\r\n\r\n", 1);
+    const LAST: (&[u8], usize) = (b"\r\n0\r\n\r\n", 1);
+    const ROWS: [Row<'static>; 6] = [
+        (&[(CHUNKED, 1), (b"1;", 1), (b"x", 1_020), ONE], Ok(1)),
         (
-            b"401\r\n",
-            1_025,
-            b"\r\n0\r\n\r\n",
+            &[(CHUNKED, 1), (b"1;", 1), (b"x", 1_021), ONE],
+            Err(ReplyFault::Chunk),
+        ),
+        (
+            &[
+                (CHUNKED, 1),
+                (b"0\r\nt:", 1),
+                (b"x", 16_380),
+                (b"\r\n\r\n", 1),
+            ],
+            Ok(0),
+        ),
+        (
+            &[
+                (CHUNKED, 1),
+                (b"0\r\nt:", 1),
+                (b"x", 16_381),
+                (b"\r\n\r\n", 1),
+            ],
+            Err(ReplyFault::Chunk),
+        ),
+        (
+            &[(CHUNKED, 1), (b"400\r\n", 1), (b"x", 1_024), LAST],
+            Ok(1_024),
+        ),
+        (
+            &[(CHUNKED, 1), (b"401\r\n", 1), (b"x", 1_025), LAST],
             Err(ReplyFault::TooLong),
         ),
     ];
-    for (front, letters, end, expected) in rows {
-        let parts: [(&[u8], usize); 4] = [(CHUNKED, 1), (front, 1), (b"x", letters), (end, 1)];
-        assert_eq!(rt; read(alloc, &parts)?, [expected, expected]);
-    }
+    assert_eq!(rt; first_other(rt.alloc(), &ROWS)?, None);
     Ok(())
 }
 
 /// At most 8 * 1,024 + 65,536 = 73,728 bytes may come before a reply is whole. The head has 47, a chunk of one
 /// byte with a line of 1,005 bytes has 1,008, and 73 of them leave 97 bytes for the last line and the end. The
 /// byte past the number may still make the reply whole.
-#[test]
-fn hundred_chunks_of_one_byte(rt: HostRuntime) -> Result<(), Fail> {
-    let alloc = rt.alloc();
-    let line = text(alloc, &[(b"1;", 1), (b"x", 1_001), (b"\r\na\r\n", 1)])?;
-    let chunk = line.as_slice();
-    let rows: [(usize, usize, Result<usize, ReplyFault>); 4] = [
-        (73, 91, Ok(73)),
-        (73, 92, Ok(73)),
-        (73, 93, Err(ReplyFault::TooLong)),
-        (100, 0, Err(ReplyFault::TooLong)),
-    ];
-    for (chunks, letters, expected) in rows {
+const MANY_CHUNKS: [(usize, usize, Result<usize, ReplyFault>); 4] = [
+    (73, 91, Ok(73)),
+    (73, 92, Ok(73)),
+    (73, 93, Err(ReplyFault::TooLong)),
+    (100, 0, Err(ReplyFault::TooLong)),
+];
+
+/// The place of the first row of [`MANY_CHUNKS`] whose reply comes to something else, where this is one chunk.
+fn first_other_of_chunks(alloc: Global, chunk: &[u8]) -> Result<Option<usize>, AllocError> {
+    for (place, (chunks, letters, expected)) in MANY_CHUNKS.iter().enumerate() {
         let parts: [(&[u8], usize); 5] = [
             (CHUNKED, 1),
-            (chunk, chunks),
+            (chunk, *chunks),
             (b"0;", 1),
-            (b"x", letters),
+            (b"x", *letters),
             (b"\r\n\r\n", 1),
         ];
-        assert_eq!(rt; read(alloc, &parts)?, [expected, expected]);
+        if read(alloc, &parts)? != [*expected, *expected] {
+            return Ok(Some(place));
+        }
     }
+    Ok(None)
+}
+
+#[test]
+fn hundred_chunks_of_one_byte(rt: HostRuntime) -> Result<(), Fail> {
+    let chunk = text(rt.alloc(), &[(b"1;", 1), (b"x", 1_001), (b"\r\na\r\n", 1)])?;
+    let other = first_other_of_chunks(rt.alloc(), chunk.as_slice())?;
+    assert_eq!(rt; other, None);
     Ok(())
+}
+
+/// What the head of the reply to a post comes to.
+fn status_seen(alloc: Global, parts: &[(&[u8], usize)]) -> Result<HeadSeen, AllocError> {
+    let bytes = text(alloc, parts)?;
+    Ok(status_of(bytes.as_slice()))
 }
 
 #[test]
 fn statuses_of_posts(rt: HostRuntime) -> Result<(), Fail> {
-    let alloc = rt.alloc();
-    let rows: [(&[(&[u8], usize)], HeadSeen); 6] = [
+    const ROWS: [(&[(&[u8], usize)], HeadSeen); 6] = [
         (&[(b"HTTP/1.1 503\r\n\r\n", 1)], HeadSeen::Status(503)),
         (&[(b"HTTP/1.1 503\r\n\r", 1)], HeadSeen::More),
         (&[(OK, 1), (b"a: b\r\n", 65), (b"\r\n", 1)], HeadSeen::Bad),
@@ -256,33 +336,49 @@ fn statuses_of_posts(rt: HostRuntime) -> Result<(), Fail> {
         (&[(OK, 1), (b"a: ", 1), (b"v", 16_363)], HeadSeen::More),
         (&[(OK, 1), (b"a: ", 1), (b"v", 16_364)], HeadSeen::Bad),
     ];
-    for (parts, expected) in rows {
-        let bytes = text(alloc, parts)?;
-        assert_eq!(rt; status_of(bytes.as_slice()), expected);
+    for (parts, expected) in &ROWS {
+        assert_eq!(rt; status_seen(rt.alloc(), parts)?, *expected);
     }
     Ok(())
 }
 
+/// What a reply says to each of these pieces, and at its end.
+fn said(
+    alloc: Global,
+    pieces: &[&[u8]; 3],
+) -> Result<([Result<Progress, ReplyFault>; 3], Result<usize, ReplyFault>), AllocError> {
+    let mut reply = Reply::new(alloc, MOST)?;
+    let fed = [
+        reply.feed(pieces[0]),
+        reply.feed(pieces[1]),
+        reply.feed(pieces[2]),
+    ];
+    Ok((fed, ended(reply)))
+}
+
 #[test]
 fn what_was_said_is_said_again(rt: HostRuntime) -> Result<(), Fail> {
-    let alloc = rt.alloc();
-    let mut reply = Reply::new(alloc, MOST)?;
     assert_eq!(rt;
-        reply.feed(b"HTTP/1.1 200\nContent-Length: 1\n\n"),
-        Ok(Progress::More)
+        said(
+            rt.alloc(),
+            &[b"HTTP/1.1 200\nContent-Length: 1\n\n", b"a", b"b"]
+        )?,
+        (
+            [Ok(Progress::More), Ok(Progress::Whole), Ok(Progress::Whole)],
+            Ok(1)
+        )
     );
-    assert_eq!(rt; reply.feed(b"a"), Ok(Progress::Whole));
-    assert_eq!(rt; reply.feed(b"b"), Ok(Progress::Whole));
-    assert_eq!(rt; ended(reply), Ok(1));
-    let mut refused = Reply::new(alloc, MOST)?;
+    Ok(())
+}
+
+#[test]
+fn what_was_refused_stays_refused(rt: HostRuntime) -> Result<(), Fail> {
     assert_eq!(rt;
-        refused.feed(b"HTTP/1.1 404\n\n"),
-        Err(ReplyFault::Status(404))
+        said(rt.alloc(), &[b"HTTP/1.1 404\n\n", b"HTTP/1.1 200\n\n", b""])?,
+        (
+            [Err(ReplyFault::Status(404)); 3],
+            Err(ReplyFault::Status(404))
+        )
     );
-    assert_eq!(rt;
-        refused.feed(b"HTTP/1.1 200\n\n"),
-        Err(ReplyFault::Status(404))
-    );
-    assert_eq!(rt; ended(refused), Err(ReplyFault::Status(404)));
     Ok(())
 }

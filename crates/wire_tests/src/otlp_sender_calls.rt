@@ -41,59 +41,56 @@ fn posted(
 
 #[test]
 fn tries_by_their_replies(rt: HostRuntime) -> Result<(), Fail> {
-    let alloc = rt.alloc();
-    let mixed = posted(
-        alloc,
-        &[
-            (LATER, End::Ended),
-            (b"", End::ConnectFailed),
-            (OK, End::Ended),
-        ],
-        &[],
-    )?;
-    assert_eq!(rt; mixed, (Posted::Accepted(200), 3));
-    let refused = posted(alloc, &[(b"HTTP/1.1 400 No\r\n\r\n", End::Ended)], &[])?;
-    assert_eq!(rt; refused, (Posted::Refused(400), 1));
-    let later = posted(
-        alloc,
-        &[
-            (LATER, End::Ended),
-            (LATER, End::Ended),
-            (LATER, End::Ended),
-        ],
-        &[],
-    )?;
-    assert_eq!(rt; later, (Posted::GivenUp(Try::Status(503)), 3));
-    let nobody = posted(alloc, &[], &[])?;
-    assert_eq!(rt; nobody, (Posted::GivenUp(Try::Connect), 3));
-    let broken = posted(
-        alloc,
-        &[
-            (b"", End::Ended),
-            (b"", End::Ended),
-            (b"HTTP", End::ReadFailed),
-        ],
-        &[],
-    )?;
-    assert_eq!(rt; broken, (Posted::GivenUp(Try::Read), 3));
-    let headless = posted(
-        alloc,
-        &[(b"", End::Ended), (b"", End::Ended), (b"HTTQ", End::Ended)],
-        &[],
-    )?;
-    assert_eq!(rt; headless, (Posted::GivenUp(Try::NoHead), 3));
+    const ROWS: [(&[Planned<'static>], (Posted, u64)); 6] = [
+        (
+            &[
+                (LATER, End::Ended),
+                (b"", End::ConnectFailed),
+                (OK, End::Ended),
+            ],
+            (Posted::Accepted(200), 3),
+        ),
+        (
+            &[(b"HTTP/1.1 400 No\r\n\r\n", End::Ended)],
+            (Posted::Refused(400), 1),
+        ),
+        (
+            &[
+                (LATER, End::Ended),
+                (LATER, End::Ended),
+                (LATER, End::Ended),
+            ],
+            (Posted::GivenUp(Try::Status(503)), 3),
+        ),
+        (&[], (Posted::GivenUp(Try::Connect), 3)),
+        (
+            &[
+                (b"", End::Ended),
+                (b"", End::Ended),
+                (b"HTTP", End::ReadFailed),
+            ],
+            (Posted::GivenUp(Try::Read), 3),
+        ),
+        (
+            &[(b"", End::Ended), (b"", End::Ended), (b"HTTQ", End::Ended)],
+            (Posted::GivenUp(Try::NoHead), 3),
+        ),
+    ];
+    for (plan, expected) in &ROWS {
+        assert_eq!(rt; posted(rt.alloc(), plan, &[])?, *expected);
+    }
     Ok(())
 }
 
 // A call that fails is named, and the next try is made.
 #[test]
 fn each_call_fails_in_turn(rt: HostRuntime) -> Result<(), Fail> {
-    let alloc = rt.alloc();
+    const PLAN: [Planned<'static>; 2] = [(OK, End::Ended), (OK, End::Ended)];
     for number in 1..20u64 {
-        let plan: [(&[u8], End); 2] = [(OK, End::Ended), (OK, End::Ended)];
-        let (posted, made) = posted(alloc, &plan, &[number])?;
-        assert_eq!(rt; posted, Posted::Accepted(200));
-        assert_eq!(rt; made, 2);
+        assert_eq!(rt;
+            posted(rt.alloc(), &PLAN, &[number])?,
+            (Posted::Accepted(200), 2)
+        );
     }
     Ok(())
 }

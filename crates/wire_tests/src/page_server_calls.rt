@@ -1,12 +1,13 @@
 //! What no clause says: the rows of connections in memory, whole and in pieces, and each call that fails.
 ghost use Rattle.std.specs.Prelude.{◌≡◌};
 
-use bridge_ports::{Door, MemoryConn, MemorySink, MemorySource};
+use bridge_ports::{Door, Failed, MemoryConn, MemorySink, MemorySource};
 use label_sets::{Bytes, List, Memory};
 use page_server::{ReplyStatus, ServeFault, ShownPage, serve_one};
 use std::alloc::Global;
+use std::io;
 use std::io::{Read, Write};
-use std::net::{Ipv4Addr, TcpListener, TcpStream};
+use std::net::{Ipv4Addr, SocketAddr, TcpListener, TcpStream};
 use std::test::Fail;
 use std_edge::NetDoor;
 
@@ -16,6 +17,8 @@ struct OnePage<'a> {
     text: &'a [u8],
 }
 
+const ONE_PAGE: OnePage<'static> = OnePage { text: b"# EOF\n" };
+
 impl ShownPage for OnePage<'_> {
     ghost may_show = { λ p page. page ≡ p.text.now };
 
@@ -24,20 +27,27 @@ impl ShownPage for OnePage<'_> {
     }
 }
 
-/// What comes of a connection over which this request comes, and of which these calls fail; and what was written.
+/// A connection over which this request comes, and on which these reads and these writes fail.
+fn conn(alloc: Global, request: &[u8], failing: (&[u64], &[u64])) -> Result<MemoryConn, Memory> {
+    let writes = List::from_vec(Vec::from_slice(alloc, failing.1)?)?;
+    let sink = MemorySink::new(alloc, 1_000, writes)?;
+    let reads = List::from_vec(Vec::from_slice(alloc, failing.0)?)?;
+    let source = MemorySource::new(Bytes::from_slice(alloc, request)?, reads);
+    Ok(MemoryConn::new(source, sink))
+}
+
+/// What comes of such a connection, and how many bytes were written, where these are the front of this reply.
 fn served(
     alloc: Global,
     request: &[u8],
     failing: (&[u64], &[u64]),
-) -> Result<(Result<ReplyStatus, ServeFault>, Bytes), Memory> {
-    let reads = List::from_vec(Vec::from_slice(alloc, failing.0)?)?;
-    let writes = List::from_vec(Vec::from_slice(alloc, failing.1)?)?;
-    let source = MemorySource::new(Bytes::from_slice(alloc, request)?, reads);
-    let sink = MemorySink::new(alloc, 1_000, writes)?;
-    let mut conn = MemoryConn::new(source, sink);
-    let page = OnePage { text: b"# EOF\n" };
-    let came = serve_one(alloc, &page, &mut conn);
-    Ok((came, Bytes::from_slice(alloc, conn.held())?))
+    reply: &str,
+) -> Result<(Result<ReplyStatus, ServeFault>, Option<usize>), Memory> {
+    let mut conn = conn(alloc, request, failing)?;
+    let came = serve_one(alloc, &ONE_PAGE, &mut conn);
+    let held = conn.held();
+    let is_front = reply.as_bytes().starts_with(held);
+    Ok((came, is_front.then_some(held.len())))
 }
 
 const GET: &[u8] = b"GET /federate HTTP/1.1\r\nHost: a\r\n\r\n";
@@ -54,8 +64,7 @@ const OTHER: &str =
 
 #[test]
 fn requests_are_answered(rt: HostRuntime) -> Result<(), Fail> {
-    let alloc = rt.alloc();
-    let rows: [(&[u8], ReplyStatus, u16, &str); 6] = [
+    const ROWS: [(&[u8], ReplyStatus, u16, &str); 6] = [
         (GET, ReplyStatus::Page, 200, PAGE),
         (
             b"POST /federate HTTP/1.1\r\nHost: a\r\n\r\n",
@@ -78,46 +87,72 @@ fn requests_are_answered(rt: HostRuntime) -> Result<(), Fail> {
             BAD,
         ),
     ];
-    for (request, status, code, reply) in rows {
-        let (came, held) = served(alloc, request, (&[], &[]))?;
-        assert_eq!(rt; came, Ok(status));
-        assert_eq!(rt; status.code(), code);
-        assert_eq!(rt; held.as_slice(), reply.as_bytes());
+    for (request, status, code, reply) in &ROWS {
+        let came = served(rt.alloc(), request, (&[], &[]), reply)?;
+        assert_eq!(rt;
+            (came, status.code()),
+            ((Ok(*status), Some(reply.len())), *code)
+        );
     }
     Ok(())
 }
 
 #[test]
 fn failed_calls_are_told(rt: HostRuntime) -> Result<(), Fail> {
-    let alloc = rt.alloc();
-    let (came, held) = served(alloc, GET, (&[1], &[]))?;
-    assert_eq!(rt; came, Err(ServeFault::Read));
-    assert_eq!(rt; held.len(), 0);
-    let (came, held) = served(alloc, GET, (&[], &[1]))?;
-    assert_eq!(rt; came, Err(ServeFault::Write));
-    assert_eq!(rt; held.len(), 0);
-    let (came, held) = served(alloc, GET, (&[], &[2]))?;
-    assert_eq!(rt; came, Err(ServeFault::Write));
-    assert!(rt; PAGE.as_bytes().starts_with(held.as_slice()));
+    const ROWS: [((&[u64], &[u64]), ServeFault); 2] = [
+        ((&[1], &[]), ServeFault::Read),
+        ((&[], &[1]), ServeFault::Write),
+    ];
+    for (failing, fault) in &ROWS {
+        assert_eq!(rt;
+            served(rt.alloc(), GET, *failing, PAGE)?,
+            (Err(*fault), Some(0))
+        );
+    }
     Ok(())
+}
+
+#[test]
+fn failed_write_is_told_behind_a_part(rt: HostRuntime) -> Result<(), Fail> {
+    let (came, written) = served(rt.alloc(), GET, (&[], &[2]), PAGE)?;
+    assert_eq!(rt; (came, written.is_some()), (Err(ServeFault::Write), true));
+    Ok(())
+}
+
+/// The request for the page with this behind its first line, so many times this part, and an end.
+fn long_request(
+    alloc: Global,
+    front: &[u8],
+    part: &[u8],
+    times: u32,
+    end: &[u8],
+) -> Result<Vec<u8>, Memory> {
+    let mut request = Vec::from_slice(alloc, b"GET /federate HTTP/1.1\r\n")?;
+    request.extend_from_slice(front)?;
+    for _ in 0..times {
+        request.extend_from_slice(part)?;
+    }
+    request.extend_from_slice(end)?;
+    Ok(request)
+}
+
+/// What comes of a connection over which this request comes.
+fn answered(alloc: Global, request: &[u8]) -> Result<Result<ReplyStatus, ServeFault>, Memory> {
+    let (came, _) = served(alloc, request, (&[], &[]), PAGE)?;
+    Ok(came)
 }
 
 // A head of 16,384 bytes is taken, one of a byte more is not.
 #[test]
 fn head_has_so_many_bytes(rt: HostRuntime) -> Result<(), Fail> {
-    let alloc = rt.alloc();
     // 29 bytes stand in front of the blanks, and 4 behind them.
-    for (blanks, status) in [
+    const ROWS: [(u32, ReplyStatus); 2] = [
         (16_351, ReplyStatus::Page),
         (16_352, ReplyStatus::BadRequest),
-    ] {
-        let mut request = Vec::from_slice(alloc, b"GET /federate HTTP/1.1\r\nHost:")?;
-        for _ in 0..blanks {
-            request.extend_from_slice(b" ")?;
-        }
-        request.extend_from_slice(b"\r\n\r\n")?;
-        let (came, _) = served(alloc, request.as_slice(), (&[], &[]))?;
-        assert_eq!(rt; came, Ok(status));
+    ];
+    for (blanks, status) in &ROWS {
+        let request = long_request(rt.alloc(), b"Host:", b" ", *blanks, b"\r\n\r\n")?;
+        assert_eq!(rt; answered(rt.alloc(), request.as_slice())?, Ok(*status));
     }
     Ok(())
 }
@@ -125,38 +160,58 @@ fn head_has_so_many_bytes(rt: HostRuntime) -> Result<(), Fail> {
 // 64 fields are taken, 65 are not.
 #[test]
 fn head_has_so_many_fields(rt: HostRuntime) -> Result<(), Fail> {
-    let alloc = rt.alloc();
-    for (fields, status) in [(64, ReplyStatus::Page), (65, ReplyStatus::BadRequest)] {
-        let mut request = Vec::from_slice(alloc, b"GET /federate HTTP/1.1\r\n")?;
-        for _ in 0..fields {
-            request.extend_from_slice(b"a: b\r\n")?;
-        }
-        request.extend_from_slice(b"\r\n")?;
-        let (came, _) = served(alloc, request.as_slice(), (&[], &[]))?;
-        assert_eq!(rt; came, Ok(status));
+    const ROWS: [(u32, ReplyStatus); 2] = [(64, ReplyStatus::Page), (65, ReplyStatus::BadRequest)];
+    for (fields, status) in &ROWS {
+        let request = long_request(rt.alloc(), b"", b"a: b\r\n", *fields, b"\r\n")?;
+        assert_eq!(rt; answered(rt.alloc(), request.as_slice())?, Ok(*status));
     }
     Ok(())
 }
 
-/// The first bytes that a peer reads over loopback of the reply to its request, and what its connection was answered.
-fn served_over_loopback(rt: &HostRuntime, request: &[u8]) -> Result<(ReplyStatus, [u8; 15]), Fail> {
-    let listener = TcpListener::bind(rt, (Ipv4Addr::LOCALHOST, 0))?;
-    let mut peer = TcpStream::connect(rt, listener.local_addr()?)?;
+/// A peer that connected there and sent this.
+fn peer_of(rt: &HostRuntime, to: SocketAddr, request: &[u8]) -> io::Result<TcpStream> {
+    let mut peer = TcpStream::connect(rt, to)?;
     peer.write_all(request)?;
-    let mut door = NetDoor::new(listener);
-    let mut conn = door.accept()?;
-    let page = OnePage { text: b"# EOF\n" };
-    let came = serve_one(rt.alloc(), &page, &mut conn);
-    door.close(conn);
+    Ok(peer)
+}
+
+/// What the first connection at a door is answered, where it comes.
+fn served_at(rt: HostRuntime, listener: TcpListener) -> Option<Result<ReplyStatus, ServeFault>> {
+    let alloc = rt.alloc();
+    let mut door = NetDoor::new(rt, listener);
+    match door.accept() {
+        Ok(mut conn) => {
+            let came = serve_one(alloc, &ONE_PAGE, &mut conn);
+            door.close(conn);
+            Some(came)
+        }
+        Err(Failed) => None,
+    }
+}
+
+/// The first bytes that come to a peer.
+fn front_of(mut peer: TcpStream) -> io::Result<[u8; 15]> {
     let mut into = [0u8; 15];
     peer.read_exact(&mut into)?;
-    Ok((came?, into))
+    Ok(into)
+}
+
+/// What the connection of a peer over loopback is answered, and the first bytes of the reply.
+fn served_over_loopback(
+    rt: &HostRuntime,
+    request: &[u8],
+) -> io::Result<(Option<Result<ReplyStatus, ServeFault>>, [u8; 15])> {
+    let listener = TcpListener::bind(rt, (Ipv4Addr::LOCALHOST, 0))?;
+    let peer = peer_of(rt, listener.local_addr()?, request)?;
+    let came = served_at(*rt, listener);
+    Ok((came, front_of(peer)?))
 }
 
 #[test]
 fn page_is_served_over_loopback(rt: HostRuntime) -> Result<(), Fail> {
-    let (came, front) = served_over_loopback(&rt, GET)?;
-    assert_eq!(rt; came, ReplyStatus::Page);
-    assert_eq!(rt; &front, b"HTTP/1.1 200 OK");
+    assert_eq!(rt;
+        served_over_loopback(&rt, GET)?,
+        (Some(Ok(ReplyStatus::Page)), *b"HTTP/1.1 200 OK")
+    );
     Ok(())
 }

@@ -1,13 +1,14 @@
 //! What no clause says: that scrapes succeed, in pieces of one byte too, and that a failing call changes
 //! the cause alone.
-ghost use Rattle.std.specs.Prelude.{◌≤◌};
+ghost use Rattle.std.specs.Prelude.{◌≡◌, ◌≤◌, IfOk};
+ghost use Rattle.bridge_ports.specs.declared.talk.Stage.TheVariants as stages;
 
-use crate::plans::{replies, target};
+use crate::plans::{Planned, replies, target};
 use bridge_ports::{End, MemoryWire, Place};
 use label_sets::{List, Memory};
 use page_model::{Cause, Outcome, Rule};
 use scrape_client::{outcome, scrape};
-use std::alloc::Global;
+use std::alloc::{AllocError, Global};
 use std::test::Fail;
 
 const CHUNKED: &[u8] =
@@ -21,99 +22,134 @@ const OPEN_METRICS: &[u8] =
 const BAD_PAGE: &[u8] = b"HTTP/1.1 200 OK\r\n\r\nx 1\nx\n";
 
 /// Why a scrape failed; nothing where it gave a page.
-fn cause(outcome: Outcome) -> Option<Cause> {
+fn cause(outcome: &Outcome) -> Option<Cause> {
     match outcome {
         Outcome::Page(_) => None,
-        Outcome::Failed(cause) => Some(cause),
+        Outcome::Failed(cause) => Some(*cause),
     }
 }
 
-/// Why a scrape of this reply failed, of which one read hands out so many bytes and these calls fail.
-fn scraped(
+/// A wire that answers this reply, of which one read hands out so many bytes and these calls fail.
+fn wire(
     alloc: Global,
-    got: &[u8],
-    end: End,
+    reply: Planned<'_>,
     most: u32,
     failing: &[u64],
-) -> Result<Option<Cause>, Memory>
+) -> Result<MemoryWire, AllocError>
     requires { 1 ≤ most }
+    ensures { IfOk result (λ wire. wire.stage ≡ stages.Idle) }
 {
     let place = Place {
         number: 1,
         post: false,
     };
-    let replies = replies(alloc, &[(got, end)])?;
     let failing = List::from_vec(Vec::from_slice(alloc, failing)?)?;
-    let mut wire = MemoryWire::new(alloc, place, replies, None, most, failing);
+    Ok(MemoryWire::new(alloc, place, replies(alloc, &[reply])?, None, most, failing))
+}
+
+/// Why a scrape over this wire failed.
+fn cause_over(alloc: Global, wire: &mut MemoryWire) -> Result<Option<Cause>, Memory>
+    requires { wire.old.stage ≡ stages.Idle }
+{
     let target = target(alloc)?;
-    let event = scrape(alloc, &mut wire, &target, 0, 1_000, 1_024)?;
-    Ok(cause(event.outcome))
+    let event = scrape(alloc, wire, &target, 0, 1_000, 1_024)?;
+    Ok(cause(&event.outcome))
+}
+
+/// The same of such a wire.
+fn scraped(
+    alloc: Global,
+    reply: Planned<'_>,
+    most: u32,
+    failing: &[u64],
+) -> Result<Option<Cause>, Memory>
+    requires { 1 ≤ most }
+{
+    let mut wire = wire(alloc, reply, most, failing)?;
+    cause_over(alloc, &mut wire)
+}
+
+/// The same of the whole bytes of a talk that its peer ended.
+fn outcome_of(alloc: Global, got: &[u8]) -> Result<Option<Cause>, Memory> {
+    let outcome = outcome(alloc, got, End::Ended, 1_000, 1_024)?;
+    Ok(cause(&outcome))
 }
 
 #[test]
 fn replies_come_to_pages(rt: HostRuntime) -> Result<(), Fail> {
-    let alloc = rt.alloc();
-    for most in [1u32, 16, 4_096] {
-        let most = most.max(1);
-        for reply in [CHUNKED, TO_THE_END, OPEN_METRICS] {
-            assert_eq!(rt; scraped(alloc, reply, End::Ended, most, &[])?, None);
+    const REPLIES: [&[u8]; 3] = [CHUNKED, TO_THE_END, OPEN_METRICS];
+    for most in &[1u32, 16, 4_096] {
+        let most = (*most).max(1);
+        for reply in &REPLIES {
+            assert_eq!(rt; scraped(rt.alloc(), (*reply, End::Ended), most, &[])?, None);
         }
     }
-    assert_eq!(rt;
-        cause(outcome(alloc, CHUNKED, End::Ended, 1_000, 1_024)?),
-        None
-    );
+    Ok(())
+}
+
+#[test]
+fn bytes_come_to_a_page(rt: HostRuntime) -> Result<(), Fail> {
+    assert_eq!(rt; outcome_of(rt.alloc(), CHUNKED)?, None);
+    Ok(())
+}
+
+#[test]
+fn reply_that_is_cut_off_is_truncated(rt: HostRuntime) -> Result<(), Fail> {
+    let cut_off = &CHUNKED[..60];
+    let causes = [
+        scraped(rt.alloc(), (cut_off, End::Ended), 1, &[])?,
+        outcome_of(rt.alloc(), cut_off)?,
+    ];
+    assert_eq!(rt; causes, [Some(Cause::Truncated); 2]);
     Ok(())
 }
 
 #[test]
 fn the_cause_of_the_reply_goes_first(rt: HostRuntime) -> Result<(), Fail> {
-    let alloc = rt.alloc();
-    let cut_off = &CHUNKED[..60];
-    assert_eq!(rt;
-        scraped(alloc, cut_off, End::Ended, 1, &[])?,
-        Some(Cause::Truncated)
-    );
-    assert_eq!(rt;
-        cause(outcome(alloc, cut_off, End::Ended, 1_000, 1_024)?),
-        Some(Cause::Truncated)
-    );
-    assert_eq!(rt;
-        scraped(alloc, BAD_PAGE, End::Ended, 4_096, &[])?,
-        Some(Cause::Page {
-            line: 2,
-            rule: Rule::Syntax
-        })
-    );
-    assert_eq!(rt;
-        scraped(alloc, BAD_PAGE, End::ReadFailed, 4_096, &[])?,
-        Some(Cause::Read)
-    );
+    const ROWS: [(End, Cause); 2] = [
+        (
+            End::Ended,
+            Cause::Page {
+                line: 2,
+                rule: Rule::Syntax,
+            },
+        ),
+        (End::ReadFailed, Cause::Read),
+    ];
+    for (end, cause) in &ROWS {
+        assert_eq!(rt;
+            scraped(rt.alloc(), (BAD_PAGE, *end), 4_096, &[])?,
+            Some(*cause)
+        );
+    }
     Ok(())
 }
 
-/// Each call fails in turn: the connection, the one write, and so many reads.
+/// What comes of a scrape whose call of this number fails: the connection, the one write, and so many reads.
+fn failed_call(call: u64, reads: u64) -> Option<Cause> {
+    if call == 1 {
+        return Some(Cause::Connect);
+    }
+    if call == 2 {
+        return Some(Cause::Write);
+    }
+    if call.saturating_sub(2) <= reads {
+        return Some(Cause::Read);
+    }
+    None
+}
+
+/// Each call fails in turn, and one past the last.
 #[test]
 fn failing_calls_change_the_cause_alone(rt: HostRuntime) -> Result<(), Fail> {
-    let alloc = rt.alloc();
-    for (reply, reads) in [(CHUNKED, 5u64), (TO_THE_END, 3)] {
-        assert_eq!(rt;
-            scraped(alloc, reply, End::Ended, 16, &[1])?,
-            Some(Cause::Connect)
-        );
-        assert_eq!(rt;
-            scraped(alloc, reply, End::Ended, 16, &[2])?,
-            Some(Cause::Write)
-        );
-        for read in 0..reads {
-            let call = read.saturating_add(3);
+    const ROWS: [(&[u8], u64); 2] = [(CHUNKED, 5), (TO_THE_END, 3)];
+    for (reply, reads) in &ROWS {
+        for call in 1..=reads.saturating_add(3) {
             assert_eq!(rt;
-                scraped(alloc, reply, End::Ended, 16, &[call])?,
-                Some(Cause::Read)
+                scraped(rt.alloc(), (*reply, End::Ended), 16, &[call])?,
+                failed_call(call, *reads)
             );
         }
-        let past = reads.saturating_add(3);
-        assert_eq!(rt; scraped(alloc, reply, End::Ended, 16, &[past])?, None);
     }
     Ok(())
 }

@@ -68,7 +68,35 @@ fn visit<W: Wire>(alloc: Global, track: &mut Track<W>) -> Visited {
     track.visit(alloc)
 }
 
-/// So many visits over these wires.
+/// A track of the target over these wires.
+fn track<W: Wire + Drop>(alloc: Global, scrape: W, post: W) -> Result<Track<W>, AllocError>
+    requires scrape { IsFresh (W.state scrape) }
+    requires post { IsFresh (W.state post) }
+{
+    let (target, to) = (target(alloc)?, address(alloc)?);
+    match Track::new(alloc, target, to, SETTINGS, scrape, post) {
+        Ok(track) => Ok(track),
+        Err(TrackFault::Memory(_scrape, _post)) => Err(AllocError),
+    }
+}
+
+/// What so many visits of a track came to.
+fn visited(alloc: Global, mut track: Track<MemoryWire>, rounds: u32) -> Came {
+    for _ in 0..rounds {
+        let _visited = visit(alloc, &mut track);
+    }
+    let counts = *track.counts();
+    let halted = track.halted();
+    let (scrape, post) = track.into_wires();
+    Came {
+        counts,
+        halted,
+        scrapes: scrape.finished(),
+        posts: post.finished(),
+    }
+}
+
+/// What so many visits over these wires came to.
 fn visits(
     alloc: Global,
     scrape: MemoryWire,
@@ -78,23 +106,8 @@ fn visits(
     requires scrape { IsFresh (seen_of scrape) }
     requires post { IsFresh (seen_of post) }
 {
-    let (target, to) = (target(alloc)?, address(alloc)?);
-    let mut track = match Track::new(alloc, target, to, SETTINGS, scrape, post) {
-        Ok(track) => track,
-        Err(TrackFault::Memory(_scrape, _post)) => return Err(AllocError),
-    };
-    for _ in 0..rounds {
-        let _visited = visit(alloc, &mut track);
-    }
-    let counts = *track.counts();
-    let halted = track.halted();
-    let (scrape, post) = track.into_wires();
-    Ok(Came {
-        counts,
-        halted,
-        scrapes: scrape.finished(),
-        posts: post.finished(),
-    })
+    let track = track(alloc, scrape, post)?;
+    Ok(visited(alloc, track, rounds))
 }
 
 const GOOD: Planned<'static> = (PAGE, End::Ended);
@@ -114,25 +127,38 @@ fn posted(alloc: Global, posts: &[Planned<'_>]) -> Result<(u64, u64, u64, u64), 
 
 #[test]
 fn a_body_is_tried_while_it_may_be_taken(rt: HostRuntime) -> Result<(), Fail> {
-    let alloc = rt.alloc();
-    let nobody: Planned<'_> = (b"", End::ConnectFailed);
-    assert_eq!(rt; posted(alloc, &[FULL, nobody, OK])?, (1, 0, 0, 3));
-    assert_eq!(rt; posted(alloc, &[(REFUSED, End::Ended)])?, (0, 1, 0, 1));
-    assert_eq!(rt; posted(alloc, &[FULL, FULL, FULL])?, (0, 0, 1, 3));
+    const NOBODY: Planned<'static> = (b"", End::ConnectFailed);
+    const ROWS: [(&[Planned<'static>], (u64, u64, u64, u64)); 3] = [
+        (&[FULL, NOBODY, OK], (1, 0, 0, 3)),
+        (&[(REFUSED, End::Ended)], (0, 1, 0, 1)),
+        (&[FULL, FULL, FULL], (0, 0, 1, 3)),
+    ];
+    for (posts, expected) in &ROWS {
+        assert_eq!(rt; posted(rt.alloc(), posts)?, *expected);
+    }
     Ok(())
+}
+
+/// What two visits count, of which the second finds no page.
+fn two_counted(alloc: Global) -> Result<Counts, AllocError> {
+    let scrape = wire(alloc, false, &[GOOD, (REFUSED_PAGE, End::Ended)], &[])?;
+    let post = wire(alloc, true, &[OK, OK], &[])?;
+    Ok(visits(alloc, scrape, post, 2)?.counts)
 }
 
 #[test]
 fn scrapes_and_points_are_counted(rt: HostRuntime) -> Result<(), Fail> {
-    let alloc = rt.alloc();
-    let scrape = wire(alloc, false, &[GOOD, (REFUSED_PAGE, End::Ended)], &[])?;
-    let post = wire(alloc, true, &[OK, OK], &[])?;
-    let seen = visits(alloc, scrape, post, 2)?;
-    assert_eq!(rt; seen.counts.visits, 2);
-    assert_eq!(rt; seen.counts.failed, 1);
-    assert_eq!(rt; seen.counts.points, 5);
-    assert_eq!(rt; seen.counts.markers, 1);
-    assert_eq!(rt; seen.counts.accepted, 2);
+    let counts = two_counted(rt.alloc())?;
+    assert_eq!(rt;
+        [
+            counts.visits,
+            counts.failed,
+            counts.points,
+            counts.markers,
+            counts.accepted
+        ],
+        [2, 1, 5, 1, 2]
+    );
     Ok(())
 }
 
@@ -145,35 +171,61 @@ fn lean_at(alloc: Global, post_call: u32, scrape_call: u32) -> Result<Came, Allo
     visits(alloc, scrape, post, 3)
 }
 
+/// The same, in short: the visits that were counted, whether the track is halted, and the talks of both wires.
+fn lean_visits(
+    alloc: Global,
+    post_call: u32,
+    scrape_call: u32,
+) -> Result<(u64, bool, u64, u64), AllocError> {
+    let seen = lean_at(alloc, post_call, scrape_call)?;
+    Ok((seen.counts.visits, seen.halted, seen.scrapes, seen.posts))
+}
+
 // A visit that finds no room for its posts posts nothing and is not counted, and no further one is made.
 #[test]
 fn each_ready_finds_no_memory(rt: HostRuntime) -> Result<(), Fail> {
-    let alloc = rt.alloc();
     for call in 1..4u32 {
         let before = u64::from(call.saturating_sub(1));
-        let seen = lean_at(alloc, call, 9)?;
-        assert_eq!(rt; (seen.counts.visits, seen.halted), (before, true));
-        assert_eq!(rt; (seen.scrapes, seen.posts), (u64::from(call), before));
-        let seen = lean_at(alloc, 9, call)?;
-        assert_eq!(rt; (seen.counts.visits, seen.halted), (before, true));
-        assert_eq!(rt; (seen.scrapes, seen.posts), (before, before));
+        let seen = (
+            lean_visits(rt.alloc(), call, 9)?,
+            lean_visits(rt.alloc(), 9, call)?,
+        );
+        assert_eq!(rt;
+            seen,
+            (
+                (before, true, u64::from(call), before),
+                (before, true, before, before)
+            )
+        );
     }
-    let seen = lean_at(alloc, 9, 9)?;
-    assert_eq!(rt; (seen.counts.visits, seen.halted), (3, false));
-    assert_eq!(rt; (seen.scrapes, seen.posts), (3, 3));
     Ok(())
+}
+
+#[test]
+fn each_ready_finds_memory(rt: HostRuntime) -> Result<(), Fail> {
+    assert_eq!(rt; lean_visits(rt.alloc(), 9, 9)?, (3, false, 3, 3));
+    Ok(())
+}
+
+/// What three visits come to, of which this call on the post wire fails: the visits that were counted, whether the
+/// track is halted, the bodies that were accepted, and the posts.
+fn failing_visits(alloc: Global, call: u64) -> Result<(u64, bool, u64, u64), AllocError> {
+    let scrape = wire(alloc, false, &[GOOD, GOOD, GOOD], &[])?;
+    let post = wire(alloc, true, &[OK, OK, OK, OK], &[call])?;
+    let seen = visits(alloc, scrape, post, 3)?;
+    Ok((
+        seen.counts.visits,
+        seen.halted,
+        seen.counts.accepted,
+        seen.posts,
+    ))
 }
 
 // A call on the post wire that fails costs one try; each body is taken all the same. A visit has three calls.
 #[test]
 fn each_call_of_the_post_wire_fails(rt: HostRuntime) -> Result<(), Fail> {
-    let alloc = rt.alloc();
     for call in 1..10u64 {
-        let scrape = wire(alloc, false, &[GOOD, GOOD, GOOD], &[])?;
-        let post = wire(alloc, true, &[OK, OK, OK, OK], &[call])?;
-        let seen = visits(alloc, scrape, post, 3)?;
-        assert_eq!(rt; (seen.counts.visits, seen.halted), (3, false));
-        assert_eq!(rt; (seen.counts.accepted, seen.posts), (3, 4));
+        assert_eq!(rt; failing_visits(rt.alloc(), call)?, (3, false, 3, 4));
     }
     Ok(())
 }

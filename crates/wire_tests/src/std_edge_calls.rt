@@ -1,13 +1,13 @@
 //! Both ends of a connection over loopback, in one process; and the files of the machine.
-ghost use Rattle.std.specs.Prelude.{◌≡◌, ◌<◌, None, true, false, is_some, IfOk, OnOk};
+ghost use Rattle.std.specs.Prelude.{◌≡◌, ◌<◌, None, true, false, is_some, IsSome, IfOk, OnOk};
 ghost use Rattle.bridge_ports.specs.declared.talk.Stage.TheVariants as stages;
 ghost use Rattle.bridge_ports.specs.Doors.{most_handed};
 
 use bridge_ports::{Address, Door, Failed, Place, Sink, Source, Wire, World};
 use label_sets::{Bytes, Memory, Text};
 use std::alloc::Global;
-use std::fs::{File, Files};
-use std::net::{Net, TcpListener, TcpStream};
+use std::io;
+use std::net::TcpListener;
 use std::test::Fail;
 use std::time::Clock;
 use std_edge::{NetDoor, NetWire, StdWorld};
@@ -106,26 +106,42 @@ const PLACE: Place = Place {
     post: false,
 };
 
-/// Whether a talk to a host crosses loopback, begun 20 milliseconds from now.
-fn crosses<R: Net<Listener = TcpListener, Stream = TcpStream> + Clock + Send + Drop>(
-    rt: R,
-    alloc: Global,
+const LOOPBACK: &str = "127.0.0.1";
+
+/// A listener at a host of this machine, and its port.
+fn listening(rt: &HostRuntime, host: &str) -> io::Result<(TcpListener, u16)> {
+    let listener = TcpListener::bind(rt, (host, 0))?;
+    let port = listener.local_addr()?.port();
+    Ok((listener, port))
+}
+
+/// What the clock reads 20 milliseconds from now.
+fn soon(rt: &HostRuntime) -> Result<u64, Fail> {
+    let now = rt.since_1970()?.as_nanos().min(u64::MAX as u128) as u64;
+    Ok(now.saturating_add(20_000_000))
+}
+
+/// Whether a talk to a host crosses loopback to a listener at this port, begun once the clock reads `due`.
+fn crosses(
+    rt: HostRuntime,
     listener: TcpListener,
     host: &str,
-) -> Result<bool, Fail> {
-    let to = address(alloc, host, listener.local_addr()?.port())?;
-    let now = rt.since_1970()?.as_nanos().min(u64::MAX as u128) as u64;
-    let mut door = NetDoor::new(listener);
-    let mut wire = NetWire::new(rt, PLACE, to);
-    Ok(is_heard(alloc, &mut wire, &mut door, now.saturating_add(20_000_000))?)
+    port: u16,
+    due: u64,
+) -> Result<bool, Memory> {
+    let mut door = NetDoor::new(rt, listener);
+    let mut wire = NetWire::new(rt, PLACE, address(rt.alloc(), host, port)?);
+    is_heard(rt.alloc(), &mut wire, &mut door, due)
 }
 
 // A URL writes an IPv6 address in brackets, which are no part of it, whatever stands in them.
 #[test]
 fn talks_cross_loopback(rt: HostRuntime) -> Result<(), Fail> {
-    for host in ["127.0.0.1", "localhost", "[127.0.0.1]"] {
-        let listener = TcpListener::bind(&rt, ("127.0.0.1", 0))?;
-        assert!(rt; crosses(rt, rt.alloc(), listener, host)?, "{host}");
+    const HOSTS: [&str; 3] = [LOOPBACK, "localhost", "[127.0.0.1]"];
+    for host in &HOSTS {
+        let due = soon(&rt)?;
+        let (listener, port) = listening(&rt, LOOPBACK)?;
+        assert!(rt; crosses(rt, listener, host, port, due)?, "{host}");
     }
     Ok(())
 }
@@ -133,70 +149,141 @@ fn talks_cross_loopback(rt: HostRuntime) -> Result<(), Fail> {
 // Not every machine has an IPv6 loopback.
 #[test]
 fn talks_cross_the_loopback_of_ipv6(rt: HostRuntime) -> Result<(), Fail> {
-    for host in ["::1", "[::1]"] {
-        if let Ok(listener) = TcpListener::bind(&rt, ("::1", 0)) {
-            assert!(rt; crosses(rt, rt.alloc(), listener, host)?, "{host}");
+    const HOSTS: [&str; 2] = ["::1", "[::1]"];
+    for host in &HOSTS {
+        let due = soon(&rt)?;
+        if let Ok((listener, port)) = listening(&rt, "::1") {
+            assert!(rt; crosses(rt, listener, host, port, due)?, "{host}");
         }
     }
     Ok(())
 }
 
+/// When a talk to a host began, where it could be sent.
+fn asked(rt: HostRuntime, host: &str) -> Result<Option<u64>, Memory> {
+    let mut wire = NetWire::new(rt, PLACE, address(rt.alloc(), host, 1)?);
+    ask(rt.alloc(), &mut wire, 0)
+}
+
 #[test]
 fn nobody_listens(rt: HostRuntime) -> Result<(), Fail> {
-    for host in ["127.0.0.1", "no such host"] {
-        let mut wire = NetWire::new(rt, PLACE, address(rt.alloc(), host, 1)?);
-        assert_eq!(rt; ask(rt.alloc(), &mut wire, 0)?, None);
+    const HOSTS: [&str; 2] = [LOOPBACK, "no such host"];
+    for host in &HOSTS {
+        assert_eq!(rt; asked(rt, host)?, None);
     }
     Ok(())
+}
+
+/// Whether nothing comes back over a wire to this port, over which a talk was begun.
+fn hears_nothing(rt: HostRuntime, port: u16) -> Result<bool, Memory> {
+    let mut into = [0u8; 8];
+    let mut wire = NetWire::new(rt, PLACE, address(rt.alloc(), LOOPBACK, port)?);
+    match ask(rt.alloc(), &mut wire, 0) {
+        Ok(Some(_)) => Ok(hear(&mut wire, &mut into).is_none()),
+        Ok(None) => Ok(false),
+        Err(memory) => Err(memory),
+    }
 }
 
 // It takes as long as a call stands still at most, `MOST_WAIT`, which is 10 seconds.
 #[test]
 fn read_that_stands_still_fails(rt: HostRuntime) -> Result<(), Fail> {
-    let listener = TcpListener::bind(&rt, ("127.0.0.1", 0))?;
-    let to = address(rt.alloc(), "127.0.0.1", listener.local_addr()?.port())?;
-    let mut wire = NetWire::new(rt, PLACE, to);
-    let mut into = [0u8; 8];
-    match ask(rt.alloc(), &mut wire, 0)? {
-        Some(_) => assert_eq!(rt; hear(&mut wire, &mut into), None),
-        None => assert!(rt; false),
-    }
+    let (_listener, port) = listening(&rt, LOOPBACK)?;
+    assert!(rt; hears_nothing(rt, port)?);
     Ok(())
 }
 
-/// A listener and its address, and one at which nobody listens.
-fn two_addresses<R: Net<Listener = TcpListener, Stream = TcpStream>>(
-    rt: &R,
+/// The address of this port, and one at which nobody listens.
+fn two_addresses(alloc: Global, port: u16) -> Result<(Address, Address), Memory> {
+    let here = address(alloc, LOOPBACK, port)?;
+    Ok((here, address(alloc, LOOPBACK, 1)?))
+}
+
+/// When a talk over the second wire of a pair began, and whether one over the first is heard at the door.
+fn pair_asked<V: Wire + Drop, D: Door>(
     alloc: Global,
-) -> Result<(TcpListener, Address, Address), Fail> {
-    let listener = TcpListener::bind(rt, ("127.0.0.1", 0))?;
-    let here = address(alloc, "127.0.0.1", listener.local_addr()?.port())?;
-    let nowhere = address(alloc, "127.0.0.1", 1)?;
-    Ok((listener, here, nowhere))
+    mut scrape: V,
+    mut post: V,
+    door: &mut D,
+) -> Result<(Option<u64>, bool), Memory>
+    requires scrape { (V.state scrape).stage ≡ stages.Idle }
+    requires post { (V.state post).stage ≡ stages.Idle }
+    requires home { (D.door door.old).out ≡ false }
+    requires few { (D.door door.old).handed < most_handed }
+{
+    let asked = ask(alloc, &mut post, 0)?;
+    let heard = is_heard(alloc, &mut scrape, door, 0)?;
+    Ok((asked, heard))
+}
+
+/// The same of the pair that a world hands out to these addresses, at a door of this listener.
+fn handed_out_asked(
+    rt: HostRuntime,
+    listener: TcpListener,
+    here: &Address,
+    nowhere: &Address,
+) -> Result<(Option<u64>, bool), Memory> {
+    let mut door = NetDoor::new(rt, listener);
+    let mut world = StdWorld::new(rt, rt.alloc());
+    let (scrape, post) = world.wires(rt.alloc(), 7, here, nowhere)?;
+    pair_asked(rt.alloc(), scrape, post, &mut door)
 }
 
 #[test]
 fn world_hands_out_wires(rt: HostRuntime) -> Result<(), Fail> {
-    let alloc = rt.alloc();
-    let (listener, here, nowhere) = two_addresses(&rt, alloc)?;
-    let mut door = NetDoor::new(listener);
-    let mut world = StdWorld::new(rt, alloc);
-    let (mut scrape, mut post) = world.wires(alloc, 7, &here, &nowhere)?;
-    assert_eq!(rt; ask(alloc, &mut post, 0)?, None);
-    assert!(rt; is_heard(alloc, &mut scrape, &mut door, 0)?);
+    let (listener, port) = listening(&rt, LOOPBACK)?;
+    let (here, nowhere) = two_addresses(rt.alloc(), port)?;
+    let asked = handed_out_asked(rt, listener, &here, &nowhere)?;
+    assert_eq!(rt; asked, (None, true));
     Ok(())
+}
+
+/// Hands the pair of the number 7 out to these addresses, and takes it back.
+fn lend<W: World>(
+    alloc: Global,
+    world: &mut W,
+    scrape: &Address,
+    post: &Address,
+) -> Result<(), Memory>
+    requires home { IsSome (W.home world.old 7) }
+    ensures home { OnOk result (IsSome (W.home world.new 7)) }
+{
+    let (scrape, post) = world.wires(alloc, 7, scrape, post)?;
+    world.back(7, scrape, post);
+    Ok(())
+}
+
+/// When a talk over each wire of a pair began.
+fn both_asked<V: Wire + Drop>(
+    alloc: Global,
+    mut scrape: V,
+    mut post: V,
+) -> Result<[Option<u64>; 2], Memory>
+    requires scrape { (V.state scrape).stage ≡ stages.Idle }
+    requires post { (V.state post).stage ≡ stages.Idle }
+{
+    let first = ask(alloc, &mut scrape, 0)?;
+    Ok([first, ask(alloc, &mut post, 0)?])
+}
+
+/// The same of a pair that came back of the one order of two addresses and was handed out to the other.
+fn turned_asked(
+    rt: HostRuntime,
+    here: &Address,
+    nowhere: &Address,
+) -> Result<[Option<u64>; 2], Memory> {
+    let mut world = StdWorld::new(rt, rt.alloc());
+    lend(rt.alloc(), &mut world, here, nowhere)?;
+    let (scrape, post) = world.wires(rt.alloc(), 7, nowhere, here)?;
+    both_asked(rt.alloc(), scrape, post)
 }
 
 #[test]
 fn wires_come_back_and_turn_to_other_addresses(rt: HostRuntime) -> Result<(), Fail> {
-    let alloc = rt.alloc();
-    let (_listener, here, nowhere) = two_addresses(&rt, alloc)?;
-    let mut world = StdWorld::new(rt, alloc);
-    let (scrape, post) = world.wires(alloc, 7, &here, &nowhere)?;
-    world.back(7, scrape, post);
-    let (mut scrape, mut post) = world.wires(alloc, 7, &nowhere, &here)?;
-    assert_eq!(rt; ask(alloc, &mut scrape, 0)?, None);
-    assert!(rt; ask(alloc, &mut post, 0)?.is_some());
+    let (_listener, port) = listening(&rt, LOOPBACK)?;
+    let (here, nowhere) = two_addresses(rt.alloc(), port)?;
+    let [scrape, post] = turned_asked(rt, &here, &nowhere)?;
+    assert_eq!(rt; (scrape, post.is_some()), (None, true));
     Ok(())
 }
 
@@ -220,41 +307,42 @@ fn asked_at_door<W: World, V: Wire>(
     }
 }
 
+/// The same of a door of the machine's world at this port.
+fn asked_at_port(rt: HostRuntime, port: u16) -> Result<(bool, Option<u64>), Memory> {
+    let at = address(rt.alloc(), LOOPBACK, port)?;
+    let mut wire = NetWire::new(rt, PLACE, address(rt.alloc(), LOOPBACK, port)?);
+    let mut world = StdWorld::new(rt, rt.alloc());
+    asked_at_door(rt.alloc(), &mut world, &mut wire, at)
+}
+
 #[test]
 fn world_has_the_door_until_it_comes_back(rt: HostRuntime) -> Result<(), Fail> {
-    let alloc = rt.alloc();
-    let (listener, here, _nowhere) = two_addresses(&rt, alloc)?;
+    let (listener, port) = listening(&rt, LOOPBACK)?;
     drop(listener);
-    let mut wire = NetWire::new(rt, PLACE, here.copy()?);
-    let mut world = StdWorld::new(rt, alloc);
-    assert_eq!(rt;
-        asked_at_door(alloc, &mut world, &mut wire, here)?,
-        (true, None)
-    );
+    assert_eq!(rt; asked_at_port(rt, port)?, (true, None));
     Ok(())
+}
+
+/// Whether the machine's world has a door at this port.
+fn has_door(rt: HostRuntime, port: u16) -> Result<bool, Memory> {
+    let at = address(rt.alloc(), LOOPBACK, port)?;
+    let mut world = StdWorld::new(rt, rt.alloc());
+    Ok(world.door(at).is_ok())
 }
 
 #[test]
 fn world_has_no_door_where_one_is(rt: HostRuntime) -> Result<(), Fail> {
-    let (_listener, here, _nowhere) = two_addresses(&rt, rt.alloc())?;
-    let mut world = StdWorld::new(rt, rt.alloc());
-    assert!(rt; world.door(here).is_err());
+    let (_listener, port) = listening(&rt, LOOPBACK)?;
+    assert!(rt; !has_door(rt, port)?);
     Ok(())
 }
 
 /// What a read of a file comes to, where it can be opened.
-fn read_of<R>(rt: R, alloc: Global, path: &str) -> Result<Option<Result<u32, Failed>>, Memory>
-where
-    R: Net<Listener = TcpListener, Stream = TcpStream>
-        + Clock
-        + Files<File = File>
-        + Copy
-        + Send
-        + Drop,
-{
+fn read_of(rt: HostRuntime, path: &str) -> Result<Option<Result<u32, Failed>>, Memory> {
     let mut into = [1u8; 3];
-    let mut world = StdWorld::new(rt, alloc);
-    match world.open_file(Text::from_str(alloc, path)?) {
+    let path = Text::from_str(rt.alloc(), path)?;
+    let mut world = StdWorld::new(rt, rt.alloc());
+    match world.open_file(path) {
         Ok(()) => Ok(Some(world.read_file(&mut into))),
         Err(Failed) => Ok(None),
     }
@@ -262,13 +350,14 @@ where
 
 #[test]
 fn world_has_the_files(rt: HostRuntime) -> Result<(), Fail> {
-    for (path, read) in [
+    const FILES: [(&str, Option<Result<u32, Failed>>); 4] = [
         ("/dev/zero", Some(Ok(3))),
         ("/dev/null", Some(Ok(0))),
         ("/", Some(Err(Failed))),
         ("/dev/null/none", None),
-    ] {
-        assert_eq!(rt; read_of(rt, rt.alloc(), path)?, read, "{path}");
+    ];
+    for (path, read) in &FILES {
+        assert_eq!(rt; read_of(rt, path)?, *read, "{path}");
     }
     Ok(())
 }
