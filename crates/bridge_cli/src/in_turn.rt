@@ -142,11 +142,17 @@ fn print_target<O: Sink>(
     let wires = track_wires(track);
     match printed {
         Ok(()) => {}
-        Err(cut) => return Err(cut),
+        Err(cut) => {
+            drop(wires);
+            return Err(cut);
+        }
     }
     match kept {
         Ok(()) => Ok(wires),
-        Err(AllocError) => Err(Cut::Memory),
+        Err(AllocError) => {
+            drop(wires);
+            Err(Cut::Memory)
+        }
     }
 }
 

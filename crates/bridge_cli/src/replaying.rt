@@ -113,11 +113,15 @@ fn print_replies<O: Sink>(
     let mut at = 0usize;
     while at < replies.len() {
         if at as u64 >= visits {
+            drop(state);
             return Err(Cut::Memory);
         }
         match print_next(alloc, header, &replies[at], &mut state, output) {
             Ok(()) => at += 1,
-            Err(cut) => return Err(cut),
+            Err(cut) => {
+                drop(state);
+                return Err(cut);
+            }
         }
     }
     Ok(state)
@@ -162,10 +166,12 @@ fn keep_shown(page: bool, state: TargetState, shown: &mut Vec<Shown>) -> Result<
     ensures { page ≡ true → OnOk result (ShowsLast state shown.old.items shown.new.items) }
 {
     if !page {
+        drop(state);
         return Ok(());
     }
-    let last = state.latest()?;
-    shown.push(last)?;
+    let last = state.latest();
+    drop(state);
+    shown.push(last?)?;
     Ok(())
 }
 
@@ -191,11 +197,17 @@ pub(crate) fn print_targets<O: Sink>(
     while at < targets.len() {
         let state = match print_target(alloc, &script.header, &targets[at], visits[at], output) {
             Ok(state) => state,
-            Err(cut) => return Err(cut),
+            Err(cut) => {
+                drop(shown);
+                return Err(cut);
+            }
         };
         match keep_shown(page, state, &mut shown) {
             Ok(()) => at += 1,
-            Err(AllocError) => return Err(Cut::Memory),
+            Err(AllocError) => {
+                drop(shown);
+                return Err(Cut::Memory);
+            }
         }
     }
     Ok(shown)

@@ -87,7 +87,11 @@ pub(crate) fn new_track(alloc: Global, turn: Turn<'_>) -> Result<Track<MemoryWir
             track.facts();
             Ok(track)
         }
-        Err(TrackFault::Memory(_scrape, _post)) => Err(AllocError),
+        Err(TrackFault::Memory(scrape, post)) => {
+            drop(scrape);
+            drop(post);
+            Err(AllocError)
+        }
     }
 }
 

@@ -113,6 +113,7 @@ impl Founders {
         ensures taken { OnOk result (self.new.families.items ≡ with_candidate self.old.families.items candidate) }
     {
         if self.shares_sample_name(&candidate)? {
+            drop(candidate);
             return Ok(());
         }
         let mut candidate = candidate;

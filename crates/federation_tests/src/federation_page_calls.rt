@@ -23,7 +23,10 @@ fn scraped_page<G: Grammar>(alloc: Global, text: &[u8]) -> Result<Page, PageFaul
     };
     match page.feed(text) {
         Ok(()) => page.finish(),
-        Err(fault) => Err(fault),
+        Err(fault) => {
+            drop(page);
+            Err(fault)
+        }
     }
 }
 
@@ -48,21 +51,29 @@ fn shown(alloc: Global, job: &str, instance: &str, text: &str) -> Result<Shown, 
     if text.len() > 1_000 {
         return Err(PageFault::Memory);
     }
+    let named = Text::from_str(alloc, job)?;
+    let placed = Text::from_str(alloc, instance)?;
     let page = match page_of(alloc, text.as_bytes()) {
         Ok(page) => page,
         Err(fault) => return Err(fault),
     };
     if page.samples() > 200_000 {
+        drop(page);
         return Err(PageFault::Memory);
     }
-    let named = Text::from_str(alloc, job)?;
-    let placed = Text::from_str(alloc, instance)?;
     Ok(Shown {
         job: named,
         instance: placed,
         moment: Some(10),
         page,
     })
+}
+
+/// The text of a page.
+fn written(alloc: Global, page: &Page) -> Result<Vec<u8>, Memory> {
+    let mut out = Vec::new(alloc);
+    text(page, &mut out)?;
+    Ok(out)
 }
 
 /// The text of what is gathered of three targets.
@@ -72,15 +83,20 @@ fn gathered(alloc: Global, texts: &[&str; 3]) -> Result<Vec<u8>, PageFault> {
     let second = shown(alloc, "b", "h2:80", two)?;
     let third = shown(alloc, "c", "h3:80", three)?;
     let page = gather(alloc, &[first, second, third])?;
-    let mut out = Vec::new(alloc);
-    text(&page, &mut out)?;
-    Ok(out)
+    let out = written(alloc, &page);
+    drop(page);
+    Ok(out?)
+}
+
+/// Whether this is that text.
+fn is_gathered(alloc: Global, texts: &[&str; 3], expected: &str) -> Result<bool, PageFault> {
+    Ok(gathered(alloc, texts)?.as_slice() == expected.as_bytes())
 }
 
 /// The pages of three targets, and what is gathered of them: two families that clash, of which the first stays; a
 /// family that comes twice, between families that clash; and one whose names differ in the two formats, which has room
 /// for fewer readings than come.
-const CLASHING: [([&str; 3], &str); 3] = [
+const CLASHING: &[([&str; 3], &str)] = &[
     (
         [
             "# TYPE x gauge\nx{job=\"z\"} 1\n",
@@ -108,17 +124,15 @@ const CLASHING: [([&str; 3], &str); 3] = [
 ];
 
 #[test]
-fn the_first_family_stays(rt: HostRuntime) -> Result<(), PageFault> {
-    for (texts, text) in &CLASHING {
-        let out = gathered(rt.alloc(), texts)?;
-        assert_eq!(rt; out.as_slice(), text.as_bytes());
+fn the_first_family_stays(rt: HostRuntime) {
+    for (texts, text) in CLASHING {
+        assert!(rt; is_gathered(rt.alloc(), texts, text) == Ok(true), "{text}");
     }
-    Ok(())
 }
 
 /// The page of one target, and what is gathered of it: a counter is one by the end of its name, which isn't all of it,
 /// and this end and that of an info are no part of a family's name.
-const NAMED: [(&str, &str); 6] = [
+const NAMED: &[(&str, &str)] = &[
     (
         "# TYPE x_total counter\nx_total 2\n",
         "# TYPE x counter\nx_total{instance=\"h1:80\",job=\"a\"} 2\n# EOF\n",
@@ -146,20 +160,24 @@ const NAMED: [(&str, &str); 6] = [
 ];
 
 #[test]
-fn suffixes_are_taken_away(rt: HostRuntime) -> Result<(), PageFault> {
-    for (page, text) in &NAMED {
-        let out = gathered(rt.alloc(), &[page, "", ""])?;
-        assert_eq!(rt; out.as_slice(), text.as_bytes());
+fn suffixes_are_taken_away(rt: HostRuntime) {
+    for (page, text) in NAMED {
+        assert!(rt;
+            is_gathered(rt.alloc(), &[page, "", ""], text) == Ok(true),
+            "{text}"
+        );
     }
-    Ok(())
+}
+
+/// Whether this is the text of what is gathered of no targets.
+fn is_gathered_of_none(alloc: Global, expected: &[u8]) -> Result<bool, Memory> {
+    let page = gather(alloc, &[])?;
+    let out = written(alloc, &page);
+    drop(page);
+    Ok(out?.as_slice() == expected)
 }
 
 #[test]
-fn nothing_is_shown(rt: HostRuntime) -> Result<(), Memory> {
-    let alloc = rt.alloc();
-    let page = gather(alloc, &[])?;
-    let mut out = Vec::new(alloc);
-    text(&page, &mut out)?;
-    assert_eq!(rt; out.as_slice(), b"# EOF\n".as_slice());
-    Ok(())
+fn nothing_is_shown(rt: HostRuntime) {
+    assert!(rt; is_gathered_of_none(rt.alloc(), b"# EOF\n") == Ok(true));
 }

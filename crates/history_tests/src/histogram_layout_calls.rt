@@ -1,10 +1,9 @@
 //! Tests of `histogram_layout`.
 use exact_decimal::{Number, of};
-use histogram_layout::{Layout, is_cumulative, layout};
+use histogram_layout::{is_cumulative, layout};
 use label_sets::Memory;
 use page_model::Bucket;
 use std::alloc::Global;
-use std::test::Fail;
 
 // Two observations at most at 1, three more at most at 5, none above.
 fn buckets() -> [Bucket; 3] {
@@ -24,18 +23,28 @@ fn buckets() -> [Bucket; 3] {
     ]
 }
 
-fn copied(alloc: Global, buckets: &[Bucket]) -> Result<Option<Layout>, Memory> {
+// Whether buckets can be laid out; their layout is copied.
+fn is_copied(alloc: Global, buckets: &[Bucket]) -> Result<bool, Memory> {
     if !is_cumulative(buckets) {
-        return Ok(None);
+        return Ok(false);
     }
-    Ok(Some(layout(alloc, buckets)?.copy()?))
+    let layout = layout(alloc, buckets)?;
+    let copied = layout.copy();
+    drop(layout);
+    match copied {
+        Ok(copy) => {
+            drop(copy);
+            Ok(true)
+        }
+        Err(memory) => Err(memory),
+    }
 }
 
 // With memory, buckets are laid out and the layout is copied, unless the last is lacking: what it is, its clause says.
 #[test]
-fn buckets_with_and_without_the_last(rt: HostRuntime) -> Result<(), Fail> {
+fn buckets_with_and_without_the_last(rt: HostRuntime) {
     let buckets = buckets();
-    assert!(rt; copied(rt.alloc(), &buckets)?.is_some());
-    assert!(rt; copied(rt.alloc(), &buckets[..2])?.is_none());
-    Ok(())
+    let whole = is_copied(rt.alloc(), &buckets);
+    let less = is_copied(rt.alloc(), &buckets[..2]);
+    assert!(rt; whole == Ok(true) && less == Ok(false));
 }

@@ -19,8 +19,19 @@ fn text(alloc: Global, text: &str) -> Result<Text, Memory> {
     Text::from_str(alloc, text)
 }
 
+// Both of two things, where there was memory for the second.
+fn both<A: Drop, B: Drop>(first: A, second: Result<B, Memory>) -> Result<(A, B), Memory> {
+    match second {
+        Ok(second) => Ok((first, second)),
+        Err(memory) => {
+            drop(first);
+            Err(memory)
+        }
+    }
+}
+
 fn attribute(alloc: Global, key: &str, value: AttributeValue) -> Result<Attribute, Memory> {
-    let key = text(alloc, key)?;
+    let (value, key) = both(value, text(alloc, key))?;
     Ok(Attribute { key, value })
 }
 
@@ -28,7 +39,8 @@ fn attribute(alloc: Global, key: &str, value: AttributeValue) -> Result<Attribut
 fn resource(alloc: Global) -> Result<List<Attribute>, Memory> {
     let job = AttributeValue::Str(text(alloc, "j")?);
     let name = attribute(alloc, "service.name", job)?;
-    let port = attribute(alloc, "server.port", AttributeValue::Int(u64::MAX))?;
+    let port = attribute(alloc, "server.port", AttributeValue::Int(u64::MAX));
+    let (name, port) = both(name, port)?;
     list(alloc, [name, port])
 }
 
@@ -42,17 +54,22 @@ fn texts(alloc: Global, words: [&str; 3]) -> Result<(Text, Text, Text), Memory> 
 
 // A metric of this name, description and unit.
 fn metric(alloc: Global, words: [&str; 3], shape: Shape) -> Result<Metric, Memory> {
-    let (name, description, unit) = texts(alloc, words)?;
-    Ok(Metric {
-        name,
-        description,
-        unit,
-        shape,
-    })
+    match texts(alloc, words) {
+        Ok((name, description, unit)) => Ok(Metric {
+            name,
+            description,
+            unit,
+            shape,
+        }),
+        Err(memory) => {
+            drop(shape);
+            Err(memory)
+        }
+    }
 }
 
 fn scope(alloc: Global, name: &str, metrics: List<Metric>) -> Result<ScopeMetrics, Memory> {
-    let name = text(alloc, name)?;
+    let (metrics, name) = both(metrics, text(alloc, name))?;
     Ok(ScopeMetrics { name, metrics })
 }
 
@@ -82,21 +99,20 @@ fn gauge(alloc: Global) -> Result<Metric, Memory> {
 
 // The scope of a sum and a gauge.
 fn plain_scope(alloc: Global) -> Result<ScopeMetrics, Memory> {
-    let sum = sum(alloc)?;
-    let gauge = gauge(alloc)?;
+    let (sum, gauge) = both(sum(alloc)?, gauge(alloc))?;
     scope(alloc, "bridge", list(alloc, [sum, gauge])?)
 }
 
 // Two scopes, of which the second has no metrics.
 fn scopes(alloc: Global) -> Result<List<ScopeMetrics>, Memory> {
     let metrics = plain_scope(alloc)?;
-    let nothing = scope(alloc, "bridge.target", List::new(alloc))?;
+    let nothing = scope(alloc, "bridge.target", List::new(alloc));
+    let (metrics, nothing) = both(metrics, nothing)?;
     list(alloc, [metrics, nothing])
 }
 
 fn sample(alloc: Global) -> Result<Request, Memory> {
-    let resource = resource(alloc)?;
-    let scopes = scopes(alloc)?;
+    let (resource, scopes) = both(resource(alloc)?, scopes(alloc))?;
     Ok(Request { resource, scopes })
 }
 
@@ -122,11 +138,22 @@ fn is_written(alloc: Global, request: &Request, expected: &str) -> Result<[bool;
     ])
 }
 
+// The same of a request that was made, where there was memory for it.
+fn is_made_and_written(
+    alloc: Global,
+    made: Result<Request, Memory>,
+    expected: &str,
+) -> Result<[bool; 2], Memory> {
+    let request = made?;
+    let is_written = is_written(alloc, &request, expected);
+    drop(request);
+    is_written
+}
+
 #[test]
-fn writes_behind_what_is_there(rt: HostRuntime) -> Result<(), AllocError> {
-    let request = sample(rt.alloc())?;
-    assert!(rt; is_written(rt.alloc(), &request, SAMPLE)? == [true, true]);
-    Ok(())
+fn writes_behind_what_is_there(rt: HostRuntime) {
+    let is_written = is_made_and_written(rt.alloc(), sample(rt.alloc()), SAMPLE);
+    assert!(rt; is_written == Ok([true, true]));
 }
 
 fn number(token: &str) -> Number {
@@ -162,7 +189,7 @@ fn histogram(alloc: Global, value: Option<HistogramValue>) -> HistogramPoint {
 // A value with a sum, of five observations.
 fn summed(alloc: Global) -> Result<HistogramValue, Memory> {
     let bounds = List::from_vec(decimals(alloc, &["0.1", "1"])?)?;
-    let counts = list(alloc, [2, 3, 0])?;
+    let (bounds, counts) = both(bounds, list(alloc, [2, 3, 0]))?;
     Ok(HistogramValue {
         layout: Layout {
             bounds,
@@ -188,8 +215,7 @@ fn plain(alloc: Global) -> Result<HistogramValue, Memory> {
 
 // A histogram with a sum, one without, and one that has no value any more.
 fn histograms(alloc: Global) -> Result<Metric, Memory> {
-    let summed = summed(alloc)?;
-    let plain = plain(alloc)?;
+    let (summed, plain) = both(summed(alloc)?, plain(alloc))?;
     let points = [
         histogram(alloc, Some(summed)),
         histogram(alloc, Some(plain)),
@@ -236,8 +262,7 @@ fn summaries(alloc: Global) -> Result<Metric, Memory> {
 
 // The scope of the histograms and the summaries.
 fn observed_scope(alloc: Global) -> Result<ScopeMetrics, Memory> {
-    let histograms = histograms(alloc)?;
-    let summaries = summaries(alloc)?;
+    let (histograms, summaries) = both(histograms(alloc)?, summaries(alloc))?;
     scope(alloc, "bridge", list(alloc, [histograms, summaries])?)
 }
 
@@ -263,10 +288,9 @@ const OBSERVED: &str = concat!(
 );
 
 #[test]
-fn writes_histograms_and_summaries(rt: HostRuntime) -> Result<(), AllocError> {
-    let request = observed(rt.alloc())?;
-    assert!(rt; is_written(rt.alloc(), &request, OBSERVED)? == [true, true]);
-    Ok(())
+fn writes_histograms_and_summaries(rt: HostRuntime) {
+    let is_written = is_made_and_written(rt.alloc(), observed(rt.alloc()), OBSERVED);
+    assert!(rt; is_written == Ok([true, true]));
 }
 
 const LINE: &[u8] =
@@ -276,29 +300,31 @@ const LINE: &[u8] =
 fn is_printed(alloc: Global, request: &Request, room: usize) -> Result<bool, AllocError> {
     let mut out = MemorySink::new(alloc, room as u64, List::new(alloc))?;
     let printed = print_line(request, &mut out).is_ok();
-    Ok(printed == (LINE.len() <= room) && out.held() == &LINE[..LINE.len().min(room)])
+    let is_held = out.held() == &LINE[..LINE.len().min(room)];
+    drop(out);
+    Ok(is_held && printed == (LINE.len() <= room))
 }
 
-const ROOMS: [usize; 7] = [0, 1, 30, 69, 70, 71, 1000];
+const ROOMS: &[usize] = &[0, 1, 30, 69, 70, 71, 1000];
 
 // Into how many of the outputs the request of nothing is printed as it should be.
-fn right_rooms(alloc: Global) -> Result<usize, AllocError> {
+fn right_rooms(alloc: Global) -> usize {
     let request = Request {
         resource: List::new(alloc),
         scopes: List::new(alloc),
     };
     let mut right = 0usize;
-    for room in &ROOMS {
-        if is_printed(alloc, &request, *room)? {
+    for room in ROOMS {
+        if is_printed(alloc, &request, *room) == Ok(true) {
             right = right.saturating_add(1);
         }
     }
-    Ok(right)
+    drop(request);
+    right
 }
 
 // What is longer than the room of the output is cut off, which is told.
 #[test]
-fn prints_a_line(rt: HostRuntime) -> Result<(), AllocError> {
-    assert!(rt; right_rooms(rt.alloc())? == ROOMS.len());
-    Ok(())
+fn prints_a_line(rt: HostRuntime) {
+    assert!(rt; right_rooms(rt.alloc()) == ROOMS.len());
 }

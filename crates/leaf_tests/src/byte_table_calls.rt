@@ -2,15 +2,14 @@
 //! spares time is shown by `bench/colliding.py`.
 use byte_table::ByteTable;
 use std::alloc::{AllocError, Global};
-use std::test::Fail;
 
 /// Before 32 bytes the first hash has this state, and a word equal to the state makes it forget what comes with
 /// that word: these words and any number behind share the hash.
-const SAME_HASH: [u64; 1] = [0x243f_6a88_85a3_08f3];
+const SAME_HASH: &[u64] = &[0x243f_6a88_85a3_08f3];
 
 /// The same for 64 bytes, and a second hash of that hasher too: the third word is its state, and the fourth,
 /// the hasher's multiplier, makes the first forget it again.
-const SAME_FOLDED: [u64; 5] = [
+const SAME_FOLDED: &[u64] = &[
     0x243f_6a88_85a3_0913,
     1,
     0x096a_5c8f_229b_0a20,
@@ -19,7 +18,7 @@ const SAME_FOLDED: [u64; 5] = [
 ];
 
 /// Words whose strings have hashes of their own.
-const HONEST: [u64; 1] = [1];
+const HONEST: &[u64] = &[1];
 
 /// Two words that share the second hash, found by a search of some 2^32 steps.
 const SAME_SECOND: [u64; 2] = [0x2855_8660_04d6_e65f, 0x7d2d_609b_d50a_0c3b];
@@ -46,22 +45,24 @@ fn found_in(table: &ByteTable) -> (Option<usize>, Option<usize>, bool) {
 }
 
 /// Whether a table answers right in front of two strings, as they are put in, and behind them, and has no more.
-fn are_kept_once(alloc: Global) -> Result<[bool; 4], AllocError> {
+fn are_kept_once(alloc: Global) -> [bool; 4] {
     let mut table = ByteTable::new(alloc);
     let none = table.find(b"").is_none();
-    let put_in = two_put_in(&mut table, b"one", b"")?;
-    Ok([
+    let put_in = two_put_in(&mut table, b"one", b"");
+    let found = found_in(&table);
+    let has_no_more = table.len() == 2 && table.get(2).is_none();
+    drop(table);
+    [
         none,
-        put_in == [None, None, Some(0)],
-        found_in(&table) == (Some(1), None, true),
-        table.len() == 2 && table.get(2).is_none(),
-    ])
+        put_in == Ok([None, None, Some(0)]),
+        found == (Some(1), None, true),
+        has_no_more,
+    ]
 }
 
 #[test]
-fn strings_are_kept_once(rt: HostRuntime) -> Result<(), Fail> {
-    assert!(rt; are_kept_once(rt.alloc())? == [true; 4]);
-    Ok(())
+fn strings_are_kept_once(rt: HostRuntime) {
+    assert!(rt; are_kept_once(rt.alloc()) == [true; 4]);
 }
 
 /// A string that begins with words, then has a number.
@@ -120,19 +121,20 @@ fn found(alloc: Global, table: &ByteTable, words: &[u64]) -> Result<usize, Alloc
 /// How many strings a table of forty has, how many it finds, and where it finds one that is put in once more.
 fn kept(alloc: Global, words: &[u64]) -> Result<(usize, usize, Option<usize>), AllocError> {
     let mut table = forty(alloc, words)?;
-    let found = found(alloc, &table, words)?;
-    let place = put_in(alloc, &mut table, words, 7)?;
-    Ok((table.len(), found, place))
+    let found = found(alloc, &table, words);
+    let place = put_in(alloc, &mut table, words, 7);
+    let count = table.len();
+    drop(table);
+    Ok((count, found?, place?))
 }
 
-const BEGINNINGS: [&[u64]; 3] = [&SAME_HASH, &SAME_FOLDED, &HONEST];
+const BEGINNINGS: &[&[u64]] = &[SAME_HASH, SAME_FOLDED, HONEST];
 
 #[test]
-fn strings_are_found_whatever_their_hashes(rt: HostRuntime) -> Result<(), Fail> {
-    for words in &BEGINNINGS {
-        assert!(rt; kept(rt.alloc(), words)? == (40, 40, Some(7)));
+fn strings_are_found_whatever_their_hashes(rt: HostRuntime) {
+    for words in BEGINNINGS {
+        assert!(rt; kept(rt.alloc(), words) == Ok((40, 40, Some(7))));
     }
-    Ok(())
 }
 
 /// Where a table finds the second of two strings that share their second hash, once the first was put in; where it
@@ -149,12 +151,13 @@ fn second_put_in(table: &mut ByteTable) -> Result<[Option<usize>; 3], AllocError
 
 /// The same, where forty strings stand in the table that share their hash.
 fn second_behind_forty(alloc: Global) -> Result<[Option<usize>; 3], AllocError> {
-    let mut table = forty(alloc, &SAME_HASH)?;
-    second_put_in(&mut table)
+    let mut table = forty(alloc, SAME_HASH)?;
+    let places = second_put_in(&mut table);
+    drop(table);
+    places
 }
 
 #[test]
-fn strings_are_found_where_second_hashes_collide(rt: HostRuntime) -> Result<(), Fail> {
-    assert!(rt; second_behind_forty(rt.alloc())? == [None, Some(40), Some(41)]);
-    Ok(())
+fn strings_are_found_where_second_hashes_collide(rt: HostRuntime) {
+    assert!(rt; second_behind_forty(rt.alloc()) == Ok([None, Some(40), Some(41)]));
 }

@@ -38,69 +38,90 @@ fn shown(alloc: Global, set: &LabelSet) -> Result<String, AllocError> {
 /// Whether a set that is built of these labels has those.
 fn is_built(alloc: Global, written: &[(&str, &str)], expected: &str) -> Result<bool, LabelFault> {
     let set = set(alloc, written)?;
-    Ok(shown(alloc, &set)?.as_str() == expected)
+    let shown = shown(alloc, &set);
+    drop(set);
+    Ok(shown?.as_str() == expected)
 }
 
-const BUILT: [&[(&str, &str)]; 2] = [
+const BUILT: &[&[(&str, &str)]] = &[
     &[("b", "1"), ("a", "2"), ("c", "")],
     &[("a", "2"), ("b", "1")],
 ];
 
 #[test]
-fn sets_are_sorted_without_empty_values(rt: HostRuntime) -> Result<(), LabelFault> {
-    for written in &BUILT {
-        assert!(rt; is_built(rt.alloc(), written, "a=2,b=1")?);
+fn sets_are_sorted_without_empty_values(rt: HostRuntime) {
+    for written in BUILT {
+        assert!(rt; is_built(rt.alloc(), written, "a=2,b=1") == Ok(true));
     }
-    Ok(())
 }
 
 /// Whether a set equals its copy.
 fn equals_its_copy(set: &LabelSet) -> Result<bool, LabelFault> {
     let copy = set.copy()?;
-    Ok(*set == copy)
+    let is_equal = *set == copy;
+    drop(copy);
+    Ok(is_equal)
 }
 
-/// Whether a set equals one that was built with an empty value more, and its copy.
+/// Whether a set equals one that was built with an empty value more.
+fn equals_second(alloc: Global, first: &LabelSet) -> Result<bool, LabelFault> {
+    let second = set(alloc, &[("a", "2"), ("b", "1"), ("c", "")])?;
+    let is_equal = *first == second;
+    drop(second);
+    Ok(is_equal)
+}
+
+/// Whether a set equals such a one, and its copy.
 fn equals_its_copies(alloc: Global) -> Result<[bool; 2], LabelFault> {
     let first = set(alloc, &[("b", "1"), ("a", "2")])?;
-    let is_copied = equals_its_copy(&first)?;
-    let second = set(alloc, &[("a", "2"), ("b", "1"), ("c", "")])?;
-    Ok([first == second, is_copied])
+    let is_copied = equals_its_copy(&first);
+    let is_second = equals_second(alloc, &first);
+    drop(first);
+    Ok([is_second?, is_copied?])
 }
 
 #[test]
-fn sets_of_the_same_labels_are_equal(rt: HostRuntime) -> Result<(), LabelFault> {
-    assert!(rt; equals_its_copies(rt.alloc())? == [true, true]);
-    Ok(())
+fn sets_of_the_same_labels_are_equal(rt: HostRuntime) {
+    assert!(rt; equals_its_copies(rt.alloc()) == Ok([true, true]));
 }
 
-/// Whether `b=1` is a set with two labels without its `a`, itself without an `a`, the set without its `b`, and itself
+/// Whether a set without its `a` is the set without its `a`, itself without an `a`, the set without its `b`, and itself
 /// without its `b`.
-fn are_without(alloc: Global) -> Result<[bool; 4], LabelFault> {
-    let both = set(alloc, &[("b", "1"), ("a", "2")])?;
+fn without_a(alloc: Global, both: &LabelSet) -> Result<[bool; 4], LabelFault> {
     let rest = both.without(alloc, b"a")?;
-    Ok([
+    let without = [
         both.is_without(b"a", &rest),
         rest.is_without(b"a", &rest),
         both.is_without(b"b", &rest),
         rest.is_without(b"b", &rest),
-    ])
+    ];
+    drop(rest);
+    Ok(without)
+}
+
+/// The same of a set of an `a` and a `b`.
+fn are_without(alloc: Global) -> Result<[bool; 4], LabelFault> {
+    let both = set(alloc, &[("b", "1"), ("a", "2")])?;
+    let without = without_a(alloc, &both);
+    drop(both);
+    without
 }
 
 #[test]
-fn a_label_is_left_out(rt: HostRuntime) -> Result<(), LabelFault> {
-    assert!(rt; are_without(rt.alloc())? == [true, true, false, false]);
-    Ok(())
+fn a_label_is_left_out(rt: HostRuntime) {
+    assert!(rt; are_without(rt.alloc()) == Ok([true, true, false, false]));
 }
 
 /// Whether the labels of a set of these, as those of a page are renamed, are those.
 fn is_renamed(alloc: Global, written: &[(&str, &str)], expected: &str) -> Result<bool, LabelFault> {
     let renamed = set(alloc, written)?.renamed(alloc)?;
-    Ok(shown(alloc, &renamed)?.as_str() == expected)
+    let shown = shown(alloc, &renamed);
+    drop(renamed);
+    Ok(shown?.as_str() == expected)
 }
 
 // Labels of a page, and what they become.
-const RENAMED: [(&[(&str, &str)], &str); 3] = [
+const RENAMED: &[(&[(&str, &str)], &str)] = &[
     (&[("job", "a"), ("zone", "z")], "exported_job=a,zone=z"),
     (
         &[("job", "a"), ("exported_job", "b")],
@@ -118,11 +139,13 @@ const RENAMED: [(&[(&str, &str)], &str); 3] = [
 ];
 
 #[test]
-fn labels_of_the_target_are_renamed(rt: HostRuntime) -> Result<(), LabelFault> {
-    for (written, expected) in &RENAMED {
-        assert!(rt; is_renamed(rt.alloc(), written, expected)?, "{expected}");
+fn labels_of_the_target_are_renamed(rt: HostRuntime) {
+    for (written, expected) in RENAMED {
+        assert!(rt;
+            is_renamed(rt.alloc(), written, expected) == Ok(true),
+            "{expected}"
+        );
     }
-    Ok(())
 }
 
 /// A label whose name has this number.
@@ -145,17 +168,21 @@ fn many(alloc: Global, count: u32) -> Result<Vec<Label>, AllocError> {
 fn of_many(alloc: Global, count: u32) -> Result<(usize, bool), LabelFault> {
     let set = LabelSet::build(alloc, many(alloc, count)?, 64)?;
     let first = set.labels().first();
-    Ok((
-        set.len(),
-        first.is_some_and(|label| label.name.as_str() == "l000"),
-    ))
+    let is_sorted = first.is_some_and(|label| label.name.as_str() == "l000");
+    let count = set.len();
+    drop(set);
+    Ok((count, is_sorted))
 }
 
 #[test]
-fn a_set_has_64_labels_at_most(rt: HostRuntime) -> Result<(), LabelFault> {
-    assert!(rt; of_many(rt.alloc(), 64)? == (64, true));
-    assert!(rt; of_many(rt.alloc(), 65).err() == Some(LabelFault::TooMany));
-    Ok(())
+fn a_set_has_64_labels_at_most(rt: HostRuntime) {
+    const ROWS: &[(u32, Result<(usize, bool), LabelFault>)] = &[
+        (64, Ok((64, true))),
+        (65, Err(LabelFault::TooMany)),
+    ];
+    for (count, expected) in ROWS {
+        assert!(rt; of_many(rt.alloc(), *count) == *expected);
+    }
 }
 
 /// Forty labels, and one of a name that one of them has.
@@ -173,10 +200,9 @@ fn twice(alloc: Global) -> Result<[Option<LabelFault>; 2], LabelFault> {
 }
 
 #[test]
-fn a_name_comes_once(rt: HostRuntime) -> Result<(), LabelFault> {
+fn a_name_comes_once(rt: HostRuntime) {
     let expected = [Some(LabelFault::Twice(40)), Some(LabelFault::Twice(2))];
-    assert!(rt; twice(rt.alloc())? == expected);
-    Ok(())
+    assert!(rt; twice(rt.alloc()) == Ok(expected));
 }
 
 fn key(alloc: Global, name: &str, kind: Kind, value: &str) -> Result<SeriesKey, LabelFault> {
@@ -191,71 +217,93 @@ fn key(alloc: Global, name: &str, kind: Kind, value: &str) -> Result<SeriesKey, 
 }
 
 // Names and kinds of series, the last of which stands first in a map.
-const SERIES: [(&str, Kind); 3] = [("b", Kind::Gauge), ("a", Kind::Gauge), ("a", Kind::Counter)];
+const SERIES: &[(&str, Kind)] = &[("b", Kind::Gauge), ("a", Kind::Gauge), ("a", Kind::Counter)];
 
-/// The places of the series, by a map in order.
-fn places_in_order(alloc: Global) -> Result<BTreeMap<SeriesKey, u32>, LabelFault> {
-    let mut places = BTreeMap::new(alloc);
+/// Puts the places of the series into a map in order.
+fn put_in_order(alloc: Global, places: &mut BTreeMap<SeriesKey, u32>) -> Result<(), LabelFault> {
     let mut count = 0u32;
-    for (name, kind) in &SERIES {
+    for (name, kind) in SERIES {
         if places.insert(key(alloc, name, *kind, "1")?, count).is_err() {
             return Err(LabelFault::Memory);
         }
         count = count.wrapping_add(1);
     }
-    Ok(places)
+    Ok(())
 }
 
-/// The same by a table of hashes.
-fn places_by_hash(alloc: Global) -> Result<HashMap<SeriesKey, u32>, LabelFault> {
-    let mut places = HashMap::new(alloc);
+/// The same into a table of hashes.
+fn put_by_hash(alloc: Global, places: &mut HashMap<SeriesKey, u32>) -> Result<(), LabelFault> {
     let mut count = 0u32;
-    for (name, kind) in &SERIES {
+    for (name, kind) in SERIES {
         if places.insert(key(alloc, name, *kind, "1")?, count).is_err() {
             return Err(LabelFault::Memory);
         }
         count = count.wrapping_add(1);
     }
-    Ok(places)
+    Ok(())
+}
+
+/// Which of the series a map in order says that a key is.
+fn place_in_order(alloc: Global, sought: &SeriesKey) -> Result<Option<u32>, LabelFault> {
+    let mut places = BTreeMap::new(alloc);
+    let put = put_in_order(alloc, &mut places);
+    let place = places.get(sought).copied();
+    drop(places);
+    put?;
+    Ok(place)
+}
+
+/// The same of a table of hashes.
+fn place_by_hash(alloc: Global, sought: &SeriesKey) -> Result<Option<u32>, LabelFault> {
+    let mut places = HashMap::new(alloc);
+    let put = put_by_hash(alloc, &mut places);
+    let place = places.get(sought).copied();
+    drop(places);
+    put?;
+    Ok(place)
 }
 
 /// Which of the series is the counter with a label of this value, by each of the two.
 fn places(alloc: Global, value: &str) -> Result<[Option<u32>; 2], LabelFault> {
     let sought = key(alloc, "a", Kind::Counter, value)?;
-    let in_order = places_in_order(alloc)?.get(&sought).copied();
-    let by_hash = places_by_hash(alloc)?.get(&sought).copied();
-    Ok([in_order, by_hash])
+    let in_order = place_in_order(alloc, &sought);
+    let by_hash = place_by_hash(alloc, &sought);
+    drop(sought);
+    Ok([in_order?, by_hash?])
 }
 
 #[test]
-fn keys_of_maps(rt: HostRuntime) -> Result<(), LabelFault> {
-    assert!(rt; places(rt.alloc(), "1")? == [Some(2), Some(2)]);
-    assert!(rt; places(rt.alloc(), "2")? == [None, None]);
-    Ok(())
+fn keys_of_maps(rt: HostRuntime) {
+    const ROWS: &[(&str, Option<u32>)] = &[("1", Some(2)), ("2", None)];
+    for (value, place) in ROWS {
+        assert!(rt; places(rt.alloc(), value) == Ok([*place; 2]));
+    }
 }
 
-/// The keys of the series in order.
-fn keys_in_order(alloc: Global) -> Result<BTreeSet<SeriesKey>, LabelFault> {
-    let mut keys = BTreeSet::new(alloc);
-    for (name, kind) in &SERIES {
+/// Puts the keys of the series in order.
+fn put_keys(alloc: Global, keys: &mut BTreeSet<SeriesKey>) -> Result<(), LabelFault> {
+    for (name, kind) in SERIES {
         if keys.insert(key(alloc, name, *kind, "1")?).is_err() {
             return Err(LabelFault::Memory);
         }
     }
-    Ok(keys)
+    Ok(())
 }
 
 /// Whether the first of the series in order is that of the lesser name and the lesser kind.
 fn is_first_by_name_and_kind(alloc: Global) -> Result<bool, LabelFault> {
-    let least = key(alloc, "a", Kind::Counter, "1")?;
-    let keys = keys_in_order(alloc)?;
-    Ok(keys.iter().next() == Some(&least))
+    let mut keys = BTreeSet::new(alloc);
+    let put = put_keys(alloc, &mut keys);
+    let first = keys.iter().next();
+    let is_first = first.is_some_and(|key| key.name.as_str() == "a" && key.kind == Kind::Counter);
+    drop(keys);
+    put?;
+    Ok(is_first)
 }
 
 #[test]
-fn keys_are_in_order_by_name_and_then_kind(rt: HostRuntime) -> Result<(), LabelFault> {
-    assert!(rt; is_first_by_name_and_kind(rt.alloc())?);
-    Ok(())
+fn keys_are_in_order_by_name_and_then_kind(rt: HostRuntime) {
+    assert!(rt; is_first_by_name_and_kind(rt.alloc()) == Ok(true));
 }
 
 /// The text of bytes, where they are one, as long as it is.
@@ -265,11 +313,14 @@ fn length_of_text(alloc: Global, bytes: &[u8]) -> Result<Option<usize>, AllocErr
 }
 
 #[test]
-fn texts_of_bytes(rt: HostRuntime) -> Result<(), AllocError> {
-    let alloc = rt.alloc();
-    assert!(rt; length_of_text(alloc, &[0x71, 0xc3, 0xa9])? == Some(2));
-    assert!(rt; length_of_text(alloc, &[0x61, 0xff])?.is_none());
-    Ok(())
+fn texts_of_bytes(rt: HostRuntime) {
+    const ROWS: &[(&[u8], Option<usize>)] = &[
+        (&[0x71, 0xc3, 0xa9], Some(2)),
+        (&[0x61, 0xff], None),
+    ];
+    for (bytes, length) in ROWS {
+        assert!(rt; length_of_text(rt.alloc(), bytes) == Ok(*length));
+    }
 }
 
 /// Whether bytes that are no UTF-8 are no name, and an equal name is found in a set.
@@ -282,9 +333,8 @@ fn names_are_told(alloc: Global) -> Result<[bool; 2], AllocError> {
 }
 
 #[test]
-fn names_of_bytes(rt: HostRuntime) -> Result<(), AllocError> {
-    assert!(rt; names_are_told(rt.alloc())? == [true, true]);
-    Ok(())
+fn names_of_bytes(rt: HostRuntime) {
+    assert!(rt; names_are_told(rt.alloc()) == Ok([true, true]));
 }
 
 /// The copy of a list of one value.
@@ -292,36 +342,47 @@ fn copied(alloc: Global) -> Result<List<u64>, AllocError> {
     List::from_vec(vec![in alloc; 7]?)?.copy()
 }
 
+/// Whether it has that value.
+fn is_list_copied(alloc: Global) -> Result<bool, AllocError> {
+    Ok(copied(alloc)?.as_slice() == [7].as_slice())
+}
+
 #[test]
-fn a_copy_of_a_list_has_its_values(rt: HostRuntime) -> Result<(), AllocError> {
-    let copies = copied(rt.alloc())?;
-    assert!(rt; copies.as_slice() == [7].as_slice());
-    Ok(())
+fn a_copy_of_a_list_has_its_values(rt: HostRuntime) {
+    assert!(rt; is_list_copied(rt.alloc()) == Ok(true));
 }
 
 /// Whether a text is that of a name of these bytes, which is copied.
 fn is_of_name(alloc: Global, text: &Text, expected: &str) -> Result<bool, AllocError> {
     let name = Name::from_utf8(alloc, expected.as_bytes())?;
-    let is_copied = name.copy()?.as_str() == expected;
+    let copy = name.copy();
     let named = name.into_text();
-    Ok(is_copied && named == *text)
+    let is_named = named == *text;
+    drop(named);
+    Ok(is_named && copy?.as_str() == expected)
 }
 
 /// Whether a text is the copy of one of these bytes.
 fn is_copied(alloc: Global, text: &Text, expected: &str) -> Result<bool, AllocError> {
-    let copy = Text::from_utf8(alloc, expected.as_bytes())?.copy()?;
-    Ok(copy.as_str() == expected && copy.len() == expected.len() && *text == copy)
+    let made = Text::from_utf8(alloc, expected.as_bytes())?;
+    let copy = made.copy();
+    drop(made);
+    let copy = copy?;
+    let is_copied = copy.as_str() == expected && copy.len() == expected.len() && *text == copy;
+    drop(copy);
+    Ok(is_copied)
 }
 
 /// Whether a text stays what it was, made and copied in each way.
 fn stays(alloc: Global, text: &str) -> Result<[bool; 2], AllocError> {
     let made = Text::from_string(String::from_str(alloc, text)?)?;
-    let is_name = is_of_name(alloc, &made, text)?;
-    let is_text = is_copied(alloc, &made, text)?;
-    Ok([is_name, is_text])
+    let is_name = is_of_name(alloc, &made, text);
+    let is_text = is_copied(alloc, &made, text);
+    drop(made);
+    Ok([is_name?, is_text?])
 }
 
-const TEXTS: [&str; 4] = [
+const TEXTS: &[&str] = &[
     "",
     "qé",
     "just twenty-eight bytes ....",
@@ -329,9 +390,8 @@ const TEXTS: [&str; 4] = [
 ];
 
 #[test]
-fn texts_of_any_length(rt: HostRuntime) -> Result<(), AllocError> {
-    for text in &TEXTS {
-        assert!(rt; stays(rt.alloc(), text)? == [true, true], "{text}");
+fn texts_of_any_length(rt: HostRuntime) {
+    for text in TEXTS {
+        assert!(rt; stays(rt.alloc(), text) == Ok([true, true]), "{text}");
     }
-    Ok(())
 }

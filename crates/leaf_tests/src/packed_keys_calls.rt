@@ -2,7 +2,6 @@
 use label_sets::{Kind, Label, LabelSet, List, Memory, Name, SeriesKey, Text};
 use packed_keys::{Keys, SampleKey, SeenKeys, SeenNames, SeenSets, SeriesPlaces};
 use std::alloc::{AllocError, Global};
-use std::test::Fail;
 
 /// A label that is written as `name=value`.
 fn label(alloc: Global, written: &str) -> Result<Label, Memory> {
@@ -33,14 +32,28 @@ fn set(alloc: Global, written: &str) -> Result<LabelSet, Memory> {
 fn is_new(alloc: Global, seen: &mut SeenKeys, name: &str, labels: &str) -> Result<bool, Memory> {
     let name = Name::from_str(alloc, name)?;
     let labels = set(alloc, labels)?;
-    seen.insert(&SampleKey { name, labels })
+    let key = SampleKey { name, labels };
+    let is_new = seen.insert(&key);
+    drop(key);
+    is_new
+}
+
+/// Whether a key is of this name and these labels.
+fn is_key(alloc: Global, key: &SampleKey, name: &str, labels: &str) -> Result<bool, Memory> {
+    let labels = set(alloc, labels)?;
+    let is_key = key.name.as_str() == name && key.labels == labels;
+    drop(labels);
+    Ok(is_key)
 }
 
 /// Whether the next key is one of this name and these labels.
 fn is_next(alloc: Global, keys: &mut Keys, name: &str, labels: &str) -> Result<bool, Memory> {
-    let labels = set(alloc, labels)?;
     match keys.next(alloc)? {
-        Some(key) => Ok(key.name.as_str() == name && key.labels == labels),
+        Some(key) => {
+            let is_next = is_key(alloc, &key, name, labels);
+            drop(key);
+            is_next
+        }
         None => Ok(false),
     }
 }
@@ -64,22 +77,23 @@ fn read_back(alloc: Global, keys: &mut Keys) -> Result<[bool; 3], Memory> {
 }
 
 /// Whether three of four keys are new and counted, and are read back.
-fn are_seen_once(alloc: Global) -> Result<[bool; 3], Memory> {
+fn are_seen_once(alloc: Global) -> [bool; 3] {
     let mut seen = SeenKeys::new(alloc);
-    let new = four_put_in(alloc, &mut seen)?;
+    let new = four_put_in(alloc, &mut seen);
     let count = seen.len();
-    let back = read_back(alloc, &mut seen.into_keys())?;
-    Ok([
-        new == [true, true, false, true],
+    let mut keys = seen.into_keys();
+    let back = read_back(alloc, &mut keys);
+    drop(keys);
+    [
+        new == Ok([true, true, false, true]),
         count == 3,
-        back == [true; 3],
-    ])
+        back == Ok([true; 3]),
+    ]
 }
 
 #[test]
-fn keys_are_seen_once_and_read_back(rt: HostRuntime) -> Result<(), Fail> {
-    assert!(rt; are_seen_once(rt.alloc())? == [true; 3]);
-    Ok(())
+fn keys_are_seen_once_and_read_back(rt: HostRuntime) {
+    assert!(rt; are_seen_once(rt.alloc()) == [true; 3]);
 }
 
 /// A text, and behind it another one 255 times.
@@ -92,30 +106,33 @@ fn long(alloc: Global, text: &str, more: &str) -> Result<String, AllocError> {
 }
 
 /// Whether one key of such a name and such a value is new, and is read back.
-fn is_kept(alloc: Global, name: &str, labels: &str) -> Result<bool, Memory> {
+fn is_kept(alloc: Global, name: &str, labels: &str) -> bool {
     let mut seen = SeenKeys::new(alloc);
-    let new = is_new(alloc, &mut seen, name, labels)?;
-    let back = is_next(alloc, &mut seen.into_keys(), name, labels)?;
-    Ok(new && back)
+    let new = is_new(alloc, &mut seen, name, labels);
+    let mut keys = seen.into_keys();
+    let back = is_next(alloc, &mut keys, name, labels);
+    drop(keys);
+    new == Ok(true) && back == Ok(true)
 }
 
 /// Whether this is so for a long name and a long value.
 fn are_long_parts_kept(alloc: Global) -> Result<bool, Memory> {
     let name = long(alloc, "", "n")?;
     let labels = long(alloc, "code=2 job=", "é")?;
-    is_kept(alloc, name.as_str(), labels.as_str())
+    Ok(is_kept(alloc, name.as_str(), labels.as_str()))
 }
 
 #[test]
-fn long_parts_are_read_back(rt: HostRuntime) -> Result<(), Fail> {
-    assert!(rt; are_long_parts_kept(rt.alloc())?);
-    Ok(())
+fn long_parts_are_read_back(rt: HostRuntime) {
+    assert!(rt; are_long_parts_kept(rt.alloc()) == Ok(true));
 }
 
 /// The place of a set without its `le`.
 fn place(alloc: Global, seen: &mut SeenSets, labels: &str) -> Result<usize, Memory> {
     let labels = set(alloc, labels)?;
-    seen.insert_without(&labels, b"le")
+    let place = seen.insert_without(&labels, b"le");
+    drop(labels);
+    place
 }
 
 /// The places of four sets without their `le`.
@@ -132,21 +149,32 @@ fn is_set(alloc: Global, seen: &SeenSets, at: usize, labels: &str) -> Result<boo
     if at >= seen.len() {
         return Ok(false);
     }
-    Ok(seen.set(alloc, at)? == set(alloc, labels)?)
+    let expected = set(alloc, labels)?;
+    let is_set = match seen.set(alloc, at) {
+        Ok(found) => Ok(found == expected),
+        Err(memory) => Err(memory),
+    };
+    drop(expected);
+    is_set
 }
 
 /// Whether four sets are two without their `le`, of which the second is `job=b`.
-fn are_two_without_le(alloc: Global) -> Result<bool, Memory> {
+fn are_two_without_le(alloc: Global) -> [bool; 3] {
     let mut seen = SeenSets::new(alloc);
-    let places = four_places(alloc, &mut seen)?;
-    let is_second = is_set(alloc, &seen, 1, "job=b")?;
-    Ok(is_second && places == [0, 0, 1, 0] && seen.len() == 2)
+    let places = four_places(alloc, &mut seen);
+    let is_second = is_set(alloc, &seen, 1, "job=b");
+    let count = seen.len();
+    drop(seen);
+    [
+        places == Ok([0, 0, 1, 0]),
+        is_second == Ok(true),
+        count == 2,
+    ]
 }
 
 #[test]
-fn sets_are_seen_without_a_label(rt: HostRuntime) -> Result<(), Fail> {
-    assert!(rt; are_two_without_le(rt.alloc())?);
-    Ok(())
+fn sets_are_seen_without_a_label(rt: HostRuntime) {
+    assert!(rt; are_two_without_le(rt.alloc()) == [true; 3]);
 }
 
 /// Where a name was put in before, where it was; it is put in.
@@ -179,17 +207,20 @@ fn is_name(alloc: Global, seen: &SeenNames, at: usize, name: &str) -> Result<boo
 }
 
 /// Whether only the first of two names is found as it is put in once more, and the second is `request`.
-fn are_names_seen_once(alloc: Global) -> Result<bool, Memory> {
+fn are_names_seen_once(alloc: Global) -> [bool; 2] {
     let mut seen = SeenNames::new(alloc);
-    let found = two_names(alloc, &mut seen)?;
-    let is_second = is_name(alloc, &seen, 1, "request")?;
-    Ok(is_second && found == [None, None, None, Some(0)])
+    let found = two_names(alloc, &mut seen);
+    let is_second = is_name(alloc, &seen, 1, "request");
+    drop(seen);
+    [
+        found == Ok([None, None, None, Some(0)]),
+        is_second == Ok(true),
+    ]
 }
 
 #[test]
-fn names_are_seen_once(rt: HostRuntime) -> Result<(), Fail> {
-    assert!(rt; are_names_seen_once(rt.alloc())?);
-    Ok(())
+fn names_are_seen_once(rt: HostRuntime) {
+    assert!(rt; are_names_seen_once(rt.alloc()) == [true; 2]);
 }
 
 /// A key of this name and kind.
@@ -221,11 +252,13 @@ fn place_of(
     kind: Kind,
 ) -> Result<Option<usize>, Memory> {
     let key = series(alloc, name, kind)?;
-    places.find(alloc, &key)
+    let place = places.find(alloc, &key);
+    drop(key);
+    place
 }
 
 // Names and kinds, one after the other, and where each stands among counters of ten names.
-const SOUGHT: [(&str, Kind, Option<usize>); 9] = [
+const SOUGHT: &[(&str, Kind, Option<usize>)] = &[
     ("f", Kind::Counter, Some(5)),
     ("b", Kind::Gauge, None),
     ("h", Kind::Gauge, None),
@@ -241,16 +274,16 @@ const SOUGHT: [(&str, Kind, Option<usize>); 9] = [
 fn right_places(alloc: Global) -> Result<usize, Memory> {
     let mut places = places_of_counters(alloc, "a b c d e f g h i j")?;
     let mut right = 0usize;
-    for (name, kind, place) in &SOUGHT {
-        if place_of(alloc, &mut places, name, *kind)? == *place {
+    for (name, kind, place) in SOUGHT {
+        if place_of(alloc, &mut places, name, *kind) == Ok(*place) {
             right = right.saturating_add(1);
         }
     }
+    drop(places);
     Ok(right)
 }
 
 #[test]
-fn keys_of_a_kind_that_is_lacking_stand_nowhere(rt: HostRuntime) -> Result<(), Fail> {
-    assert!(rt; right_places(rt.alloc())? == SOUGHT.len());
-    Ok(())
+fn keys_of_a_kind_that_is_lacking_stand_nowhere(rt: HostRuntime) {
+    assert!(rt; right_places(rt.alloc()) == Ok(SOUGHT.len()));
 }

@@ -49,7 +49,7 @@ fn is_written(alloc: Global, sample: &Sample, expected: &str) -> Result<bool, Al
 }
 
 // Values and times, and what is written of them.
-const SAMPLES: [(&str, u64, &str); 5] = [
+const SAMPLES: &[(&str, u64, &str)] = &[
     ("1.50", 0, "> up 1.5 0 0 # 1.5"),
     ("-12e30", 9, "> up -1.2e31 9 9 # -1.2e31"),
     ("+Inf", 10, "> up +Inf 10 10 # \"Infinity\""),
@@ -63,7 +63,7 @@ const SAMPLES: [(&str, u64, &str); 5] = [
 
 /// The first value of those that is not written so.
 fn wrong_value(alloc: Global) -> Result<Option<&'static str>, AllocError> {
-    for (token, time, expected) in &SAMPLES {
+    for (token, time, expected) in SAMPLES {
         let sample = Sample {
             value: number(token),
             time: *time,
@@ -76,9 +76,8 @@ fn wrong_value(alloc: Global) -> Result<Option<&'static str>, AllocError> {
 }
 
 #[test]
-fn writes_behind_what_is_there(rt: HostRuntime) -> Result<(), AllocError> {
-    assert!(rt; wrong_value(rt.alloc())?.is_none());
-    Ok(())
+fn writes_behind_what_is_there(rt: HostRuntime) {
+    assert!(rt; wrong_value(rt.alloc()) == Ok(None));
 }
 
 fn seven() -> Sample {
@@ -97,54 +96,60 @@ fn printed(
 ) -> Result<(Result<(), Failed>, bool, u64), AllocError> {
     let mut out = MemorySink::new(alloc, room, List::new(alloc))?;
     let printed = print_line(&seven(), &mut out);
-    Ok((printed, out.held() == held, out.faults()))
+    let is_held = out.held() == held;
+    let faults = out.faults();
+    drop(out);
+    Ok((printed, is_held, faults))
 }
 
 #[test]
-fn prints_a_line(rt: HostRuntime) -> Result<(), AllocError> {
-    let printed = printed(rt.alloc(), 100, b"up 7 20 20 # 7\n")?;
-    assert!(rt; printed == (Ok(()), true, 0));
-    Ok(())
+fn prints_a_line(rt: HostRuntime) {
+    let printed = printed(rt.alloc(), 100, b"up 7 20 20 # 7\n");
+    assert!(rt; printed == Ok((Ok(()), true, 0)));
 }
 
 // What is written is a front of the text, and the fault is counted once.
 #[test]
-fn prints_a_front_where_a_write_fails(rt: HostRuntime) -> Result<(), AllocError> {
-    let printed = printed(rt.alloc(), 4, b"up 7")?;
-    assert!(rt; printed == (Err(Failed), true, 1));
-    Ok(())
+fn prints_a_front_where_a_write_fails(rt: HostRuntime) {
+    let printed = printed(rt.alloc(), 4, b"up 7");
+    assert!(rt; printed == Ok((Err(Failed), true, 1)));
+}
+
+/// Whether a sample is written so, or nothing.
+fn is_written_or_not(alloc: Global, whole: &[u8]) -> bool {
+    let mut out = Vec::new(alloc);
+    let expected = match write(&seven(), &mut out) {
+        Ok(()) => whole,
+        Err(_) => b"",
+    };
+    out.as_slice() == expected
 }
 
 // With the first allocation failing, nothing is written.
 #[test]
 fn writes_all_or_nothing(rt: HostRuntime) {
-    let sample = Sample {
-        value: number("7"),
-        time: 20,
-    };
-    let mut out = Vec::new(rt.alloc());
-    let expected: &[u8] = match write(&sample, &mut out) {
-        Ok(()) => b"up 7 20 20 # 7",
-        Err(_) => b"",
-    };
-    assert!(rt; out.as_slice() == expected);
+    assert!(rt; is_written_or_not(rt.alloc(), b"up 7 20 20 # 7"));
 }
 
-// With any allocation failing, what was there stays. The text is longer than the vector's first growths.
-#[test]
-fn keeps_what_was_there(rt: HostRuntime) -> Result<(), AllocError> {
+/// Whether a sample is written so behind what is there, or that stays.
+fn is_written_behind_or_not(alloc: Global, whole: &str) -> Result<bool, AllocError> {
     let sample = Sample {
         value: number("-1.25"),
         time: u64::MAX,
     };
-    let whole = "> up -1.25 18446744073709551615 18446744073709551615 # -1.25";
-    let mut out = Vec::from_slice(rt.alloc(), b"> ")?;
-    let expected: &str = match write(&sample, &mut out) {
+    let mut out = Vec::from_slice(alloc, b"> ")?;
+    let expected = match write(&sample, &mut out) {
         Ok(()) => whole,
         Err(_) => "> ",
     };
-    assert!(rt; std::str::from_utf8(&out) == Ok(expected));
-    Ok(())
+    Ok(std::str::from_utf8(&out) == Ok(expected))
+}
+
+// With any allocation failing, what was there stays. The text is longer than the vector's first growths.
+#[test]
+fn keeps_what_was_there(rt: HostRuntime) {
+    let whole = "> up -1.25 18446744073709551615 18446744073709551615 # -1.25";
+    assert!(rt; is_written_behind_or_not(rt.alloc(), whole) == Ok(true));
 }
 
 /// A text of any length.
@@ -191,30 +196,33 @@ fn is_printed_into(
     let mut out = MemorySink::new(alloc, room as u64, List::new(alloc))?;
     let printed = print_line(text, &mut out).is_ok();
     let end = line.len().min(room);
-    Ok(printed == (line.len() <= room) && out.held() == &line[..end])
+    let is_held = out.held() == &line[..end];
+    drop(out);
+    Ok(is_held && printed == (line.len() <= room))
 }
 
-const ROOMS: [usize; 5] = [0, 1, 32_768, 69_000, 200_000];
+const ROOMS: &[usize] = &[0, 1, 32_768, 69_000, 200_000];
 
 /// Into how many of the outputs a text of this length is printed as it should be.
 fn right_rooms(alloc: Global, len: usize) -> Result<usize, AllocError> {
     let text = text_with(alloc, len)?;
     let line = line_of(alloc, &text)?;
     let mut right = 0usize;
-    for room in &ROOMS {
-        if is_printed_into(alloc, &text, line.as_slice(), *room)? {
+    for room in ROOMS {
+        if is_printed_into(alloc, &text, line.as_slice(), *room) == Ok(true) {
             right = right.saturating_add(1);
         }
     }
+    drop(line);
+    drop(text);
     Ok(right)
 }
 
-const LENGTHS: [usize; 6] = [32_765, 32_766, 32_767, 32_768, 32_769, 70_000];
+const LENGTHS: &[usize] = &[32_765, 32_766, 32_767, 32_768, 32_769, 70_000];
 
 #[test]
-fn prints_what_is_longer_than_its_room(rt: HostRuntime) -> Result<(), AllocError> {
-    for len in &LENGTHS {
-        assert!(rt; right_rooms(rt.alloc(), *len)? == ROOMS.len());
+fn prints_what_is_longer_than_its_room(rt: HostRuntime) {
+    for len in LENGTHS {
+        assert!(rt; right_rooms(rt.alloc(), *len) == Ok(ROOMS.len()));
     }
-    Ok(())
 }

@@ -35,7 +35,9 @@ fn first_event(alloc: Global, target: &Target, nanos: u64, page: Page) -> Result
         reading: nanos,
         outcome: Outcome::Page(page),
     };
-    state.step(alloc, event)
+    let request = state.step(alloc, event);
+    drop(state);
+    request
 }
 
 /// The tree of the event that the page on the input is.

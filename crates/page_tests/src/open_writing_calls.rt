@@ -63,16 +63,23 @@ fn written(alloc: Global, page: &Page, front: &[u8]) -> Result<Vec<u8>, Memory> 
     Ok(out)
 }
 
+/// The page of a text, written behind what is there.
+fn written_again(alloc: Global, text: &[u8], front: &[u8]) -> Result<Vec<u8>, PageFault> {
+    let page = open_page(alloc, text)?;
+    let out = written(alloc, &page, front);
+    drop(page);
+    Ok(out?)
+}
+
 /// Whether the page is written so.
 fn is_written(alloc: Global) -> Result<bool, PageFault> {
-    let page = open_page(alloc, READ.as_bytes())?;
-    Ok(written(alloc, &page, b"> ")?.as_slice() == WRITTEN.as_bytes())
+    let out = written_again(alloc, READ.as_bytes(), b"> ")?;
+    Ok(out.as_slice() == WRITTEN.as_bytes())
 }
 
 #[test]
-fn writes_behind_what_is_there(rt: HostRuntime) -> Result<(), PageFault> {
-    assert!(rt; is_written(rt.alloc())?);
-    Ok(())
+fn writes_behind_what_is_there(rt: HostRuntime) {
+    assert!(rt; is_written(rt.alloc()) == Ok(true));
 }
 
 /// Whether a page is written, or what was there stays.
@@ -85,12 +92,18 @@ fn is_written_or_not(alloc: Global, page: &Page) -> Result<bool, Memory> {
     Ok(out.as_slice() == expected.as_bytes())
 }
 
+/// The same of the page that is read.
+fn is_read_page_written_or_not(alloc: Global) -> Result<bool, PageFault> {
+    let page = open_page(alloc, READ.as_bytes())?;
+    let is_right = is_written_or_not(alloc, &page);
+    drop(page);
+    Ok(is_right?)
+}
+
 // With any allocation failing, what was there stays.
 #[test]
-fn writes_all_or_nothing(rt: HostRuntime) -> Result<(), PageFault> {
-    let page = open_page(rt.alloc(), READ.as_bytes())?;
-    assert!(rt; is_written_or_not(rt.alloc(), &page)?);
-    Ok(())
+fn writes_all_or_nothing(rt: HostRuntime) {
+    assert!(rt; is_read_page_written_or_not(rt.alloc()) == Ok(true));
 }
 
 /// A page of one sample whose label has a value of so many bytes.
@@ -106,17 +119,15 @@ fn long_text(alloc: Global, len: usize) -> Result<Vec<u8>, Memory> {
 /// Whether such a page is written as it was read.
 fn is_kept(alloc: Global, len: usize) -> Result<bool, PageFault> {
     let text = long_text(alloc, len)?;
-    let page = open_page(alloc, text.as_slice())?;
-    Ok(written(alloc, &page, b"")? == text)
+    Ok(written_again(alloc, text.as_slice(), b"")? == text)
 }
 
 // Lines of 4,095 to 4,097 bytes, of which the last is longer than what is put at once, and a far longer one.
-const LENGTHS: [usize; 4] = [4085, 4086, 4087, 9000];
+const LENGTHS: &[usize] = &[4085, 4086, 4087, 9000];
 
 #[test]
-fn writes_long_lines(rt: HostRuntime) -> Result<(), PageFault> {
-    for len in &LENGTHS {
-        assert!(rt; is_kept(rt.alloc(), *len)?, "{len}");
+fn writes_long_lines(rt: HostRuntime) {
+    for len in LENGTHS {
+        assert!(rt; is_kept(rt.alloc(), *len) == Ok(true), "{len}");
     }
-    Ok(())
 }

@@ -23,10 +23,11 @@ fn refusal(alloc: Global, line: &[u8]) -> Result<Option<Rule>, Memory> {
         LineRead::Item(_) => None,
         LineRead::Refused(rule) => Some(*rule),
     };
+    drop(read);
     Ok(rule)
 }
 
-const SYNTAX: [&str; 47] = [
+const SYNTAX: &[&str] = &[
     "",
     "#",
     "# ",
@@ -76,7 +77,7 @@ const SYNTAX: [&str; 47] = [
     "x{a=\"1\",a=\"2\"} y",
 ];
 
-const RANGE: [&str; 6] = [
+const RANGE: &[&str] = &[
     "x 1e309",
     "x 1 1e309",
     "x{a=\"1\",a=\"2\"} 1e309",
@@ -85,12 +86,12 @@ const RANGE: [&str; 6] = [
     "x{a=\"1\",a=\"2\"} 1 # {} 1e309",
 ];
 
-const LABELS: [&str; 2] = ["x{a=\"1\",a=\"2\"} 1", "x 1 # {a=\"b\",a=\"c\"} 2"];
+const LABELS: &[&str] = &["x{a=\"1\",a=\"2\"} 1", "x 1 # {a=\"b\",a=\"c\"} 2"];
 
-const REFUSED: [(&[&str], Rule); 3] = [
-    (&SYNTAX, Rule::Syntax),
-    (&RANGE, Rule::Range),
-    (&LABELS, Rule::Labels),
+const REFUSED: &[(&[&str], Rule)] = &[
+    (SYNTAX, Rule::Syntax),
+    (RANGE, Rule::Range),
+    (LABELS, Rule::Labels),
 ];
 
 /// The first of some lines that this rule does not refuse, or that one does, where there is none.
@@ -108,16 +109,21 @@ fn other_line<'a>(
 }
 
 #[test]
-fn refused_lines(rt: HostRuntime) -> Result<(), Memory> {
-    for (lines, rule) in &REFUSED {
-        let other = other_line(rt.alloc(), lines, Some(*rule))?;
-        assert!(rt; other.is_none(), "{other:?}");
+fn refused_lines(rt: HostRuntime) {
+    for (lines, rule) in REFUSED {
+        assert!(rt;
+            other_line(rt.alloc(), lines, Some(*rule)) == Ok(None),
+            "{rule:?}"
+        );
     }
-    assert!(rt; refusal(rt.alloc(), b"x{a=\"\xff\"} y")? == Some(Rule::Utf8));
-    Ok(())
 }
 
-const RIGHT: [&str; 22] = [
+#[test]
+fn lines_that_are_no_text(rt: HostRuntime) {
+    assert!(rt; refusal(rt.alloc(), b"x{a=\"\xff\"} y") == Ok(Some(Rule::Utf8)));
+}
+
+const RIGHT: &[&str] = &[
     "# EOF",
     "# TYPE x counter",
     "# TYPE x gauge",
@@ -143,9 +149,8 @@ const RIGHT: [&str; 22] = [
 ];
 
 #[test]
-fn right_lines(rt: HostRuntime) -> Result<(), Memory> {
-    assert!(rt; other_line(rt.alloc(), &RIGHT, None)?.is_none());
-    Ok(())
+fn right_lines(rt: HostRuntime) {
+    assert!(rt; other_line(rt.alloc(), RIGHT, None) == Ok(None));
 }
 
 /// What a line says of a family, in one text: its sort, its name and what it says.
@@ -171,10 +176,12 @@ fn told(alloc: Global, read: &LineRead) -> Result<String, Memory> {
 /// Whether this is what a line says.
 fn is_told(alloc: Global, line: &[u8], expected: &str) -> Result<bool, Memory> {
     let read = read(alloc, line)?;
-    Ok(told(alloc, &read)?.as_str() == expected)
+    let told = told(alloc, &read);
+    drop(read);
+    Ok(told?.as_str() == expected)
 }
 
-const DESCRIPTORS: [(&str, &str); 5] = [
+const DESCRIPTORS: &[(&str, &str)] = &[
     (
         "# HELP x a\\nb\\\\c\\\"d\"e\\q ",
         "help x a\nb\\c\"d\"e\\q ",
@@ -186,18 +193,23 @@ const DESCRIPTORS: [(&str, &str); 5] = [
 ];
 
 #[test]
-fn descriptors(rt: HostRuntime) -> Result<(), Memory> {
-    for (line, text) in &DESCRIPTORS {
-        assert!(rt; is_told(rt.alloc(), line.as_bytes(), text)?, "{line}");
+fn descriptors(rt: HostRuntime) {
+    for (line, text) in DESCRIPTORS {
+        assert!(rt;
+            is_told(rt.alloc(), line.as_bytes(), text) == Ok(true),
+            "{line}"
+        );
     }
-    Ok(())
 }
 
 /// The sample of a line.
 fn sample(alloc: Global, line: &[u8]) -> Result<Option<Sample>, Memory> {
     match read(alloc, line)? {
         LineRead::Item(Item::Sample(sample)) => Ok(Some(sample)),
-        _ => Ok(None),
+        other => {
+            drop(other);
+            Ok(None)
+        }
     }
 }
 
@@ -242,43 +254,48 @@ fn has_all_parts(alloc: Global) -> Result<[bool; 2], Memory> {
     let line = b"x{b=\"\",a=\"p\\n\\\"\\\\\\q\"} 1.50 2.5 # {t=\"\xc3\xbc\"} 3 4";
     let numbers = [number(b"1.5"), number(b"2.5"), number(b"3"), number(b"4")];
     match sample(alloc, line)? {
-        Some(sample) => Ok([
-            is_sample(&sample, "x", numbers),
-            has_labels(&sample, (b"a", b"p\n\"\\\\q"), (b"t", b"\xc3\xbc")),
-        ]),
+        Some(sample) => {
+            let seen = [
+                is_sample(&sample, "x", numbers),
+                has_labels(&sample, (b"a", b"p\n\"\\\\q"), (b"t", b"\xc3\xbc")),
+            ];
+            drop(sample);
+            Ok(seen)
+        }
         None => Ok([false; 2]),
     }
 }
 
 #[test]
-fn samples(rt: HostRuntime) -> Result<(), Memory> {
-    assert!(rt; has_all_parts(rt.alloc())? == [true; 2]);
-    Ok(())
+fn samples(rt: HostRuntime) {
+    assert!(rt; has_all_parts(rt.alloc()) == Ok([true; 2]));
 }
 
 /// Whether the sample of a line without labels has its parts, and no labels.
 fn has_plain_parts(alloc: Global) -> Result<[bool; 2], Memory> {
     let numbers = [number(b"-Inf"), None, number(b"nan"), None];
     match sample(alloc, b"x:y -inf # {} NaN")? {
-        Some(sample) => Ok([is_sample(&sample, "x:y", numbers), sample.labels.is_empty()]),
+        Some(sample) => {
+            let seen = [is_sample(&sample, "x:y", numbers), sample.labels.is_empty()];
+            drop(sample);
+            Ok(seen)
+        }
         None => Ok([false; 2]),
     }
 }
 
 #[test]
-fn plain_samples(rt: HostRuntime) -> Result<(), Memory> {
-    assert!(rt; has_plain_parts(rt.alloc())? == [true; 2]);
-    Ok(())
+fn plain_samples(rt: HostRuntime) {
+    assert!(rt; has_plain_parts(rt.alloc()) == Ok([true; 2]));
 }
 
-/// So many labels without a value, and what follows them.
-fn labels_and(alloc: Global, count: u32, more: &str) -> Result<String, Memory> {
-    let mut labels = String::from_str(alloc, "a0=\"\"")?;
+/// Puts so many labels without a value behind a line, and what follows them.
+fn put_labels(line: &mut String, count: u32, more: &str) -> Result<(), Memory> {
+    line.push_str("a0=\"\"")?;
     for place in 1..count {
-        write!(labels, ",a{place}=\"\"")?;
+        write!(line, ",a{place}=\"\"")?;
     }
-    labels.push_str(more)?;
-    Ok(labels)
+    line.push_str(more)
 }
 
 /// The rule that refuses a line of this front, of so many labels, and of this end.
@@ -289,22 +306,21 @@ fn refusal_of_many(
     end: &str,
 ) -> Result<Option<Rule>, Memory> {
     let mut line = String::from_str(alloc, front)?;
-    line.push_str(labels_and(alloc, count, end)?.as_str())?;
+    put_labels(&mut line, count, end)?;
     refusal(alloc, line.as_bytes())
 }
 
 // The most labels that a target's sample may have, and one more.
-const MANY: [(&str, u32, Option<Rule>); 3] = [
+const MANY: &[(&str, u32, Option<Rule>)] = &[
     ("x{", 64, None),
     ("x{", 65, Some(Rule::Labels)),
     ("x 1 # {", 65, Some(Rule::Labels)),
 ];
 
 #[test]
-fn many_labels(rt: HostRuntime) -> Result<(), Memory> {
-    for (front, count, rule) in &MANY {
-        let refusal = refusal_of_many(rt.alloc(), front, *count, "} 1")?;
-        assert!(rt; refusal == *rule, "{front} {count}");
+fn many_labels(rt: HostRuntime) {
+    for (front, count, rule) in MANY {
+        let refusal = refusal_of_many(rt.alloc(), front, *count, "} 1");
+        assert!(rt; refusal == Ok(*rule), "{front} {count}");
     }
-    Ok(())
 }

@@ -19,11 +19,17 @@ fn label(alloc: Global, name: &str, value: &str) -> Result<Label, Memory> {
     Ok(Label { name, value })
 }
 
+/// Puts in a label of this name and value.
+fn put_label(alloc: Global, pairs: &mut Vec<Label>, name: &str, value: &str) -> Result<(), Memory> {
+    pairs.push(label(alloc, name, value)?)?;
+    Ok(())
+}
+
 /// The set of the label `code` and the one of this name.
 fn labels(alloc: Global, code: &str, place: &str, at: &str) -> Result<LabelSet, Memory> {
     let mut pairs = Vec::new(alloc);
-    pairs.push(label(alloc, "code", code)?)?;
-    pairs.push(label(alloc, place, at)?)?;
+    put_label(alloc, &mut pairs, "code", code)?;
+    put_label(alloc, &mut pairs, place, at)?;
     match LabelSet::build(alloc, pairs, 64) {
         Ok(labels) => Ok(labels),
         Err(_) => Err(AllocError),
@@ -68,16 +74,18 @@ fn gather_sample(
     }
 }
 
-/// Gathers a row of a family.
+/// Gathers a row of the family `h`.
 fn gather_row(
     alloc: Global,
     kind: Kind,
-    family: &Name,
     row: Row<'_>,
     groups: &mut Groups,
 ) -> Result<Option<Rule>, Memory> {
+    let family = Name::from_str(alloc, "h")?;
     let sample = sample(alloc, kind, row)?;
-    gather_sample(alloc, kind, family, &sample, groups)
+    let broken = gather_sample(alloc, kind, &family, &sample, groups);
+    drop(sample);
+    broken
 }
 
 /// Gathers the rows of the family `h`, and answers the rule that the first wrong one breaks.
@@ -87,26 +95,13 @@ fn gather(
     rows: &[Row<'_>],
     groups: &mut Groups,
 ) -> Result<Option<Rule>, Memory> {
-    let family = Name::from_str(alloc, "h")?;
     for row in rows {
-        let broken = gather_row(alloc, kind, &family, *row, groups)?;
+        let broken = gather_row(alloc, kind, *row, groups)?;
         if broken.is_some() {
             return Ok(broken);
         }
     }
     Ok(None)
-}
-
-/// The readings of the family `h` that its groups come to.
-fn readings_of(
-    alloc: Global,
-    format: Format,
-    kind: Kind,
-    groups: Groups,
-) -> Result<List<Reading>, Memory> {
-    let family = Name::from_str(alloc, "h")?;
-    let unit = Text::empty();
-    groups.into_readings(alloc, format, kind, &family, &unit)
 }
 
 /// The readings of the family `h` that these rows come to, where none breaks a rule.
@@ -116,11 +111,19 @@ fn gathered(
     kind: Kind,
     rows: &[Row<'_>],
 ) -> Result<List<Reading>, Memory> {
+    let (family, unit) = (Name::from_str(alloc, "h")?, Text::empty());
     let mut groups = Groups::new(alloc);
-    if gather(alloc, kind, rows, &mut groups)?.is_some() {
-        return Ok(List::new(alloc));
+    match gather(alloc, kind, rows, &mut groups) {
+        Ok(None) => groups.into_readings(alloc, format, kind, &family, &unit),
+        Ok(Some(_)) => {
+            drop(groups);
+            Ok(List::new(alloc))
+        }
+        Err(memory) => {
+            drop(groups);
+            Err(memory)
+        }
     }
-    readings_of(alloc, format, kind, groups)
 }
 
 /// Whether a bucket has this bound and this count.
@@ -128,7 +131,7 @@ fn is_bucket(bucket: &Bucket, le: &str, count: u64) -> bool {
     bucket.le == number(le) && bucket.count == count
 }
 
-const HISTOGRAM: [Row<'_>; 7] = [
+const HISTOGRAM: &[Row<'_>] = &[
     ("h_bucket", "", "0.1", "2"),
     ("h_bucket", "", "1", "5"),
     ("h_bucket", "a", "1", "7"),
@@ -138,19 +141,26 @@ const HISTOGRAM: [Row<'_>; 7] = [
     ("h_bucket", "a", "+Inf", "8"),
 ];
 
-/// Whether the groups are whole before the last row of the histogram, and behind it.
-fn are_whole(alloc: Global) -> Result<[bool; 2], Memory> {
+/// Whether the rows but the last break no rule, and the groups are whole then; and the same once the last was gathered.
+fn are_whole(alloc: Global, rows: &[Row<'_>]) -> Option<[bool; 4]> {
+    let (last, front) = rows.split_last()?;
     let mut groups = Groups::new(alloc);
-    let first = gather(alloc, Kind::Histogram, &HISTOGRAM[..6], &mut groups)?.is_none();
-    let before = groups.are_whole();
-    let last = gather(alloc, Kind::Histogram, &HISTOGRAM[6..], &mut groups)?.is_none();
-    Ok([first && before, last && groups.are_whole()])
+    let before = gather(alloc, Kind::Histogram, front, &mut groups);
+    let were_whole = groups.are_whole();
+    let behind = gather_row(alloc, Kind::Histogram, *last, &mut groups);
+    let are_whole = groups.are_whole();
+    drop(groups);
+    Some([
+        before == Ok(None),
+        were_whole,
+        behind == Ok(None),
+        are_whole,
+    ])
 }
 
 #[test]
-fn groups_are_whole_once_each_has_its_last_bucket(rt: HostRuntime) -> Result<(), Memory> {
-    assert!(rt; are_whole(rt.alloc())? == [false, true]);
-    Ok(())
+fn groups_are_whole_once_each_has_its_last_bucket(rt: HostRuntime) {
+    assert!(rt; are_whole(rt.alloc(), HISTOGRAM) == Some([true, false, true, true]));
 }
 
 /// Whether the first reading of the histogram has the family's name, no labels, its buckets and its sum, and the
@@ -175,14 +185,7 @@ fn is_histogram(readings: &[Reading]) -> bool {
         && *sum == Some(number("1.5"))
 }
 
-#[test]
-fn makes_the_readings_of_a_histogram(rt: HostRuntime) -> Result<(), Memory> {
-    let readings = gathered(rt.alloc(), Format::Text, Kind::Histogram, &HISTOGRAM)?;
-    assert!(rt; is_histogram(readings.as_slice()));
-    Ok(())
-}
-
-const SUMMARY: [Row<'_>; 3] = [
+const SUMMARY: &[Row<'_>] = &[
     ("h", "", "0.99", "3"),
     ("h_count", "", "", "4"),
     ("h", "", "0.5", "2"),
@@ -211,14 +214,7 @@ fn is_summary(readings: &[Reading]) -> bool {
         && sum.is_none()
 }
 
-#[test]
-fn makes_the_reading_of_a_summary(rt: HostRuntime) -> Result<(), Memory> {
-    let readings = gathered(rt.alloc(), Format::Text, Kind::Summary, &SUMMARY)?;
-    assert!(rt; is_summary(readings.as_slice()));
-    Ok(())
-}
-
-const COUNTERS: [Row<'_>; 5] = [
+const COUNTERS: &[Row<'_>] = &[
     ("h_total", "a", "", "5"),
     ("h_created", "a", "", "1.5"),
     ("h_total", "a", "1", "+Inf"),
@@ -244,16 +240,42 @@ fn are_counters(readings: &[Reading]) -> bool {
         && is_counter(third, "0", 2, None)
 }
 
-#[test]
-fn makes_the_readings_of_a_counter(rt: HostRuntime) -> Result<(), Memory> {
-    let readings = gathered(rt.alloc(), Format::OpenMetrics, Kind::Counter, &COUNTERS)?;
-    assert!(rt; are_counters(readings.as_slice()));
-    Ok(())
+/// Whether the rows of a kind come to its readings.
+fn are_made(alloc: Global, format: Format, kind: Kind) -> Result<bool, Memory> {
+    let rows = match kind {
+        Kind::Histogram => HISTOGRAM,
+        Kind::Summary => SUMMARY,
+        _ => COUNTERS,
+    };
+    let readings = gathered(alloc, format, kind, rows)?;
+    let are_made = match kind {
+        Kind::Histogram => is_histogram(readings.as_slice()),
+        Kind::Summary => is_summary(readings.as_slice()),
+        _ => are_counters(readings.as_slice()),
+    };
+    drop(readings);
+    Ok(are_made)
 }
 
 #[test]
-fn counters_of_a_text_page_have_no_groups(rt: HostRuntime) {
-    assert!(rt; !is_grouped(Format::Text, Kind::Counter));
+fn makes_the_readings_of_a_histogram(rt: HostRuntime) {
+    assert!(rt; are_made(rt.alloc(), Format::Text, Kind::Histogram) == Ok(true));
+}
+
+#[test]
+fn makes_the_reading_of_a_summary(rt: HostRuntime) {
+    assert!(rt; are_made(rt.alloc(), Format::Text, Kind::Summary) == Ok(true));
+}
+
+#[test]
+fn makes_the_readings_of_a_counter(rt: HostRuntime) {
+    assert!(rt; are_made(rt.alloc(), Format::OpenMetrics, Kind::Counter) == Ok(true));
+}
+
+#[test]
+fn text_pages_have_groups_of_histograms_and_none_of_counters(rt: HostRuntime) {
+    let is_histogram_grouped = is_grouped(Format::Text, Kind::Histogram);
+    assert!(rt; is_histogram_grouped && !is_grouped(Format::Text, Kind::Counter));
 }
 
 /// The created time of the only reading that these rows come to, and whether there is one.
@@ -263,41 +285,43 @@ fn created_of(
     rows: &[Row<'_>],
 ) -> Result<Option<Option<Number>>, Memory> {
     let readings = gathered(alloc, Format::OpenMetrics, kind, rows)?;
-    Ok(match readings.as_slice() {
+    let created = match readings.as_slice() {
         [reading] => Some(reading.created),
         _ => None,
-    })
+    };
+    drop(readings);
+    Ok(created)
 }
 
 // A group with nothing but a created time makes no reading, and of two created times the first one counts.
 #[test]
-fn takes_created_times(rt: HostRuntime) -> Result<(), Memory> {
-    const SUMMARIES: [Row<'_>; 2] = [("h_created", "a", "", "3"), ("h_sum", "b", "", "4")];
-    const HISTOGRAMS: [Row<'_>; 3] = [
+fn takes_created_times(rt: HostRuntime) {
+    const SUMMARIES: &[Row<'_>] = &[("h_created", "a", "", "3"), ("h_sum", "b", "", "4")];
+    const HISTOGRAMS: &[Row<'_>] = &[
         ("h_created", "", "", "3"),
         ("h_bucket", "", "+Inf", "4"),
         ("h_created", "", "", "5"),
     ];
-    let summary = created_of(rt.alloc(), Kind::Summary, &SUMMARIES)?;
-    let histogram = created_of(rt.alloc(), Kind::Histogram, &HISTOGRAMS)?;
-    assert!(rt; summary == Some(None) && histogram == Some(Some(number("3"))));
-    Ok(())
+    let summary = created_of(rt.alloc(), Kind::Summary, SUMMARIES);
+    let histogram = created_of(rt.alloc(), Kind::Histogram, HISTOGRAMS);
+    assert!(rt; summary == Ok(Some(None)) && histogram == Ok(Some(Some(number("3")))));
 }
 
 /// Whether a gauge histogram with this count beside a last bucket of 4 is whole.
 fn is_whole_with(alloc: Global, count: &str) -> Result<bool, Memory> {
     let rows = [("h_bucket", "", "+Inf", "4"), ("h_gcount", "", "", count)];
     let mut groups = Groups::new(alloc);
-    let fits = gather(alloc, Kind::GaugeHistogram, &rows, &mut groups)?.is_none();
-    Ok(fits && groups.are_whole())
+    let broken = gather(alloc, Kind::GaugeHistogram, &rows, &mut groups);
+    let are_whole = groups.are_whole();
+    drop(groups);
+    Ok(broken?.is_none() && are_whole)
 }
 
 #[test]
-fn tells_a_whole_gauge_histogram(rt: HostRuntime) -> Result<(), Memory> {
-    let four = is_whole_with(rt.alloc(), "4")?;
-    let five = is_whole_with(rt.alloc(), "5")?;
-    assert!(rt; four && !five);
-    Ok(())
+fn tells_a_whole_gauge_histogram(rt: HostRuntime) {
+    let four = is_whole_with(rt.alloc(), "4");
+    let five = is_whole_with(rt.alloc(), "5");
+    assert!(rt; four == Ok(true) && five == Ok(false));
 }
 
 /// Whether the row breaks the rule behind a first row of its family, which has groups.
@@ -309,12 +333,13 @@ fn breaks(alloc: Global, kind: Kind, row: Row<'_>, rule: Rule) -> Result<bool, M
     };
     let rows = [(first, "", "1", "3"), row];
     let mut groups = Groups::new(alloc);
-    let broken = gather(alloc, kind, &rows, &mut groups)?;
-    Ok(is_grouped(Format::OpenMetrics, kind) && broken == Some(rule))
+    let broken = gather(alloc, kind, &rows, &mut groups);
+    drop(groups);
+    Ok(is_grouped(Format::OpenMetrics, kind) && broken? == Some(rule))
 }
 
 // Kinds, the names of rows without a code, their `le` or `quantile`, their values, and the rule that each breaks.
-const BREAKING: [(Kind, &str, &str, &str, Rule); 18] = [
+const BREAKING: &[(Kind, &str, &str, &str, Rule)] = &[
     (Kind::Histogram, "h_bucket", "", "1", Rule::Threshold),
     (Kind::Histogram, "h_bucket", "-Inf", "1", Rule::Threshold),
     (Kind::Histogram, "h_bucket", "x", "1.5", Rule::Value),
@@ -336,11 +361,9 @@ const BREAKING: [(Kind, &str, &str, &str, Rule); 18] = [
 ];
 
 #[test]
-fn names_the_broken_rule(rt: HostRuntime) -> Result<(), Memory> {
-    for (kind, name, place, value, rule) in &BREAKING {
+fn names_the_broken_rule(rt: HostRuntime) {
+    for (kind, name, place, value, rule) in BREAKING {
         let row = (*name, "", *place, *value);
-        assert!(rt; breaks(rt.alloc(), *kind, row, *rule)?, "{name}");
+        assert!(rt; breaks(rt.alloc(), *kind, row, *rule) == Ok(true), "{name}");
     }
-    assert!(rt; is_grouped(Format::Text, Kind::Histogram));
-    Ok(())
 }

@@ -24,7 +24,9 @@ fn feed_bytes(reader: &mut TextPage, page: &[u8]) -> Result<(), PageFault> {
 /// The families and samples of a page, or its line and rule.
 fn seen(read: Result<Page, PageFault>) -> Result<(usize, u32), PageFault> {
     let page = read?;
-    Ok((page.families().len(), page.samples()))
+    let seen = (page.families().len(), page.samples());
+    drop(page);
+    Ok(seen)
 }
 
 /// The same of what a reader was fed, where the feeding had no fault.
@@ -53,7 +55,7 @@ fn comes_to(alloc: Global, page: &[u8], expected: Result<(usize, u32), PageFault
     whole(alloc, page) == expected && byte_by_byte(alloc, page) == expected
 }
 
-const PAGES: [(&[u8], usize, u32); 6] = [
+const PAGES: &[(&[u8], usize, u32)] = &[
     (b"", 0, 0),
     (b"x 1\n", 1, 1),
     (b"x{} 1\ny { a = \"1\" , } 2 1000\n", 2, 2),
@@ -68,7 +70,7 @@ const PAGES: [(&[u8], usize, u32); 6] = [
 
 #[test]
 fn right_pages(rt: HostRuntime) {
-    for (page, families, samples) in &PAGES {
+    for (page, families, samples) in PAGES {
         assert!(rt;
             comes_to(rt.alloc(), page, Ok((*families, *samples))),
             "{families} families"
@@ -76,7 +78,7 @@ fn right_pages(rt: HostRuntime) {
     }
 }
 
-const REFUSED: [(&[u8], u32, Rule); 14] = [
+const REFUSED: &[(&[u8], u32, Rule)] = &[
     (b"x 1", 2, Rule::NoNewline),
     (
         b"x{b=\"1\",a=\"2\",} 1\nx{a=\"2\",b=\"1\",c=\"\"} 2\n",
@@ -107,7 +109,7 @@ const REFUSED: [(&[u8], u32, Rule); 14] = [
 
 #[test]
 fn refused_pages(rt: HostRuntime) {
-    for (page, line, rule) in &REFUSED {
+    for (page, line, rule) in REFUSED {
         let fault = PageFault::Refused {
             line: *line,
             rule: *rule,
@@ -126,13 +128,12 @@ fn wrong_and_right(alloc: Global) -> Result<[Option<PageFault>; 3], PageFault> {
 }
 
 #[test]
-fn goes_on_refusing(rt: HostRuntime) -> Result<(), PageFault> {
+fn goes_on_refusing(rt: HostRuntime) {
     let fault = PageFault::Refused {
         line: 1,
         rule: Rule::Syntax,
     };
-    assert!(rt; wrong_and_right(rt.alloc())? == [Some(fault); 3]);
-    Ok(())
+    assert!(rt; wrong_and_right(rt.alloc()) == Ok([Some(fault); 3]));
 }
 
 /// The value of the first label of the first reading.
@@ -158,20 +159,40 @@ fn page_of_two(alloc: Global, first: &[u8], second: &[u8]) -> Result<Page, PageF
 /// Whether the first value of a page is this, and that of its copy.
 fn has_first_value(page: &Page, value: &[u8]) -> Result<[bool; 2], PageFault> {
     let copy = page.copy()?;
-    Ok([first_value(page) == value, first_value(&copy) == value])
+    let have = [first_value(page) == value, first_value(&copy) == value];
+    drop(copy);
+    Ok(have)
+}
+
+/// The same of the page of two pieces.
+fn pieces_have_first_value(
+    alloc: Global,
+    first: &[u8],
+    second: &[u8],
+    value: &[u8],
+) -> Result<[bool; 2], PageFault> {
+    let page = page_of_two(alloc, first, second)?;
+    let have = has_first_value(&page, value);
+    drop(page);
+    have
 }
 
 #[test]
-fn escapes_across_pieces(rt: HostRuntime) -> Result<(), PageFault> {
-    let page = page_of_two(rt.alloc(), b"x{a=\"p\\n\\\"\\\\\\q\xc3", b"\xa9\"} 1\n")?;
-    assert!(rt; has_first_value(&page, b"p\n\"\\\\q\xc3\xa9")? == [true, true]);
-    Ok(())
+fn escapes_across_pieces(rt: HostRuntime) {
+    let have = pieces_have_first_value(
+        rt.alloc(),
+        b"x{a=\"p\\n\\\"\\\\\\q\xc3",
+        b"\xa9\"} 1\n",
+        b"p\n\"\\\\q\xc3\xa9",
+    );
+    assert!(rt; have == Ok([true, true]));
 }
 
-/// What a target shows that has this page.
-fn shown(alloc: Global, page: Page) -> Result<Shown, PageFault> {
+/// What a target shows that has the page of this text.
+fn shown(alloc: Global, text: &[u8]) -> Result<Shown, PageFault> {
     let job = label_sets::Text::from_str(alloc, "j")?;
     let instance = label_sets::Text::from_str(alloc, "h:1")?;
+    let page = page_of::<TextLines>(alloc, LIMIT, text)?;
     Ok(Shown {
         job,
         instance,
@@ -182,17 +203,20 @@ fn shown(alloc: Global, page: Page) -> Result<Shown, PageFault> {
 
 /// Whether the copy has the job, one sample, and the first value of the page.
 fn is_copied(alloc: Global) -> Result<[bool; 3], PageFault> {
-    let page = page_of::<TextLines>(alloc, LIMIT, b"x{a=\"1\"} 1\n")?;
-    let copy = shown(alloc, page)?.copy()?;
-    Ok([
+    let shown = shown(alloc, b"x{a=\"1\"} 1\n")?;
+    let copied = shown.copy();
+    drop(shown);
+    let copy = copied?;
+    let seen = [
         copy.job.as_str() == "j",
         copy.page.samples() == 1,
         first_value(&copy.page) == b"1".as_slice(),
-    ])
+    ];
+    drop(copy);
+    Ok(seen)
 }
 
 #[test]
-fn what_is_shown_is_copied(rt: HostRuntime) -> Result<(), PageFault> {
-    assert!(rt; is_copied(rt.alloc())? == [true; 3]);
-    Ok(())
+fn what_is_shown_is_copied(rt: HostRuntime) {
+    assert!(rt; is_copied(rt.alloc()) == Ok([true; 3]));
 }

@@ -13,63 +13,62 @@ use label_sets::{Bytes, List, Memory};
 use scraper_pool::{
     Ended, Lane, Pool, ReplyStatus, RunName, ServeFault, Share, Shares, TableFault, Track,
 };
-use std::alloc::{AllocError, Global};
+use std::alloc::Global;
 use std::marker::Brand;
 use std::sync::Wait;
 use std::sync::atomic::{AtomicBool, Ordering};
 use std::sync::ledger::Blank;
-use std::test::Fail;
 use std::thread::{self, Threads, join};
 use std::time::{Clock, Duration};
 use target_table::{Blanks, First};
 
-/// The page of what readers see.
-fn page_now<N: RunName, A: Lane, B: Lane, C: Lane, D: Lane, W: Wire, R: Wait>(
+/// Whether this is the page of what readers see.
+fn is_page_now<N: RunName, A: Lane, B: Lane, C: Lane, D: Lane, W: Wire, R: Wait>(
     rt: &R,
     alloc: Global,
     pool: &Pool<N, A, B, C, D, W>,
-) -> Result<Vec<u8>, Memory> {
+    expected: &[u8],
+) -> Result<bool, Memory> {
     let mut page = Vec::new(alloc);
     pool.federate(rt, &mut page)?;
-    Ok(page)
+    Ok(page.as_slice() == expected)
 }
 
-/// What a peer was replied.
-#[derive(Drop)]
-struct Replied {
-    answer: Result<ReplyStatus, ServeFault>,
-    text: Bytes,
+/// A connection over which this request comes.
+fn asking_conn(alloc: Global, request: &[u8]) -> Result<MemoryConn, Memory> {
+    let request = Bytes::from_slice(alloc, request)?;
+    let sink = MemorySink::new(alloc, 1_000, List::new(alloc))?;
+    Ok(MemoryConn::new(MemorySource::new(request, List::new(alloc)), sink))
 }
 
-/// What a peer with such a request is replied.
-fn reply_to<N: RunName, A: Lane, B: Lane, C: Lane, D: Lane, W: Wire, R: Wait>(
+/// What a peer with such a request is answered, and whether its reply is this text.
+fn answered<N: RunName, A: Lane, B: Lane, C: Lane, D: Lane, W: Wire, R: Wait>(
     rt: &R,
     alloc: Global,
     pool: &Pool<N, A, B, C, D, W>,
     request: &[u8],
-) -> Result<Replied, Memory> {
-    let source = MemorySource::new(Bytes::from_slice(alloc, request)?, List::new(alloc));
-    let sink = MemorySink::new(alloc, 1_000, List::new(alloc))?;
-    let mut conn = MemoryConn::new(source, sink);
+    text: &str,
+) -> Result<(Result<ReplyStatus, ServeFault>, bool), Memory> {
+    let mut conn = asking_conn(alloc, request)?;
     let answer = pool.serve_one(rt, alloc, &mut conn);
-    let text = Bytes::from_slice(alloc, conn.held())?;
-    Ok(Replied { answer, text })
+    let is_text = conn.held() == text.as_bytes();
+    drop(conn);
+    Ok((answer, is_text))
 }
 
-/// What peers are replied.
-fn all_replies<N: RunName, A: Lane, B: Lane, C: Lane, D: Lane, W: Wire, R: Wait>(
+/// How many peers are replied as their rows say.
+fn right_replies<N: RunName, A: Lane, B: Lane, C: Lane, D: Lane, W: Wire, R: Wait>(
     rt: &R,
     alloc: Global,
     pool: &Pool<N, A, B, C, D, W>,
-) -> Result<Vec<Replied>, Memory> {
-    let mut all = Vec::new(alloc);
-    for (request, _, _) in ROWS {
-        let one = reply_to(rt, alloc, pool, request)?;
-        if all.push(one).is_err() {
-            return Err(AllocError);
+) -> Result<usize, Memory> {
+    let mut count = 0usize;
+    for (request, status, text) in ROWS {
+        if answered(rt, alloc, pool, request, text)? == (Ok(*status), true) {
+            count = count.saturating_add(1);
         }
     }
-    Ok(all)
+    Ok(count)
 }
 
 /// Makes a visit, and tells of it.
@@ -89,30 +88,27 @@ fn visit_and_tell<N: RunName, A: Lane, B: Lane, C: Lane, D: Lane, W: Wire, R: Wa
     share
 }
 
-/// The page of what readers see once they were told of a visit, and what peers are replied then.
+/// Whether readers see the page of a visit once they were told of it, and how many peers are replied right then.
 fn page_told<N: RunName, A: Lane, B: Lane, C: Lane, D: Lane, W: Wire, R: Wait + Clock>(
     rt: &R,
     alloc: Global,
     pool: &Pool<N, A, B, C, D, W>,
     is_made: &AtomicBool,
-) -> Result<(Vec<u8>, Vec<Replied>), Memory> {
+) -> Result<(bool, usize), Memory> {
     for _ in 0..LOOKS {
         if is_made.load(Ordering::SeqCst) {
             break;
         }
         thread::sleep(rt, Duration::from_millis(1));
     }
-    let page = page_now(rt, alloc, pool)?;
-    let replies = all_replies(rt, alloc, pool)?;
-    Ok((page, replies))
+    let is_page = is_page_now(rt, alloc, pool, PAGE.as_bytes())?;
+    let replies = right_replies(rt, alloc, pool)?;
+    Ok((is_page, replies))
 }
 
-/// What readers saw before a visit, and what they see behind it.
-#[derive(Drop)]
-struct SeenPages {
-    before: Result<Vec<u8>, Memory>,
-    behind: Result<(Vec<u8>, Vec<Replied>), Memory>,
-}
+/// Whether readers saw the opening page before a visit, whether they see its page behind it, and how many peers are
+/// replied right then.
+type SeenPages = (Result<bool, Memory>, Result<(bool, usize), Memory>);
 
 /// Has one thread make a visit, and another read the page behind it.
 fn seen_pages<
@@ -132,18 +128,18 @@ fn seen_pages<
     requires { IsFreeLane A.all A.parts share.held }
     ensures { result.0.held ≡ 0 }
 {
-    let before = page_now(rt, alloc, pool);
+    let before = is_page_now(rt, alloc, pool, b"# EOF\n");
     let is_made = AtomicBool::new(false);
     let (share, behind) = join(
         rt,
         || -> Share<First, A>
             requires { IsSync R.row × IsFreeLane A.all A.parts share.held }
         { visit_and_tell(rt, alloc, pool, share, &is_made) },
-        || -> Result<(Vec<u8>, Vec<Replied>), Memory>
+        || -> Result<(bool, usize), Memory>
             requires { IsSync R.row }
         { page_told(rt, alloc, pool, &is_made) },
     );
-    (share, SeenPages { before, behind })
+    (share, (before, behind))
 }
 
 // Under one name of a run and of its four lanes.
@@ -208,7 +204,7 @@ fn watch<W: Wire, R: Threads + Wait + Clock + Sync>(
 const PAGE: &str = "# TYPE x unknown\nx{instance=\"h:1\",job=\"j\"} 1\n# EOF\n";
 
 /// Requests, and what each is answered.
-const ROWS: [(&[u8], ReplyStatus, &str); 4] = [
+const ROWS: &[(&[u8], ReplyStatus, &str)] = &[
     (
         b"GET /federate HTTP/1.1\r\nHost: a\r\n\r\n",
         ReplyStatus::Page,
@@ -231,19 +227,11 @@ const ROWS: [(&[u8], ReplyStatus, &str); 4] = [
     ),
 ];
 
-/// What readers see before the visit of the one target of a run and behind it, and what peers are replied then.
-#[derive(Drop)]
-struct Watched {
-    before: Vec<u8>,
-    behind: Vec<u8>,
-    replies: Vec<Replied>,
-}
-
 /// Watches the run of one target, which is visited once.
 fn watch_one_visit<R: Threads + Wait + Clock + Sync>(
     rt: &R,
     alloc: Global,
-) -> Result<Watched, Memory> {
+) -> Result<Option<SeenPages>, Memory> {
     let is_late = AtomicBool::new(false);
     let plan = Plan {
         targets: 1,
@@ -254,42 +242,13 @@ fn watch_one_visit<R: Threads + Wait + Clock + Sync>(
     let tracks = new_tracks(rt, alloc, &[], &is_late, plan)?;
     let (tracks, pages) = watch(rt, alloc, tracks);
     close(tracks);
-    let Some(pages) = pages else {
-        return Err(AllocError);
-    };
-    let before = pages.before?;
-    let (behind, replies) = pages.behind?;
-    Ok(Watched {
-        before,
-        behind,
-        replies,
-    })
+    Ok(pages)
 }
 
-// Readers see the opening page until a visit is made, and from then on its page, in whichever thread they are.
+// Readers see the opening page until a visit is made, and from then on its page, in whichever thread they are. A peer
+// that asks for the page is replied that of the visit; other requests have their replies.
 #[test]
-fn federate_sees_a_visit(rt: HostRuntime) -> Result<(), Fail> {
-    let watched = watch_one_visit(&rt, rt.alloc())?;
-    assert_eq!(rt; watched.before.as_slice(), b"# EOF\n".as_slice());
-    assert_eq!(rt; watched.behind.as_slice(), PAGE.as_bytes());
-    Ok(())
-}
-
-/// How many peers are replied as their rows say.
-fn right_replies(replies: &[Replied]) -> usize {
-    let mut count = 0usize;
-    for ((_, status, text), one) in ROWS.iter().zip(replies) {
-        if one.answer == Ok(*status) && one.text.as_slice() == text.as_bytes() {
-            count = count.saturating_add(1);
-        }
-    }
-    count
-}
-
-// A peer that asks for the page is replied that of the visit; other requests have their replies.
-#[test]
-fn peers_are_replied(rt: HostRuntime) -> Result<(), Fail> {
-    let watched = watch_one_visit(&rt, rt.alloc())?;
-    assert_eq!(rt; right_replies(watched.replies.as_slice()), ROWS.len());
-    Ok(())
+fn federate_sees_a_visit(rt: HostRuntime) {
+    let seen = watch_one_visit(&rt, rt.alloc());
+    assert!(rt; seen == Ok(Some((Ok(true), Ok((true, ROWS.len()))))));
 }

@@ -104,13 +104,25 @@ fn track_over<'a, R: Clock + Sync>(
     ensures unvisited { IfOk result (λ k. (k.counts.visits ≡ 0) × (k.halted ≡ false)) }
     ensures track { IfOk result (λ k. IsTrack talking k) }
 {
-    let to = address(alloc)?;
+    let to = match address(alloc) {
+        Ok(to) => to,
+        Err(AllocError) => {
+            drop(target);
+            drop(scrape);
+            drop(post);
+            return Err(AllocError);
+        }
+    };
     match Track::new(alloc, target, to, SETTINGS, scrape, post) {
         Ok(track) => {
             track.facts();
             Ok(track)
         }
-        Err(TrackFault::Memory(_scrape, _post)) => Err(AllocError),
+        Err(TrackFault::Memory(scraping, posting)) => {
+            drop(scraping);
+            drop(posting);
+            Err(AllocError)
+        }
     }
 }
 
@@ -130,12 +142,27 @@ fn new_track<R: Clock + Sync>(
     ensures track { IfOk result (λ k. IsTrack talking k) }
 {
     let target = target(alloc, place)?;
+    let scraping = match memory_wire(alloc, place + 1, false, PAGE) {
+        Ok(wire) => wire,
+        Err(AllocError) => {
+            drop(target);
+            return Err(AllocError);
+        }
+    };
+    let posting = match post_wire(alloc, place + 1, is_lean) {
+        Ok(wire) => wire,
+        Err(AllocError) => {
+            drop(target);
+            drop(scraping);
+            return Err(AllocError);
+        }
+    };
     let scrape = GatedWire {
-        wire: memory_wire(alloc, place + 1, false, PAGE)?,
+        wire: scraping,
         gate,
     };
     let post = GatedWire {
-        wire: post_wire(alloc, place + 1, is_lean)?,
+        wire: posting,
         gate: None,
     };
     track_over(alloc, target, scrape, post)
@@ -145,7 +172,9 @@ fn new_track<R: Clock + Sync>(
 pub(crate) fn close<R: Clock + Sync>(tracks: Vec<Track<GatedWire<'_, R>>>) {
     let mut tracks = tracks;
     for _ in 0..tracks.len() {
-        let (_scrape, _post) = tracks.take_last().into_wires();
+        let (scrape, post) = tracks.take_last().into_wires();
+        drop(scrape);
+        drop(post);
     }
     tracks.destroy_empty();
 }

@@ -7,16 +7,8 @@ use std::alloc::Global;
 use std::sync::Wait;
 use std::thread::Threads;
 
-/// How a run of the program ended.
-#[derive(Drop)]
-pub(crate) struct Ended {
-    pub(crate) status: u8,
-    pub(crate) output: MemorySink,
-    pub(crate) world: MemoryWorld,
-}
-
 /// A world to which nothing was given.
-fn bare_world(alloc: Global) -> MemoryWorld {
+pub(crate) fn bare_world(alloc: Global) -> MemoryWorld {
     MemoryWorld::new(
         alloc,
         List::new(alloc),
@@ -27,7 +19,7 @@ fn bare_world(alloc: Global) -> MemoryWorld {
 }
 
 /// These words.
-fn strings(alloc: Global, words: &[&str]) -> Result<Vec<String>, Memory> {
+pub(crate) fn strings(alloc: Global, words: &[&str]) -> Result<Vec<String>, Memory> {
     let mut all = Vec::new(alloc);
     for word in words {
         all.push(String::from_str(alloc, word)?)?;
@@ -35,20 +27,34 @@ fn strings(alloc: Global, words: &[&str]) -> Result<Vec<String>, Memory> {
     Ok(all)
 }
 
-/// How the program ends on these words and this input.
+/// The status of the program on these words and this input in a world, how long its output is, and whether that ends so.
+pub(crate) fn run_in<R: Threads + Wait + Sync, I: Source>(
+    rt: &R,
+    alloc: Global,
+    words: &[&str],
+    world: &mut MemoryWorld,
+    input: &mut I,
+    end: &[u8],
+) -> Result<(u8, usize, bool), Memory> {
+    let words = strings(alloc, words)?;
+    let mut output = MemorySink::new(alloc, 65_536, List::new(alloc))?;
+    let status = bridge(rt, alloc, words.as_slice(), world, input, &mut output);
+    let ended = (status, output.held().len(), output.held().ends_with(end));
+    drop(output);
+    drop(words);
+    Ok(ended)
+}
+
+/// The same in a world to which nothing was given.
 pub(crate) fn run<R: Threads + Wait + Sync, I: Source>(
     rt: &R,
     alloc: Global,
     words: &[&str],
     input: &mut I,
-) -> Result<Ended, Memory> {
-    let words = strings(alloc, words)?;
-    let mut output = MemorySink::new(alloc, 65_536, List::new(alloc))?;
+    end: &[u8],
+) -> Result<(u8, usize, bool), Memory> {
     let mut world = bare_world(alloc);
-    let status = bridge(rt, alloc, words.as_slice(), &mut world, input, &mut output);
-    Ok(Ended {
-        status,
-        output,
-        world,
-    })
+    let ended = run_in(rt, alloc, words, &mut world, input, end);
+    drop(world);
+    ended
 }

@@ -8,6 +8,7 @@ ghost use Rattle.memory_world.specs.WorldParts.{fresh_pair, files_of, given_in, 
 ghost use Rattle.world_run.specs.Outside.{outside_of};
 ghost use Rattle.bridge_program.specs.RunAnswers.{IsUnasked};
 
+use crate::bare_runs::strings;
 use bridge_ports::{
     Address, Conn, Door, End, MemoryConn, MemoryDoor, MemoryFile, MemoryListen, MemoryPair,
     MemoryReply, MemorySink, MemorySource, MemoryWire, Place, Shelved, World,
@@ -15,9 +16,8 @@ use bridge_ports::{
 use bridge_program::bridge;
 use label_sets::{Bytes, List, Memory, Text};
 use memory_world::MemoryWorld;
-use std::alloc::Global;
+use std::alloc::{AllocError, Global};
 use std::sync::Wait;
-use std::test::Fail;
 use std::thread::Threads;
 
 const CONFIG: &str = "collector = \"http://127.0.0.1:4318\"
@@ -67,7 +67,13 @@ fn pair(alloc: Global, number: u32) -> Result<MemoryPair, Memory>
     ensures post { IfOk result (λ pair. IsFresh (seen_of pair.wires.post)) }
 {
     let scrape = wire(alloc, number, false, PAGE)?;
-    let post = wire(alloc, number, true, TAKEN)?;
+    let post = match wire(alloc, number, true, TAKEN) {
+        Ok(post) => post,
+        Err(AllocError) => {
+            drop(scrape);
+            return Err(AllocError);
+        }
+    };
     Ok(MemoryPair {
         number,
         wires: Shelved { scrape, post },
@@ -118,45 +124,52 @@ pub(crate) fn world(alloc: Global, text: &[u8]) -> Result<MemoryWorld, Memory>
     Ok(MemoryWorld::new(alloc, files, pairs, doors, List::new(alloc)))
 }
 
-/// What a run ends with.
-#[derive(Drop)]
-pub(crate) struct Ending {
-    pub(crate) status: u8,
-    pub(crate) output: MemorySink,
-}
-
-/// What a run of the configuration ends with, in a world of which nothing was asked.
+/// The status of a run of the configuration in a world of which nothing was asked, and whether its output is this.
 pub(crate) fn ending_in<R: Threads + Wait + Sync, K: Conn, E: Door<Conn = K>, W: World<Door = E>>(
     rt: &R,
     alloc: Global,
     world: &mut W,
-) -> Result<Ending, Memory>
+    wanted: &str,
+) -> Result<(u8, bool), Memory>
     requires { IsUnasked (outside_of W.Wire.state (W.world world.old) (W.files world.old) (W.home world.old) (W.given world.old)) }
 {
-    let words = Vec::from_array(
-        alloc,
-        [
-            String::from_str(alloc, "run")?,
-            String::from_str(alloc, "bridge.toml")?,
-        ],
-    )?;
+    let words = strings(alloc, &["run", "bridge.toml"])?;
     let mut input = MemorySource::new(Bytes::from_slice(alloc, b"")?, List::new(alloc));
-    let mut output = MemorySink::new(alloc, 1_000, List::new(alloc))?;
+    let mut output = match MemorySink::new(alloc, 1_000, List::new(alloc)) {
+        Ok(output) => output,
+        Err(AllocError) => {
+            drop(input);
+            return Err(AllocError);
+        }
+    };
     let status = bridge(rt, alloc, words.as_slice(), world, &mut input, &mut output);
-    Ok(Ending { status, output })
+    let is_wanted = output.held() == wanted.as_bytes();
+    drop(output);
+    drop(input);
+    drop(words);
+    Ok((status, is_wanted))
 }
 
-#[test]
-fn two_targets_are_visited_beside_a_door(rt: HostRuntime) -> Result<(), Fail> {
-    let mut world = world(rt.alloc(), CONFIG.as_bytes())?;
-    let ending = ending_in(&rt, rt.alloc(), &mut world)?;
-    let wanted =
-        "target 1 a h1:80 visits 2 failed 0 points 6 markers 0 accepted 2 refused 0 givenup 0 halted 0
+/// The same of a run over wires in memory, beside a door.
+fn ending_beside_a_door<R: Threads + Wait + Sync>(
+    rt: &R,
+    alloc: Global,
+    wanted: &str,
+) -> Result<(u8, bool), Memory> {
+    let mut world = world(alloc, CONFIG.as_bytes())?;
+    let ending = ending_in(rt, alloc, &mut world, wanted);
+    drop(world);
+    ending
+}
+
+const TWO_VISITS: &str =
+    "target 1 a h1:80 visits 2 failed 0 points 6 markers 0 accepted 2 refused 0 givenup 0 halted 0
 target 2 b h2:80 visits 2 failed 0 points 6 markers 0 accepted 2 refused 0 givenup 0 halted 0
 all visits 4 failed 0 points 12 markers 0 accepted 4 refused 0 givenup 0 halted 0
 served 1
 ";
-    assert!(rt; ending.output.held() == wanted.as_bytes());
-    assert_eq!(rt; ending.status, 0);
-    Ok(())
+
+#[test]
+fn two_targets_are_visited_beside_a_door(rt: HostRuntime) {
+    assert!(rt; ending_beside_a_door(&rt, rt.alloc(), TWO_VISITS) == Ok((0, true)));
 }

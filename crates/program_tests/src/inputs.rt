@@ -3,7 +3,6 @@ ghost use Rattle.bridge_ports.specs.Edges.{untold};
 
 use crate::bare_runs::run;
 use bridge_ports::{Failed, Source};
-use std::test::Fail;
 
 /// An input that gives a byte at each read.
 #[derive(Drop)]
@@ -34,16 +33,14 @@ const ESCAPED: &str =
 "#;
 
 #[test]
-fn page_in_single_bytes(rt: HostRuntime) -> Result<(), Fail> {
+fn page_in_single_bytes(rt: HostRuntime) {
+    const WORDS: &[&str] = &["convert", "text", "j", "h:1", "1000"];
     let mut input = Slow {
         page: ESCAPES,
         at: 0,
     };
-    let words = ["convert", "text", "j", "h:1", "1000"];
-    let ended = run(&rt, rt.alloc(), &words, &mut input)?;
-    assert_eq!(rt; ended.status, 0);
-    assert!(rt; ended.output.held() == ESCAPED.as_bytes());
-    Ok(())
+    let ended = run(&rt, rt.alloc(), WORDS, &mut input, ESCAPED.as_bytes());
+    assert!(rt; ended == Ok((0, ESCAPED.len(), true)));
 }
 
 /// An input without an end, whose first line is too long.
@@ -65,11 +62,9 @@ impl Source for Endless {
 
 // That more than 64 MiB were taken goes before the fault of the page.
 #[test]
-fn endless_input_is_left(rt: HostRuntime) -> Result<(), Fail> {
+fn endless_input_is_left(rt: HostRuntime) {
+    const LINE: &[u8] = b"input too long\n";
     let mut input = Endless { reads: 0 };
-    let ended = run(&rt, rt.alloc(), &["check", "text"], &mut input)?;
-    assert_eq!(rt; ended.status, 8);
-    assert_eq!(rt; input.reads, 1025);
-    assert!(rt; ended.output.held() == b"input too long\n".as_slice());
-    Ok(())
+    let ended = run(&rt, rt.alloc(), &["check", "text"], &mut input, LINE);
+    assert!(rt; ended == Ok((8, LINE.len(), true)) && input.reads == 1025);
 }

@@ -61,6 +61,9 @@ fn read_page<G: Grammar>(alloc: Global, bytes: &[u8], limit: u32) -> Result<Page
     };
     match page.feed(bytes) {
         Ok(()) => page.finish(),
-        Err(fault) => Err(fault),
+        Err(fault) => {
+            drop(page);
+            Err(fault)
+        }
     }
 }

@@ -76,18 +76,42 @@ fn has_texts(config: &Config, collector: &[u8], instance: &[u8], path: &[u8]) ->
     }
 }
 
+const LISTEN: &str = "listen = \"127.0.0.1:9464\"\n";
+
+/// The numbers of the configuration with such a line.
+fn numbers_read(alloc: Global) -> Option<(u32, u32, u64, usize)> {
+    let config = config(alloc, LISTEN)?;
+    Some(numbers(&config))
+}
+
 #[test]
 fn numbers_of_a_configuration(rt: HostRuntime) {
     numbers_are_right();
     configs_are_right();
-    let config = config(rt.alloc(), "listen = \"127.0.0.1:9464\"\n").expect(&rt, "a configuration");
-    assert_eq!(rt; numbers(&config), (10, 16_777_216, 15_000_000_000, 1));
+    assert_eq!(rt;
+        numbers_read(rt.alloc()),
+        Some((10, 16_777_216, 15_000_000_000, 1))
+    );
+}
+
+/// Whether its collector has this path, and its target this instance and this path.
+fn reads_texts(alloc: Global, collector: &[u8], instance: &[u8], path: &[u8]) -> bool {
+    match config(alloc, LISTEN) {
+        Some(config) => has_texts(&config, collector, instance, path),
+        None => false,
+    }
 }
 
 #[test]
 fn texts_of_a_configuration(rt: HostRuntime) {
-    let config = config(rt.alloc(), "listen = \"127.0.0.1:9464\"\n").expect(&rt, "a configuration");
-    assert!(rt; has_texts(&config, b"/v1/metrics", b"127.0.0.1:9100", b"/metrics?x=1"));
+    assert!(rt;
+        reads_texts(
+            rt.alloc(),
+            b"/v1/metrics",
+            b"127.0.0.1:9100",
+            b"/metrics?x=1"
+        )
+    );
 }
 
 #[test]
@@ -125,9 +149,14 @@ fn faults_of_many_targets(rt: HostRuntime) -> Result<(), Fail> {
     Ok(())
 }
 
+/// Whether a text is a configuration.
+fn is_read(alloc: Global, text: &[u8]) -> bool {
+    read(alloc, text).is_ok()
+}
+
 #[test]
 fn many_targets(rt: HostRuntime) -> Result<(), Fail> {
     let text = many(rt.alloc(), "sample_limit = 181818\n", 11)?;
-    assert!(rt; read(rt.alloc(), text.as_slice()).is_ok());
+    assert!(rt; is_read(rt.alloc(), text.as_slice()));
     Ok(())
 }

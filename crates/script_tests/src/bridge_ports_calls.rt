@@ -191,17 +191,20 @@ fn sure_source_gives_its_bytes(rt: HostRuntime) -> Result<(), Fail> {
     Ok(())
 }
 
+/// What four writes to a sink with room for four bytes give, of which the second fails, what a write of nothing gives
+/// behind them, and whether it holds these bytes.
+fn sunk(alloc: Global, bytes: &[u8]) -> Result<([Result<u32, Failed>; 4], u32, bool), AllocError> {
+    let mut sink = MemorySink::new(alloc, 4, numbers(alloc, &[2])?)?;
+    let writes = four_writes(&mut sink, &[b"abc", b"d", b"def", b"ef"]);
+    let none = sink.write(b"").unwrap_or(1);
+    Ok((writes, none, sink.held() == bytes))
+}
+
 #[test]
 fn memory_sink_takes_what_it_has_room_for(rt: HostRuntime) -> Result<(), Fail> {
-    let mut sink = MemorySink::new(rt.alloc(), 4, numbers(rt.alloc(), &[2])?)?;
-    let writes = four_writes(&mut sink, &[b"abc", b"d", b"def", b"ef"]);
     assert_eq!(rt;
-        (writes, sink.write(b""), sink.held()),
-        (
-            [Ok(3), Err(Failed), Ok(1), Err(Failed)],
-            Ok(0),
-            b"abcd".as_slice()
-        )
+        sunk(rt.alloc(), b"abcd")?,
+        ([Ok(3), Err(Failed), Ok(1), Err(Failed)], 0, true)
     );
     Ok(())
 }
@@ -276,10 +279,15 @@ fn only_talk(wire: &MemoryWire) -> Option<(End, bool)> {
     Some((wire.ended(1), wire.sent(1).is_some()))
 }
 
+/// How many replies a wire tells.
+fn replies_told(alloc: Global) -> Result<usize, AllocError> {
+    let wire = wire(alloc, b"abc", &[])?;
+    Ok(wire.replies().len())
+}
+
 #[test]
 fn memory_wire_tells_its_replies(rt: HostRuntime) -> Result<(), Fail> {
-    let wire = wire(rt.alloc(), b"abc", &[])?;
-    assert_eq!(rt; wire.replies().len(), 1);
+    assert_eq!(rt; replies_told(rt.alloc())?, 1);
     Ok(())
 }
 
@@ -292,19 +300,20 @@ fn two_talks(alloc: Global, wire: &mut MemoryWire) -> Result<([Talk; 2], Option<
     Ok(([first, second], talks_left(wire)))
 }
 
+/// The same over a wire that was just made.
+fn two_first_talks(alloc: Global) -> Result<([Talk; 2], Option<u64>), AllocError> {
+    let mut wire = wire(alloc, b"abc", &[])?;
+    two_talks(alloc, &mut wire)
+}
+
 #[test]
 fn memory_wire_answers_its_replies(rt: HostRuntime) -> Result<(), Fail> {
-    let mut wire = wire(rt.alloc(), b"abc", &[])?;
-    assert_eq!(rt;
-        two_talks(rt.alloc(), &mut wire)?,
-        (
-            [
-                (7, Some(2), *b"ab\0\0\0\0\0\0"),
-                (9, Some(2), *b"ab\0\0\0\0\0\0")
-            ],
-            Some(2)
-        )
-    );
+    let (talks, left) = two_first_talks(rt.alloc())?;
+    let expected: [Talk; 2] = [
+        (7, Some(2), *b"ab\0\0\0\0\0\0"),
+        (9, Some(2), *b"ab\0\0\0\0\0\0"),
+    ];
+    assert!(rt; talks == expected && left == Some(2));
     Ok(())
 }
 
@@ -319,19 +328,29 @@ fn talk_and_end(
     Ok((talk, only_talk(wire)))
 }
 
-/// The same over a wire that forgets, once it allowed a talk of any length.
-fn forgotten_talk(alloc: Global) -> Result<(Talk, Option<(End, bool)>), AllocError> {
-    let mut wire = wire(alloc, b"abc", &[])?;
+/// The same once the wire forgets, and allowed a talk of any length.
+fn forgotten_talk(
+    alloc: Global,
+    wire: &mut MemoryWire,
+) -> Result<(Talk, Option<(End, bool)>), AllocError>
+    requires { wire.old.stage ≡ stages.Idle }
+{
     wire.forget();
     wire.ready(alloc, 1, u64::MAX)?;
-    talk_and_end(alloc, &mut wire)
+    talk_and_end(alloc, wire)
+}
+
+/// The same over a wire that was just made.
+fn first_forgotten_talk(alloc: Global) -> Result<(Talk, Option<(End, bool)>), AllocError> {
+    let mut wire = wire(alloc, b"abc", &[])?;
+    forgotten_talk(alloc, &mut wire)
 }
 
 // It takes no memory for what is sent, however much that may be.
 #[test]
 fn memory_wire_that_forgets_tells_its_talks(rt: HostRuntime) -> Result<(), Fail> {
     assert_eq!(rt;
-        forgotten_talk(rt.alloc())?,
+        first_forgotten_talk(rt.alloc())?,
         ((7, Some(2), *b"ab\0\0\0\0\0\0"), Some((End::Left, false)))
     );
     Ok(())
@@ -359,12 +378,17 @@ fn memory_wire_fails_where_it_is_named_to(rt: HostRuntime) -> Result<(), Fail> {
     Ok(())
 }
 
+/// Whether a wire whose first call of `ready` wants memory refuses a talk, and how many talks it made.
+fn lean_talk(alloc: Global) -> Result<(bool, u64), AllocError> {
+    let mut wire = wire(alloc, b"", &[])?;
+    wire.lean_at(1);
+    let refused = one_talk(alloc, &mut wire).is_err();
+    Ok((refused, wire.finished()))
+}
+
 #[test]
 fn memory_wire_wants_memory_where_it_is_lean(rt: HostRuntime) -> Result<(), Fail> {
-    let mut wire = wire(rt.alloc(), b"", &[])?;
-    wire.lean_at(1);
-    let refused = one_talk(rt.alloc(), &mut wire).is_err();
-    assert_eq!(rt; (refused, wire.finished()), (true, 0));
+    assert_eq!(rt; lean_talk(rt.alloc())?, (true, 0));
     Ok(())
 }
 
@@ -377,37 +401,34 @@ fn conn(alloc: Global) -> Result<MemoryConn, AllocError>
     Ok(MemoryConn::new(source, sink))
 }
 
-#[test]
-fn memory_door_without_connections_hands_out_none(rt: HostRuntime) {
-    let mut door = MemoryDoor::new(Vec::new(rt.alloc()));
-    assert!(rt; door.accept().is_err());
-}
-
-/// What two reads and a write of a connection give.
-fn two_reads_and_a_write(conn: &mut MemoryConn) -> [Result<u32, Failed>; 3] {
+/// What two reads and a write of a connection give, and whether it holds these bytes then.
+fn reads_and_write(
+    alloc: Global,
+    bytes: &[u8],
+) -> Result<([Result<u32, Failed>; 3], bool), AllocError> {
     let mut into = [0u8; 4];
-    [
+    let mut conn = conn(alloc)?;
+    let calls = [
         conn.read(&mut into),
         conn.read(&mut into),
-        conn.write(b"ok"),
-    ]
+        conn.write(bytes),
+    ];
+    Ok((calls, conn.held() == bytes))
 }
 
 #[test]
 fn memory_connection_gives_and_takes(rt: HostRuntime) -> Result<(), Fail> {
-    let mut conn = conn(rt.alloc())?;
-    let calls = two_reads_and_a_write(&mut conn);
     assert_eq!(rt;
-        (calls, conn.held()),
-        ([Ok(4), Err(Failed), Ok(2)], b"ok".as_slice())
+        reads_and_write(rt.alloc(), b"ok")?,
+        ([Ok(4), Err(Failed), Ok(2)], true)
     );
     Ok(())
 }
 
-/// Whether a door hands out a connection; it gets it back.
-fn hands_out<D: Door>(door: &mut D) -> bool
-    requires home { (D.door door.old).out ≡ false }
-    requires few { (D.door door.old).handed < most_handed }
+/// Whether a door hands out a connection, which then comes back.
+fn hands_out<D: Door>(mut door: D) -> bool
+    requires home { (D.door door).out ≡ false }
+    requires few { (D.door door).handed < most_handed }
 {
     match door.accept() {
         Ok(conn) => {
@@ -419,8 +440,13 @@ fn hands_out<D: Door>(door: &mut D) -> bool
 }
 
 #[test]
+fn memory_door_without_connections_hands_out_none(rt: HostRuntime) {
+    assert!(rt; !hands_out(MemoryDoor::new(Vec::new(rt.alloc()))));
+}
+
+#[test]
 fn memory_door_takes_its_connection_back(rt: HostRuntime) -> Result<(), Fail> {
     let conns = Vec::from_array(rt.alloc(), [conn(rt.alloc())?])?;
-    assert!(rt; hands_out(&mut MemoryDoor::new(conns)));
+    assert!(rt; hands_out(MemoryDoor::new(conns)));
     Ok(())
 }

@@ -1,9 +1,8 @@
 //! What no clause says: that the calls of a world in memory succeed, and give what it was made of.
-ghost use Rattle.std.specs.Prelude.{◌≡◌, [], Some, IfOk, IsSome};
-ghost use Rattle.bridge_ports.specs.MemoryWorlds.{pair_of};
+ghost use Rattle.std.specs.Prelude.{◌≡◌, [], None, IfOk};
 ghost use Rattle.bridge_ports.specs.WorldMaking.{fresh_world};
 
-use bridge_ports::{Address, Door, MemoryFile, World};
+use bridge_ports::{Address, Door, Failed, MemoryFile, World};
 use label_sets::{Bytes, List, Memory, Text};
 use memory_world::MemoryWorld;
 use std::alloc::Global;
@@ -35,69 +34,95 @@ fn address(alloc: Global) -> Result<Address, Memory> {
     })
 }
 
+/// How many bytes one read of the file of this path gives, where a world opens it.
+fn read_of<W: World>(world: &mut W, path: Text) -> Option<u32>
+    requires { (W.world world.old).asked ≡ None }
+{
+    let mut into = [0u8; 3];
+    match world.open_file(path) {
+        Ok(()) => world.read_file(&mut into).ok(),
+        Err(Failed) => None,
+    }
+}
+
 #[test]
 fn file_that_is_there_is_read(rt: HostRuntime) -> Result<(), Fail> {
-    let alloc = rt.alloc();
-    let mut into = [0u8; 3];
-    let mut world = world(alloc, &[])?;
-    match world.open_file(Text::from_str(alloc, "a")?) {
-        Ok(()) => {
-            assert_eq!(rt; world.read_file(&mut into).ok(), Some(3));
-        }
-        Err(_) => assert!(rt; false),
-    }
+    let path = Text::from_str(rt.alloc(), "a")?;
+    let mut world = world(rt.alloc(), &[])?;
+    assert_eq!(rt; read_of(&mut world, path), Some(3));
     Ok(())
+}
+
+/// Whether a world in which these calls fail opens the file of this path.
+fn opens(alloc: Global, failing: &[u64], path: &str) -> Result<bool, Memory> {
+    let path = Text::from_str(alloc, path)?;
+    let mut world = world(alloc, failing)?;
+    Ok(world.open_file(path).is_ok())
 }
 
 #[test]
 fn missing_file_is_not_opened(rt: HostRuntime) -> Result<(), Fail> {
-    let alloc = rt.alloc();
-    let mut other = world(alloc, &[])?;
-    assert!(rt; other.open_file(Text::from_str(alloc, "b")?).is_err());
-    let mut refused = world(alloc, &[1])?;
-    assert!(rt; refused.open_file(Text::from_str(alloc, "a")?).is_err());
+    assert!(rt; !opens(rt.alloc(), &[], "b")?);
+    assert!(rt; !opens(rt.alloc(), &[1], "a")?);
     Ok(())
 }
 
-#[test]
-fn pair_goes_out_and_comes_back(rt: HostRuntime) -> Result<(), Fail> {
-    let alloc = rt.alloc();
+/// Whether a world has a pair at home at first, while it is out, and once it came back.
+fn is_home(alloc: Global, world: &mut MemoryWorld) -> Result<[bool; 3], Memory>
+    requires { world.old.pairs ≡ [] }
+{
     let to = address(alloc)?;
-    let mut world = world(alloc, &[])?;
     let before = world.home(7).is_some();
     let (scrape, post) = world.wires(alloc, 7, &to, &to)?;
     let out = world.home(7).is_some();
     world.back(7, scrape, post);
-    assert_eq!(rt;
-        [before, out, world.home(7).is_some()],
-        [false, false, true]
-    );
-    Ok(())
+    Ok([before, out, world.home(7).is_some()])
 }
 
 #[test]
-fn pair_that_came_back_is_shelved(rt: HostRuntime) -> Result<(), Fail> {
-    let alloc = rt.alloc();
+fn pair_goes_out_and_comes_back(rt: HostRuntime) -> Result<(), Fail> {
+    let mut world = world(rt.alloc(), &[])?;
+    assert_eq!(rt; is_home(rt.alloc(), &mut world)?, [false, false, true]);
+    Ok(())
+}
+
+/// How many pairs are on the shelf of a world, once one that came back was handed out again and shelved.
+fn shelved(alloc: Global, world: &mut MemoryWorld) -> Result<usize, Memory>
+    requires { world.old.pairs ≡ [] }
+{
     let to = address(alloc)?;
-    let mut world = world(alloc, &[])?;
     let (scrape, post) = world.wires(alloc, 7, &to, &to)?;
     world.back(7, scrape, post);
     let (scrape, post) = world.wires(alloc, 7, &to, &to)?;
     world.shelve(alloc, scrape, post)?;
-    assert_eq!(rt; world.shelf().len(), 1);
+    Ok(world.shelf().len())
+}
+
+#[test]
+fn pair_that_came_back_is_shelved(rt: HostRuntime) -> Result<(), Fail> {
+    let mut world = world(rt.alloc(), &[])?;
+    assert_eq!(rt; shelved(rt.alloc(), &mut world)?, 1);
     Ok(())
+}
+
+/// Whether a world has a door at an address, at which nobody comes; it gets it back.
+fn has_empty_door(world: &mut MemoryWorld, at: Address) -> bool
+    requires { world.old.world ≡ fresh_world }
+{
+    match world.door(at) {
+        Ok(mut door) => {
+            let is_empty = door.accept().is_err();
+            world.door_back(door);
+            is_empty
+        }
+        Err(Failed) => false,
+    }
 }
 
 #[test]
 fn door_of_no_address_has_no_peers(rt: HostRuntime) -> Result<(), Fail> {
-    let alloc = rt.alloc();
-    let mut world = world(alloc, &[])?;
-    match world.door(address(alloc)?) {
-        Ok(mut door) => {
-            assert!(rt; door.accept().is_err());
-            world.door_back(door);
-        }
-        Err(_) => assert!(rt; false),
-    }
+    let at = address(rt.alloc())?;
+    let mut world = world(rt.alloc(), &[])?;
+    assert!(rt; has_empty_door(&mut world, at));
     Ok(())
 }

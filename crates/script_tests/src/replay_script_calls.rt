@@ -59,32 +59,58 @@ fn first_post(script: &Script) -> Option<End> {
     Some(reply.end)
 }
 
+/// The head of a script, and whether its first target has this job and this instance.
+fn head_read(
+    alloc: Global,
+    text: &[u8],
+    job: &[u8],
+    instance: &[u8],
+) -> Option<((u32, u32, u32, usize), bool)> {
+    let script = read(alloc, text).ok()?;
+    Some((head(&script), named(&script, 0) == Some((job, instance))))
+}
+
 #[test]
 fn one_script_has_its_head_and_target(rt: HostRuntime) {
     scripts_are_right();
-    let script = read(rt.alloc(), FALLS).expect(&rt, "a script");
     assert_eq!(rt;
-        (head(&script), named(&script, 0)),
-        ((1, 7, 2, 1), Some((b"j".as_slice(), b"h:1".as_slice())))
+        head_read(rt.alloc(), FALLS, b"j", b"h:1"),
+        Some(((1, 7, 2, 1), true))
     );
+}
+
+/// How many targets a script has, and of its first one: how many scrapes and posts it has, when one scrape comes and
+/// how its talk ends, how that of its first post ends, and whether its first scrape has some bytes.
+type Replies = (
+    usize,
+    Option<(usize, usize)>,
+    Option<(u64, End)>,
+    Option<End>,
+    bool,
+);
+
+/// The same of the scrape at this place, and of these bytes, where a text is a script.
+fn replies_read(alloc: Global, text: &[u8], scrape: usize, bytes: &[u8]) -> Option<Replies> {
+    let script = read(alloc, text).ok()?;
+    Some((
+        script.targets.len(),
+        counts(&script, 0),
+        scraped(&script, 0, scrape),
+        first_post(&script),
+        first_bytes(&script) == Some(bytes),
+    ))
 }
 
 #[test]
 fn one_script_has_its_replies(rt: HostRuntime) {
-    let script = read(rt.alloc(), FALLS).expect(&rt, "a script");
     assert_eq!(rt;
-        (
-            counts(&script, 0),
-            scraped(&script, 0, 1),
-            first_bytes(&script)
+        replies_read(
+            rt.alloc(),
+            FALLS,
+            1,
+            b"HTTP/1.1 200 OK\r\nContent-Type: text/plain; version=0.0.4\r\nContent-Length: 4\r\n\r\nx 1\n"
         ),
-        (
-            Some((2, 0)),
-            Some((20, End::Ended)),
-            Some(
-                b"HTTP/1.1 200 OK\r\nContent-Type: text/plain; version=0.0.4\r\nContent-Length: 4\r\n\r\nx 1\n".as_slice()
-            )
-        )
+        Some((1, Some((2, 0)), Some((20, End::Ended)), None, true))
     );
 }
 
@@ -92,24 +118,16 @@ const RAW: &[u8] =
     b"bridge-script 1\ntries 1\nrounds 1\ntarget j h:1 /m\nscrape 7 read 2\nHT\npost 8 connect 0\n\n";
 
 #[test]
-fn raw_scrape_has_its_time_its_end_and_its_bytes(rt: HostRuntime) {
-    let script = read(rt.alloc(), RAW).expect(&rt, "a script");
+fn raw_replies_have_their_times_their_ends_and_their_bytes(rt: HostRuntime) {
     assert_eq!(rt;
-        (scraped(&script, 0, 0), first_bytes(&script)),
-        (Some((7, End::ReadFailed)), Some(b"HT".as_slice()))
-    );
-}
-
-#[test]
-fn raw_replies_are_counted(rt: HostRuntime) {
-    let script = read(rt.alloc(), RAW).expect(&rt, "a script");
-    assert_eq!(rt;
-        (
-            script.targets.len(),
-            counts(&script, 0),
-            first_post(&script)
-        ),
-        (1, Some((1, 1)), Some(End::ConnectFailed))
+        replies_read(rt.alloc(), RAW, 0, b"HT"),
+        Some((
+            1,
+            Some((1, 1)),
+            Some((7, End::ReadFailed)),
+            Some(End::ConnectFailed),
+            true
+        ))
     );
 }
 
@@ -190,12 +208,6 @@ fn named_so(script: &Script) -> usize {
     count
 }
 
-#[test]
-fn three_targets_are_named(rt: HostRuntime) {
-    let script = read(rt.alloc(), THREE).expect(&rt, "a script");
-    assert_eq!(rt; (script.targets.len(), named_so(&script)), (3, 3));
-}
-
 /// How many scrapes and posts each of the three targets has, and when and how its first scrape ends.
 const REPLIES: [((usize, usize), (u64, End)); 3] = [
     ((1, 1), (1, End::ConnectFailed)),
@@ -214,11 +226,16 @@ fn replied_so(script: &Script) -> usize {
     count
 }
 
+/// How many targets the script of three has, how many of them have their names, and how many their replies.
+fn three_read(alloc: Global) -> Option<(usize, usize, usize)> {
+    let script = read(alloc, THREE).ok()?;
+    Some((script.targets.len(), named_so(&script), replied_so(&script)))
+}
+
 // Each target has its own scrape and posts, in whichever order a script names these.
 #[test]
-fn three_targets_have_their_replies(rt: HostRuntime) {
-    let script = read(rt.alloc(), THREE).expect(&rt, "a script");
-    assert_eq!(rt; replied_so(&script), 3);
+fn three_targets_have_their_names_and_replies(rt: HostRuntime) {
+    assert_eq!(rt; three_read(rt.alloc()), Some((3, 3, 3)));
 }
 
 /// A script of so many targets, each with an empty page.

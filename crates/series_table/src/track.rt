@@ -211,17 +211,21 @@ impl<W: Wire> Track<W> {
         ensures track { IsTrack talking self }
     {
         let Track {
-            aim: _,
+            aim,
             scrape,
             post,
-            state: _,
+            state,
             first: _,
-            shown: _,
-            second: _,
+            shown,
+            second,
             counts: _,
             halted: _,
             last_len: _,
         } = self;
+        drop(aim);
+        drop(state);
+        drop(shown);
+        drop(second);
         (scrape, post)
     }
 }

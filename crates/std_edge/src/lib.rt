@@ -1,6 +1,6 @@
 //! The outside as the machine has it: connections, doors and wires over TCP, and a world of these and of files. They
-//! tell no bytes, and count each call that fails. A call stands still at most [`MOST_WAIT`], and a talk as a whole has
-//! a limit too, where the library lets one be set; readings go by a clock that doesn't step.
+//! tell no bytes, and count each call that fails. A call stands still at most [`MOST_WAIT`], a post's wait for its reply
+//! at most [`MOST_POST`], and a talk as a whole has a limit too; readings go by a clock that doesn't step.
 #![tactic(auto)]
 
 mod conn;

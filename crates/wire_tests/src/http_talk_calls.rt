@@ -4,7 +4,6 @@ use bridge_ports::Address;
 use http_talk::{HeadSeen, Progress, Reply, ReplyFault, get_text, post_text, status_of};
 use label_sets::Bytes;
 use std::alloc::{AllocError, Global};
-use std::test::Fail;
 
 const MOST: u32 = 1_024;
 
@@ -26,6 +25,7 @@ fn whole(alloc: Global, bytes: &[u8]) -> Result<usize, ReplyFault> {
         return Err(ReplyFault::Memory);
     };
     if let Err(fault) = reply.feed(bytes) {
+        drop(reply);
         return Err(fault);
     }
     ended(reply)
@@ -38,6 +38,7 @@ fn by_bytes(alloc: Global, bytes: &[u8]) -> Result<usize, ReplyFault> {
     };
     for byte in bytes {
         if let Err(fault) = reply.feed(&[*byte]) {
+            drop(reply);
             return Err(fault);
         }
     }
@@ -93,12 +94,15 @@ fn is_post(alloc: Global, to: &Address) -> Result<bool, AllocError> {
     )
 }
 
+/// Whether both requests are these.
+fn are_requests(alloc: Global) -> Result<bool, AllocError> {
+    let to = address(alloc)?;
+    Ok(is_get(alloc, &to)? && is_post(alloc, &to)?)
+}
+
 #[test]
-fn requests_are_written(rt: HostRuntime) -> Result<(), Fail> {
-    let to = address(rt.alloc())?;
-    let are_right = (is_get(rt.alloc(), &to)?, is_post(rt.alloc(), &to)?);
-    assert_eq!(rt; are_right, (true, true));
-    Ok(())
+fn requests_are_written(rt: HostRuntime) {
+    assert!(rt; are_requests(rt.alloc()) == Ok(true));
 }
 
 /// The parts of a reply, and what it comes to.
@@ -115,8 +119,8 @@ fn first_other(alloc: Global, rows: &[Row<'_>]) -> Result<Option<usize>, AllocEr
 }
 
 #[test]
-fn heads_at_their_limits(rt: HostRuntime) -> Result<(), Fail> {
-    const ROWS: [Row<'static>; 4] = [
+fn heads_at_their_limits(rt: HostRuntime) {
+    const ROWS: &[Row<'static>] = &[
         (&[(OK, 1), (b"a: b\r\n", 64), (b"\r\n+", 1)], Ok(1)),
         (
             &[(OK, 1), (b"a: b\r\n", 65), (b"\r\n+", 1)],
@@ -131,13 +135,12 @@ fn heads_at_their_limits(rt: HostRuntime) -> Result<(), Fail> {
             Err(ReplyFault::Head),
         ),
     ];
-    assert_eq!(rt; first_other(rt.alloc(), &ROWS)?, None);
-    Ok(())
+    assert!(rt; first_other(rt.alloc(), ROWS) == Ok(None));
 }
 
 #[test]
-fn heads_that_are_refused(rt: HostRuntime) -> Result<(), Fail> {
-    const ROWS: [Row<'static>; 4] = [
+fn heads_that_are_refused(rt: HostRuntime) {
+    const ROWS: &[Row<'static>] = &[
         (
             &[(b"HTTP/1.1 200 OK\r\na: b\r\n", 1)],
             Err(ReplyFault::Truncated),
@@ -152,13 +155,12 @@ fn heads_that_are_refused(rt: HostRuntime) -> Result<(), Fail> {
             Err(ReplyFault::Encoding),
         ),
     ];
-    assert_eq!(rt; first_other(rt.alloc(), &ROWS)?, None);
-    Ok(())
+    assert!(rt; first_other(rt.alloc(), ROWS) == Ok(None));
 }
 
 #[test]
-fn lengths_by_their_digits(rt: HostRuntime) -> Result<(), Fail> {
-    const ROWS: [Row<'static>; 4] = [
+fn lengths_by_their_digits(rt: HostRuntime) {
+    const ROWS: &[Row<'static>] = &[
         (
             &[
                 (OK, 1),
@@ -188,13 +190,12 @@ fn lengths_by_their_digits(rt: HostRuntime) -> Result<(), Fail> {
             Err(ReplyFault::Head),
         ),
     ];
-    assert_eq!(rt; first_other(rt.alloc(), &ROWS)?, None);
-    Ok(())
+    assert!(rt; first_other(rt.alloc(), ROWS) == Ok(None));
 }
 
 #[test]
-fn bodies_at_their_limit(rt: HostRuntime) -> Result<(), Fail> {
-    const ROWS: [Row<'static>; 5] = [
+fn bodies_at_their_limit(rt: HostRuntime) {
+    const ROWS: &[Row<'static>] = &[
         (
             &[(OK, 1), (b"Content-Length: 1024\r\n\r\n", 1), (b"a", 1_024)],
             Ok(1_024),
@@ -213,13 +214,12 @@ fn bodies_at_their_limit(rt: HostRuntime) -> Result<(), Fail> {
             Err(ReplyFault::TooLong),
         ),
     ];
-    assert_eq!(rt; first_other(rt.alloc(), &ROWS)?, None);
-    Ok(())
+    assert!(rt; first_other(rt.alloc(), ROWS) == Ok(None));
 }
 
 #[test]
-fn chunks_by_their_sizes(rt: HostRuntime) -> Result<(), Fail> {
-    const ROWS: [Row<'static>; 7] = [
+fn chunks_by_their_sizes(rt: HostRuntime) {
+    const ROWS: &[Row<'static>] = &[
         (
             &[(CHUNKED, 1), (b"2\r\nab\r\n1\r\nc\r\n0\r\n\r\n+", 1)],
             Ok(3),
@@ -240,15 +240,14 @@ fn chunks_by_their_sizes(rt: HostRuntime) -> Result<(), Fail> {
             Err(ReplyFault::Truncated),
         ),
     ];
-    assert_eq!(rt; first_other(rt.alloc(), &ROWS)?, None);
-    Ok(())
+    assert!(rt; first_other(rt.alloc(), ROWS) == Ok(None));
 }
 
 #[test]
-fn chunks_at_their_limits(rt: HostRuntime) -> Result<(), Fail> {
+fn chunks_at_their_limits(rt: HostRuntime) {
     const ONE: (&[u8], usize) = (b"\r\na\r\n0\r\n\r\n", 1);
     const LAST: (&[u8], usize) = (b"\r\n0\r\n\r\n", 1);
-    const ROWS: [Row<'static>; 6] = [
+    const ROWS: &[Row<'static>] = &[
         (&[(CHUNKED, 1), (b"1;", 1), (b"x", 1_020), ONE], Ok(1)),
         (
             &[(CHUNKED, 1), (b"1;", 1), (b"x", 1_021), ONE],
@@ -281,14 +280,13 @@ fn chunks_at_their_limits(rt: HostRuntime) -> Result<(), Fail> {
             Err(ReplyFault::TooLong),
         ),
     ];
-    assert_eq!(rt; first_other(rt.alloc(), &ROWS)?, None);
-    Ok(())
+    assert!(rt; first_other(rt.alloc(), ROWS) == Ok(None));
 }
 
 /// At most 8 * 1,024 + 65,536 = 73,728 bytes may come before a reply is whole. The head has 47, a chunk of one
 /// byte with a line of 1,005 bytes has 1,008, and 73 of them leave 97 bytes for the last line and the end. The
 /// byte past the number may still make the reply whole.
-const MANY_CHUNKS: [(usize, usize, Result<usize, ReplyFault>); 4] = [
+const MANY_CHUNKS: &[(usize, usize, Result<usize, ReplyFault>)] = &[
     (73, 91, Ok(73)),
     (73, 92, Ok(73)),
     (73, 93, Err(ReplyFault::TooLong)),
@@ -312,12 +310,15 @@ fn first_other_of_chunks(alloc: Global, chunk: &[u8]) -> Result<Option<usize>, A
     Ok(None)
 }
 
+/// The same, of a chunk of one byte with a long line.
+fn first_other_of_long_lines(alloc: Global) -> Result<Option<usize>, AllocError> {
+    let chunk = text(alloc, &[(b"1;", 1), (b"x", 1_001), (b"\r\na\r\n", 1)])?;
+    first_other_of_chunks(alloc, chunk.as_slice())
+}
+
 #[test]
-fn hundred_chunks_of_one_byte(rt: HostRuntime) -> Result<(), Fail> {
-    let chunk = text(rt.alloc(), &[(b"1;", 1), (b"x", 1_001), (b"\r\na\r\n", 1)])?;
-    let other = first_other_of_chunks(rt.alloc(), chunk.as_slice())?;
-    assert_eq!(rt; other, None);
-    Ok(())
+fn hundred_chunks_of_one_byte(rt: HostRuntime) {
+    assert!(rt; first_other_of_long_lines(rt.alloc()) == Ok(None));
 }
 
 /// What the head of the reply to a post comes to.
@@ -327,8 +328,8 @@ fn status_seen(alloc: Global, parts: &[(&[u8], usize)]) -> Result<HeadSeen, Allo
 }
 
 #[test]
-fn statuses_of_posts(rt: HostRuntime) -> Result<(), Fail> {
-    const ROWS: [(&[(&[u8], usize)], HeadSeen); 6] = [
+fn statuses_of_posts(rt: HostRuntime) {
+    const ROWS: &[(&[(&[u8], usize)], HeadSeen)] = &[
         (&[(b"HTTP/1.1 503\r\n\r\n", 1)], HeadSeen::Status(503)),
         (&[(b"HTTP/1.1 503\r\n\r", 1)], HeadSeen::More),
         (&[(OK, 1), (b"a: b\r\n", 65), (b"\r\n", 1)], HeadSeen::Bad),
@@ -336,10 +337,9 @@ fn statuses_of_posts(rt: HostRuntime) -> Result<(), Fail> {
         (&[(OK, 1), (b"a: ", 1), (b"v", 16_363)], HeadSeen::More),
         (&[(OK, 1), (b"a: ", 1), (b"v", 16_364)], HeadSeen::Bad),
     ];
-    for (parts, expected) in &ROWS {
-        assert_eq!(rt; status_seen(rt.alloc(), parts)?, *expected);
+    for (parts, expected) in ROWS {
+        assert!(rt; status_seen(rt.alloc(), parts) == Ok(*expected));
     }
-    Ok(())
 }
 
 /// What a reply says to each of these pieces, and at its end.
@@ -357,28 +357,26 @@ fn said(
 }
 
 #[test]
-fn what_was_said_is_said_again(rt: HostRuntime) -> Result<(), Fail> {
-    assert_eq!(rt;
-        said(
-            rt.alloc(),
-            &[b"HTTP/1.1 200\nContent-Length: 1\n\n", b"a", b"b"]
-        )?,
-        (
+fn what_was_said_is_said_again(rt: HostRuntime) {
+    let seen = said(
+        rt.alloc(),
+        &[b"HTTP/1.1 200\nContent-Length: 1\n\n", b"a", b"b"],
+    );
+    assert!(rt;
+        seen == Ok((
             [Ok(Progress::More), Ok(Progress::Whole), Ok(Progress::Whole)],
             Ok(1)
-        )
+        ))
     );
-    Ok(())
 }
 
 #[test]
-fn what_was_refused_stays_refused(rt: HostRuntime) -> Result<(), Fail> {
-    assert_eq!(rt;
-        said(rt.alloc(), &[b"HTTP/1.1 404\n\n", b"HTTP/1.1 200\n\n", b""])?,
-        (
+fn what_was_refused_stays_refused(rt: HostRuntime) {
+    let seen = said(rt.alloc(), &[b"HTTP/1.1 404\n\n", b"HTTP/1.1 200\n\n", b""]);
+    assert!(rt;
+        seen == Ok((
             [Err(ReplyFault::Status(404)); 3],
             Err(ReplyFault::Status(404))
-        )
+        ))
     );
-    Ok(())
 }

@@ -9,7 +9,6 @@ use label_sets::{List, Memory};
 use page_model::{Cause, Outcome, Rule};
 use scrape_client::{outcome, scrape};
 use std::alloc::{AllocError, Global};
-use std::test::Fail;
 
 const CHUNKED: &[u8] =
     b"HTTP/1.1 200 OK\r\nTransfer-Encoding: chunked\r\n\r\n4;a=b\r\nx 1\n\r\n0\r\nT: v\r\n\r\n";
@@ -52,8 +51,12 @@ fn cause_over(alloc: Global, wire: &mut MemoryWire) -> Result<Option<Cause>, Mem
     requires { wire.old.stage ≡ stages.Idle }
 {
     let target = target(alloc)?;
-    let event = scrape(alloc, wire, &target, 0, 1_000, 1_024)?;
-    Ok(cause(&event.outcome))
+    let event = scrape(alloc, wire, &target, 0, 1_000, 1_024);
+    drop(target);
+    let event = event?;
+    let cause = cause(&event.outcome);
+    drop(event);
+    Ok(cause)
 }
 
 /// The same of such a wire.
@@ -66,47 +69,46 @@ fn scraped(
     requires { 1 ≤ most }
 {
     let mut wire = wire(alloc, reply, most, failing)?;
-    cause_over(alloc, &mut wire)
+    let cause = cause_over(alloc, &mut wire);
+    drop(wire);
+    cause
 }
 
 /// The same of the whole bytes of a talk that its peer ended.
 fn outcome_of(alloc: Global, got: &[u8]) -> Result<Option<Cause>, Memory> {
     let outcome = outcome(alloc, got, End::Ended, 1_000, 1_024)?;
-    Ok(cause(&outcome))
+    let cause = cause(&outcome);
+    drop(outcome);
+    Ok(cause)
 }
 
 #[test]
-fn replies_come_to_pages(rt: HostRuntime) -> Result<(), Fail> {
-    const REPLIES: [&[u8]; 3] = [CHUNKED, TO_THE_END, OPEN_METRICS];
+fn replies_come_to_pages(rt: HostRuntime) {
+    const REPLIES: &[&[u8]] = &[CHUNKED, TO_THE_END, OPEN_METRICS];
     for most in &[1u32, 16, 4_096] {
         let most = (*most).max(1);
-        for reply in &REPLIES {
-            assert_eq!(rt; scraped(rt.alloc(), (*reply, End::Ended), most, &[])?, None);
+        for reply in REPLIES {
+            assert!(rt; scraped(rt.alloc(), (*reply, End::Ended), most, &[]) == Ok(None));
         }
     }
-    Ok(())
 }
 
 #[test]
-fn bytes_come_to_a_page(rt: HostRuntime) -> Result<(), Fail> {
-    assert_eq!(rt; outcome_of(rt.alloc(), CHUNKED)?, None);
-    Ok(())
+fn bytes_come_to_a_page(rt: HostRuntime) {
+    assert!(rt; outcome_of(rt.alloc(), CHUNKED) == Ok(None));
 }
 
 #[test]
-fn reply_that_is_cut_off_is_truncated(rt: HostRuntime) -> Result<(), Fail> {
+fn reply_that_is_cut_off_is_truncated(rt: HostRuntime) {
     let cut_off = &CHUNKED[..60];
-    let causes = [
-        scraped(rt.alloc(), (cut_off, End::Ended), 1, &[])?,
-        outcome_of(rt.alloc(), cut_off)?,
-    ];
-    assert_eq!(rt; causes, [Some(Cause::Truncated); 2]);
-    Ok(())
+    let over = scraped(rt.alloc(), (cut_off, End::Ended), 1, &[]);
+    let whole = outcome_of(rt.alloc(), cut_off);
+    assert!(rt; [over, whole] == [Ok(Some(Cause::Truncated)); 2]);
 }
 
 #[test]
-fn the_cause_of_the_reply_goes_first(rt: HostRuntime) -> Result<(), Fail> {
-    const ROWS: [(End, Cause); 2] = [
+fn the_cause_of_the_reply_goes_first(rt: HostRuntime) {
+    const ROWS: &[(End, Cause)] = &[
         (
             End::Ended,
             Cause::Page {
@@ -116,13 +118,9 @@ fn the_cause_of_the_reply_goes_first(rt: HostRuntime) -> Result<(), Fail> {
         ),
         (End::ReadFailed, Cause::Read),
     ];
-    for (end, cause) in &ROWS {
-        assert_eq!(rt;
-            scraped(rt.alloc(), (BAD_PAGE, *end), 4_096, &[])?,
-            Some(*cause)
-        );
+    for (end, cause) in ROWS {
+        assert!(rt; scraped(rt.alloc(), (BAD_PAGE, *end), 4_096, &[]) == Ok(Some(*cause)));
     }
-    Ok(())
 }
 
 /// What comes of a scrape whose call of this number fails: the connection, the one write, and so many reads.
@@ -141,15 +139,12 @@ fn failed_call(call: u64, reads: u64) -> Option<Cause> {
 
 /// Each call fails in turn, and one past the last.
 #[test]
-fn failing_calls_change_the_cause_alone(rt: HostRuntime) -> Result<(), Fail> {
-    const ROWS: [(&[u8], u64); 2] = [(CHUNKED, 5), (TO_THE_END, 3)];
-    for (reply, reads) in &ROWS {
+fn failing_calls_change_the_cause_alone(rt: HostRuntime) {
+    const ROWS: &[(&[u8], u64)] = &[(CHUNKED, 5), (TO_THE_END, 3)];
+    for (reply, reads) in ROWS {
         for call in 1..=reads.saturating_add(3) {
-            assert_eq!(rt;
-                scraped(rt.alloc(), (*reply, End::Ended), 16, &[call])?,
-                failed_call(call, *reads)
-            );
+            let cause = scraped(rt.alloc(), (*reply, End::Ended), 16, &[call]);
+            assert!(rt; cause == Ok(failed_call(call, *reads)));
         }
     }
-    Ok(())
 }

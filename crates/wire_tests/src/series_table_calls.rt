@@ -9,7 +9,6 @@ use bridge_ports::{Address, End, MemoryWire, Place, Settings, Wire};
 use label_sets::{Bytes, List, Memory};
 use series_table::{Counts, Track, TrackFault, Visited};
 use std::alloc::{AllocError, Global};
-use std::test::Fail;
 
 const PAGE: &[u8] = b"HTTP/1.1 200 OK\r\n\r\nx 1\n";
 
@@ -52,7 +51,7 @@ fn address(alloc: Global) -> Result<Address, Memory> {
 }
 
 /// What visits came to: what a track counted, whether it is halted, and how many talks each wire has.
-#[derive(Clone, Copy, Debug, PartialEq, Eq)]
+#[derive(Clone, Copy)]
 struct Came {
     counts: Counts,
     halted: bool,
@@ -88,24 +87,34 @@ fn visited(alloc: Global, mut track: Track<MemoryWire>, rounds: u32) -> Came {
     let counts = *track.counts();
     let halted = track.halted();
     let (scrape, post) = track.into_wires();
-    Came {
+    let came = Came {
         counts,
         halted,
         scrapes: scrape.finished(),
         posts: post.finished(),
-    }
+    };
+    drop(scrape);
+    drop(post);
+    came
 }
 
-/// What so many visits over these wires came to.
+/// What so many visits over these wires came to, where there was memory for the second.
 fn visits(
     alloc: Global,
     scrape: MemoryWire,
-    post: MemoryWire,
+    made: Result<MemoryWire, AllocError>,
     rounds: u32,
 ) -> Result<Came, AllocError>
     requires scrape { IsFresh (seen_of scrape) }
-    requires post { IsFresh (seen_of post) }
+    requires made { IfOk made (λ wire. IsFresh (seen_of wire)) }
 {
+    let post = match made {
+        Ok(post) => post,
+        Err(AllocError) => {
+            drop(scrape);
+            return Err(AllocError);
+        }
+    };
     let track = track(alloc, scrape, post)?;
     Ok(visited(alloc, track, rounds))
 }
@@ -119,56 +128,58 @@ const FULL: Planned<'static> = (LATER, End::Ended);
 /// What one visit with these posts comes to: taken, refused and given up bodies, and the talks.
 fn posted(alloc: Global, posts: &[Planned<'_>]) -> Result<(u64, u64, u64, u64), AllocError> {
     let scrape = wire(alloc, false, &[GOOD], &[])?;
-    let post = wire(alloc, true, posts, &[])?;
+    let post = wire(alloc, true, posts, &[]);
     let seen = visits(alloc, scrape, post, 1)?;
     let counts = seen.counts;
     Ok((counts.accepted, counts.refused, counts.given_up, seen.posts))
 }
 
 #[test]
-fn a_body_is_tried_while_it_may_be_taken(rt: HostRuntime) -> Result<(), Fail> {
+fn a_body_is_tried_while_it_may_be_taken(rt: HostRuntime) {
     const NOBODY: Planned<'static> = (b"", End::ConnectFailed);
-    const ROWS: [(&[Planned<'static>], (u64, u64, u64, u64)); 3] = [
+    const ROWS: &[(&[Planned<'static>], (u64, u64, u64, u64))] = &[
         (&[FULL, NOBODY, OK], (1, 0, 0, 3)),
         (&[(REFUSED, End::Ended)], (0, 1, 0, 1)),
         (&[FULL, FULL, FULL], (0, 0, 1, 3)),
     ];
-    for (posts, expected) in &ROWS {
-        assert_eq!(rt; posted(rt.alloc(), posts)?, *expected);
+    for (posts, expected) in ROWS {
+        assert!(rt; posted(rt.alloc(), posts) == Ok(*expected));
     }
-    Ok(())
 }
 
-/// What two visits count, of which the second finds no page.
-fn two_counted(alloc: Global) -> Result<Counts, AllocError> {
+/// What two visits count, of which the second finds no page: visits, those that failed, points, markers, and bodies that
+/// were accepted.
+fn two_counted(alloc: Global) -> Result<[u64; 5], AllocError> {
     let scrape = wire(alloc, false, &[GOOD, (REFUSED_PAGE, End::Ended)], &[])?;
-    let post = wire(alloc, true, &[OK, OK], &[])?;
-    Ok(visits(alloc, scrape, post, 2)?.counts)
+    let post = wire(alloc, true, &[OK, OK], &[]);
+    let seen = visits(alloc, scrape, post, 2)?.counts;
+    Ok([
+        seen.visits,
+        seen.failed,
+        seen.points,
+        seen.markers,
+        seen.accepted,
+    ])
 }
 
 #[test]
-fn scrapes_and_points_are_counted(rt: HostRuntime) -> Result<(), Fail> {
-    let counts = two_counted(rt.alloc())?;
-    assert_eq!(rt;
-        [
-            counts.visits,
-            counts.failed,
-            counts.points,
-            counts.markers,
-            counts.accepted
-        ],
-        [2, 1, 5, 1, 2]
-    );
-    Ok(())
+fn scrapes_and_points_are_counted(rt: HostRuntime) {
+    assert!(rt; two_counted(rt.alloc()) == Ok([2, 1, 5, 1, 2]));
 }
 
 /// Three visits, where the call of `ready` of this number answers want of memory.
 fn lean_at(alloc: Global, post_call: u32, scrape_call: u32) -> Result<Came, AllocError> {
     let mut scrape = wire(alloc, false, &[GOOD, GOOD, GOOD], &[])?;
-    let mut post = wire(alloc, true, &[OK, OK, OK], &[])?;
+    let mut post = match wire(alloc, true, &[OK, OK, OK], &[]) {
+        Ok(post) => post,
+        Err(AllocError) => {
+            drop(scrape);
+            return Err(AllocError);
+        }
+    };
     scrape.lean_at(scrape_call);
     post.lean_at(post_call);
-    visits(alloc, scrape, post, 3)
+    visits(alloc, scrape, Ok(post), 3)
 }
 
 /// The same, in short: the visits that were counted, whether the track is halted, and the talks of both wires.
@@ -183,35 +194,28 @@ fn lean_visits(
 
 // A visit that finds no room for its posts posts nothing and is not counted, and no further one is made.
 #[test]
-fn each_ready_finds_no_memory(rt: HostRuntime) -> Result<(), Fail> {
+fn each_ready_finds_no_memory(rt: HostRuntime) {
     for call in 1..4u32 {
         let before = u64::from(call.saturating_sub(1));
-        let seen = (
-            lean_visits(rt.alloc(), call, 9)?,
-            lean_visits(rt.alloc(), 9, call)?,
-        );
-        assert_eq!(rt;
-            seen,
-            (
-                (before, true, u64::from(call), before),
-                (before, true, before, before)
-            )
+        let post = lean_visits(rt.alloc(), call, 9);
+        let scrape = lean_visits(rt.alloc(), 9, call);
+        assert!(rt;
+            post == Ok((before, true, u64::from(call), before))
+                && scrape == Ok((before, true, before, before))
         );
     }
-    Ok(())
 }
 
 #[test]
-fn each_ready_finds_memory(rt: HostRuntime) -> Result<(), Fail> {
-    assert_eq!(rt; lean_visits(rt.alloc(), 9, 9)?, (3, false, 3, 3));
-    Ok(())
+fn each_ready_finds_memory(rt: HostRuntime) {
+    assert!(rt; lean_visits(rt.alloc(), 9, 9) == Ok((3, false, 3, 3)));
 }
 
 /// What three visits come to, of which this call on the post wire fails: the visits that were counted, whether the
 /// track is halted, the bodies that were accepted, and the posts.
 fn failing_visits(alloc: Global, call: u64) -> Result<(u64, bool, u64, u64), AllocError> {
     let scrape = wire(alloc, false, &[GOOD, GOOD, GOOD], &[])?;
-    let post = wire(alloc, true, &[OK, OK, OK, OK], &[call])?;
+    let post = wire(alloc, true, &[OK, OK, OK, OK], &[call]);
     let seen = visits(alloc, scrape, post, 3)?;
     Ok((
         seen.counts.visits,
@@ -223,9 +227,8 @@ fn failing_visits(alloc: Global, call: u64) -> Result<(u64, bool, u64, u64), All
 
 // A call on the post wire that fails costs one try; each body is taken all the same. A visit has three calls.
 #[test]
-fn each_call_of_the_post_wire_fails(rt: HostRuntime) -> Result<(), Fail> {
+fn each_call_of_the_post_wire_fails(rt: HostRuntime) {
     for call in 1..10u64 {
-        assert_eq!(rt; failing_visits(rt.alloc(), call)?, (3, false, 3, 4));
+        assert!(rt; failing_visits(rt.alloc(), call) == Ok((3, false, 3, 4)));
     }
-    Ok(())
 }

@@ -2,13 +2,12 @@
 ghost use Rattle.std.specs.Prelude.{◌≡◌, ◌<◌, None, true, false, is_some, IsSome, IfOk, OnOk};
 ghost use Rattle.bridge_ports.specs.declared.talk.Stage.TheVariants as stages;
 ghost use Rattle.bridge_ports.specs.Doors.{most_handed};
+ghost use Rattle.std_edge.specs.World.{new_machine};
 
 use bridge_ports::{Address, Door, Failed, Place, Sink, Source, Wire, World};
 use label_sets::{Bytes, Memory, Text};
 use std::alloc::Global;
-use std::io;
 use std::net::TcpListener;
-use std::test::Fail;
 use std::time::Clock;
 use std_edge::{NetDoor, NetWire, StdWorld};
 
@@ -108,89 +107,105 @@ const PLACE: Place = Place {
 
 const LOOPBACK: &str = "127.0.0.1";
 
-/// A listener at a host of this machine, and its port.
-fn listening(rt: &HostRuntime, host: &str) -> io::Result<(TcpListener, u16)> {
-    let listener = TcpListener::bind(rt, (host, 0))?;
-    let port = listener.local_addr()?.port();
-    Ok((listener, port))
+/// A listener at a host of this machine, and its port, where there can be one.
+fn listening(rt: &HostRuntime, host: &str) -> Option<(TcpListener, u16)> {
+    let listener = TcpListener::bind(rt, (host, 0)).ok()?;
+    let port = listener.local_addr().ok()?.port();
+    Some((listener, port))
 }
 
 /// What the clock reads 20 milliseconds from now.
-fn soon(rt: &HostRuntime) -> Result<u64, Fail> {
-    let now = rt.since_1970()?.as_nanos().min(u64::MAX as u128) as u64;
-    Ok(now.saturating_add(20_000_000))
+fn soon(rt: &HostRuntime) -> Option<u64> {
+    let now = rt.since_1970().ok()?.as_nanos().min(u64::MAX as u128) as u64;
+    Some(now.saturating_add(20_000_000))
 }
 
 /// Whether a talk to a host crosses loopback to a listener at this port, begun once the clock reads `due`.
-fn crosses(
+fn crosses_to(
     rt: HostRuntime,
     listener: TcpListener,
     host: &str,
     port: u16,
     due: u64,
 ) -> Result<bool, Memory> {
+    let to = address(rt.alloc(), host, port)?;
     let mut door = NetDoor::new(rt, listener);
-    let mut wire = NetWire::new(rt, PLACE, address(rt.alloc(), host, port)?);
-    is_heard(rt.alloc(), &mut wire, &mut door, due)
+    let mut wire = NetWire::new(rt, PLACE, to);
+    let heard = is_heard(rt.alloc(), &mut wire, &mut door, due);
+    drop(wire);
+    drop(door);
+    heard
+}
+
+/// The same of a listener at this host, where there can be one, and of a talk that is begun soon.
+fn crosses(rt: HostRuntime, at: &str, host: &str) -> Option<Result<bool, Memory>> {
+    let Some(due) = soon(&rt) else {
+        return Some(Ok(false));
+    };
+    let (listener, port) = listening(&rt, at)?;
+    Some(crosses_to(rt, listener, host, port, due))
 }
 
 // A URL writes an IPv6 address in brackets, which are no part of it, whatever stands in them.
 #[test]
-fn talks_cross_loopback(rt: HostRuntime) -> Result<(), Fail> {
-    const HOSTS: [&str; 3] = [LOOPBACK, "localhost", "[127.0.0.1]"];
-    for host in &HOSTS {
-        let due = soon(&rt)?;
-        let (listener, port) = listening(&rt, LOOPBACK)?;
-        assert!(rt; crosses(rt, listener, host, port, due)?, "{host}");
+fn talks_cross_loopback(rt: HostRuntime) {
+    const HOSTS: &[&str] = &[LOOPBACK, "localhost", "[127.0.0.1]"];
+    for host in HOSTS {
+        assert!(rt; crosses(rt, LOOPBACK, host) == Some(Ok(true)), "{host}");
     }
-    Ok(())
 }
 
 // Not every machine has an IPv6 loopback.
 #[test]
-fn talks_cross_the_loopback_of_ipv6(rt: HostRuntime) -> Result<(), Fail> {
-    const HOSTS: [&str; 2] = ["::1", "[::1]"];
-    for host in &HOSTS {
-        let due = soon(&rt)?;
-        if let Ok((listener, port)) = listening(&rt, "::1") {
-            assert!(rt; crosses(rt, listener, host, port, due)?, "{host}");
-        }
+fn talks_cross_the_loopback_of_ipv6(rt: HostRuntime) {
+    const HOSTS: &[&str] = &["::1", "[::1]"];
+    for host in HOSTS {
+        let crosses = crosses(rt, "::1", host);
+        assert!(rt; crosses.unwrap_or(Ok(true)) == Ok(true), "{host}");
     }
-    Ok(())
 }
 
 /// When a talk to a host began, where it could be sent.
 fn asked(rt: HostRuntime, host: &str) -> Result<Option<u64>, Memory> {
     let mut wire = NetWire::new(rt, PLACE, address(rt.alloc(), host, 1)?);
-    ask(rt.alloc(), &mut wire, 0)
+    let asked = ask(rt.alloc(), &mut wire, 0);
+    drop(wire);
+    asked
 }
 
 #[test]
-fn nobody_listens(rt: HostRuntime) -> Result<(), Fail> {
-    const HOSTS: [&str; 2] = [LOOPBACK, "no such host"];
-    for host in &HOSTS {
-        assert_eq!(rt; asked(rt, host)?, None);
+fn nobody_listens(rt: HostRuntime) {
+    const HOSTS: &[&str] = &[LOOPBACK, "no such host"];
+    for host in HOSTS {
+        assert!(rt; asked(rt, host) == Ok(None));
     }
-    Ok(())
 }
 
 /// Whether nothing comes back over a wire to this port, over which a talk was begun.
 fn hears_nothing(rt: HostRuntime, port: u16) -> Result<bool, Memory> {
     let mut into = [0u8; 8];
     let mut wire = NetWire::new(rt, PLACE, address(rt.alloc(), LOOPBACK, port)?);
-    match ask(rt.alloc(), &mut wire, 0) {
+    let silent = match ask(rt.alloc(), &mut wire, 0) {
         Ok(Some(_)) => Ok(hear(&mut wire, &mut into).is_none()),
         Ok(None) => Ok(false),
         Err(memory) => Err(memory),
-    }
+    };
+    drop(wire);
+    silent
+}
+
+/// The same of a listener that takes nobody.
+fn hears_nothing_there(rt: HostRuntime) -> Option<Result<bool, Memory>> {
+    let (listener, port) = listening(&rt, LOOPBACK)?;
+    let silent = hears_nothing(rt, port);
+    drop(listener);
+    Some(silent)
 }
 
 // It takes as long as a call stands still at most, `MOST_WAIT`, which is 10 seconds.
 #[test]
-fn read_that_stands_still_fails(rt: HostRuntime) -> Result<(), Fail> {
-    let (_listener, port) = listening(&rt, LOOPBACK)?;
-    assert!(rt; hears_nothing(rt, port)?);
-    Ok(())
+fn read_that_stands_still_fails(rt: HostRuntime) {
+    assert!(rt; hears_nothing_there(rt) == Some(Ok(true)));
 }
 
 /// The address of this port, and one at which nobody listens.
@@ -225,17 +240,35 @@ fn handed_out_asked(
 ) -> Result<(Option<u64>, bool), Memory> {
     let mut door = NetDoor::new(rt, listener);
     let mut world = StdWorld::new(rt, rt.alloc());
-    let (scrape, post) = world.wires(rt.alloc(), 7, here, nowhere)?;
-    pair_asked(rt.alloc(), scrape, post, &mut door)
+    let asked = match world.wires(rt.alloc(), 7, here, nowhere) {
+        Ok((scrape, post)) => pair_asked(rt.alloc(), scrape, post, &mut door),
+        Err(memory) => Err(memory),
+    };
+    drop(world);
+    drop(door);
+    asked
+}
+
+/// The same of a listener of this machine.
+fn handed_out_there(rt: HostRuntime) -> Option<Result<(Option<u64>, bool), Memory>> {
+    let (listener, port) = listening(&rt, LOOPBACK)?;
+    match two_addresses(rt.alloc(), port) {
+        Ok((here, nowhere)) => {
+            let asked = handed_out_asked(rt, listener, &here, &nowhere);
+            drop(here);
+            drop(nowhere);
+            Some(asked)
+        }
+        Err(memory) => {
+            drop(listener);
+            Some(Err(memory))
+        }
+    }
 }
 
 #[test]
-fn world_hands_out_wires(rt: HostRuntime) -> Result<(), Fail> {
-    let (listener, port) = listening(&rt, LOOPBACK)?;
-    let (here, nowhere) = two_addresses(rt.alloc(), port)?;
-    let asked = handed_out_asked(rt, listener, &here, &nowhere)?;
-    assert_eq!(rt; asked, (None, true));
-    Ok(())
+fn world_hands_out_wires(rt: HostRuntime) {
+    assert!(rt; handed_out_there(rt) == Some(Ok((None, true))));
 }
 
 /// Hands the pair of the number 7 out to these addresses, and takes it back.
@@ -268,23 +301,41 @@ fn both_asked<V: Wire + Drop>(
 
 /// The same of a pair that came back of the one order of two addresses and was handed out to the other.
 fn turned_asked(
-    rt: HostRuntime,
+    alloc: Global,
+    world: &mut StdWorld<HostRuntime>,
     here: &Address,
     nowhere: &Address,
-) -> Result<[Option<u64>; 2], Memory> {
+) -> Result<[Option<u64>; 2], Memory>
+    requires { world.old ≡ new_machine }
+{
+    lend(alloc, world, here, nowhere)?;
+    let (scrape, post) = world.wires(alloc, 7, nowhere, here)?;
+    both_asked(alloc, scrape, post)
+}
+
+/// The same of the machine's world, of which the one address has this port, and nobody listens at the other.
+fn turned_asked_at_port(rt: HostRuntime, port: u16) -> Result<[Option<u64>; 2], Memory> {
+    let (here, nowhere) = two_addresses(rt.alloc(), port)?;
     let mut world = StdWorld::new(rt, rt.alloc());
-    lend(rt.alloc(), &mut world, here, nowhere)?;
-    let (scrape, post) = world.wires(rt.alloc(), 7, nowhere, here)?;
-    both_asked(rt.alloc(), scrape, post)
+    let asked = turned_asked(rt.alloc(), &mut world, &here, &nowhere);
+    drop(world);
+    drop(here);
+    drop(nowhere);
+    asked
+}
+
+/// The same of a listener of this machine.
+fn turned_asked_there(rt: HostRuntime) -> Option<Result<[Option<u64>; 2], Memory>> {
+    let (listener, port) = listening(&rt, LOOPBACK)?;
+    let asked = turned_asked_at_port(rt, port);
+    drop(listener);
+    Some(asked)
 }
 
 #[test]
-fn wires_come_back_and_turn_to_other_addresses(rt: HostRuntime) -> Result<(), Fail> {
-    let (_listener, port) = listening(&rt, LOOPBACK)?;
-    let (here, nowhere) = two_addresses(rt.alloc(), port)?;
-    let [scrape, post] = turned_asked(rt, &here, &nowhere)?;
-    assert_eq!(rt; (scrape, post.is_some()), (None, true));
-    Ok(())
+fn wires_come_back_and_turn_to_other_addresses(rt: HostRuntime) {
+    let asked = turned_asked_there(rt);
+    assert!(rt; matches!(asked, Some(Ok([None, Some(_)]))));
 }
 
 /// Whether a talk crosses to a world's door, and what is asked once the door came back.
@@ -312,29 +363,46 @@ fn asked_at_port(rt: HostRuntime, port: u16) -> Result<(bool, Option<u64>), Memo
     let at = address(rt.alloc(), LOOPBACK, port)?;
     let mut wire = NetWire::new(rt, PLACE, address(rt.alloc(), LOOPBACK, port)?);
     let mut world = StdWorld::new(rt, rt.alloc());
-    asked_at_door(rt.alloc(), &mut world, &mut wire, at)
+    let asked = asked_at_door(rt.alloc(), &mut world, &mut wire, at);
+    drop(world);
+    drop(wire);
+    asked
+}
+
+/// The same of a port at which nobody listens any more.
+fn asked_at_free_port(rt: HostRuntime) -> Option<Result<(bool, Option<u64>), Memory>> {
+    let (listener, port) = listening(&rt, LOOPBACK)?;
+    drop(listener);
+    Some(asked_at_port(rt, port))
 }
 
 #[test]
-fn world_has_the_door_until_it_comes_back(rt: HostRuntime) -> Result<(), Fail> {
-    let (listener, port) = listening(&rt, LOOPBACK)?;
-    drop(listener);
-    assert_eq!(rt; asked_at_port(rt, port)?, (true, None));
-    Ok(())
+fn world_has_the_door_until_it_comes_back(rt: HostRuntime) {
+    assert!(rt; asked_at_free_port(rt) == Some(Ok((true, None))));
 }
 
 /// Whether the machine's world has a door at this port.
 fn has_door(rt: HostRuntime, port: u16) -> Result<bool, Memory> {
     let at = address(rt.alloc(), LOOPBACK, port)?;
     let mut world = StdWorld::new(rt, rt.alloc());
-    Ok(world.door(at).is_ok())
+    let door = world.door(at);
+    let has = door.is_ok();
+    drop(door);
+    drop(world);
+    Ok(has)
+}
+
+/// The same of the port of a listener.
+fn has_second_door(rt: HostRuntime) -> Option<Result<bool, Memory>> {
+    let (listener, port) = listening(&rt, LOOPBACK)?;
+    let has = has_door(rt, port);
+    drop(listener);
+    Some(has)
 }
 
 #[test]
-fn world_has_no_door_where_one_is(rt: HostRuntime) -> Result<(), Fail> {
-    let (_listener, port) = listening(&rt, LOOPBACK)?;
-    assert!(rt; !has_door(rt, port)?);
-    Ok(())
+fn world_has_no_door_where_one_is(rt: HostRuntime) {
+    assert!(rt; has_second_door(rt) == Some(Ok(false)));
 }
 
 /// What a read of a file comes to, where it can be opened.
@@ -342,22 +410,23 @@ fn read_of(rt: HostRuntime, path: &str) -> Result<Option<Result<u32, Failed>>, M
     let mut into = [1u8; 3];
     let path = Text::from_str(rt.alloc(), path)?;
     let mut world = StdWorld::new(rt, rt.alloc());
-    match world.open_file(path) {
-        Ok(()) => Ok(Some(world.read_file(&mut into))),
-        Err(Failed) => Ok(None),
-    }
+    let read = match world.open_file(path) {
+        Ok(()) => Some(world.read_file(&mut into)),
+        Err(Failed) => None,
+    };
+    drop(world);
+    Ok(read)
 }
 
 #[test]
-fn world_has_the_files(rt: HostRuntime) -> Result<(), Fail> {
-    const FILES: [(&str, Option<Result<u32, Failed>>); 4] = [
+fn world_has_the_files(rt: HostRuntime) {
+    const FILES: &[(&str, Option<Result<u32, Failed>>)] = &[
         ("/dev/zero", Some(Ok(3))),
         ("/dev/null", Some(Ok(0))),
         ("/", Some(Err(Failed))),
         ("/dev/null/none", None),
     ];
-    for (path, read) in &FILES {
-        assert_eq!(rt; read_of(rt, path)?, *read, "{path}");
+    for (path, read) in FILES {
+        assert!(rt; read_of(rt, path) == Ok(*read), "{path}");
     }
-    Ok(())
 }
