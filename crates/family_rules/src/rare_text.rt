@@ -31,10 +31,6 @@ impl RareText {
     }
 
     /// A text.
-    ///
-    /// # Errors
-    ///
-    /// Want of memory.
     pub fn some(alloc: Global, text: Text) -> Result<RareText, Memory>
         ensures { IfOk result (λ rare. rare ≡ Some text) }
     {

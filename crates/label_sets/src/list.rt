@@ -55,10 +55,6 @@ impl<T> List<T> {
 
 impl<T: Drop> List<T> {
     /// The values of a vector, without a copy.
-    ///
-    /// # Errors
-    ///
-    /// Want of memory.
     pub fn from_vec(items: Vec<T>) -> Result<List<T>, AllocError>
         ensures { IfOk result (λ l. l ≡ items.items) }
     {
@@ -67,10 +63,6 @@ impl<T: Drop> List<T> {
     }
 
     /// The same values, with one owner more.
-    ///
-    /// # Errors
-    ///
-    /// Want of memory.
     pub fn copy(&self) -> Result<List<T>, AllocError>
         ensures { IfOk result (λ l. l ≡ self.now) }
     {

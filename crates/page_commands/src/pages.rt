@@ -28,6 +28,7 @@ const MOST_SAMPLES: u32 = 200_000;
 const BLOCK_BYTES: usize = 1 << 16;
 
 /// A page that is fed while it is read.
+#[derive(Drop)]
 pub(crate) enum FedPage<G: Grammar> {
     /// It has no fault yet.
     Reading(PageReader<G>),
@@ -46,23 +47,15 @@ impl<G: Grammar> FedPage<G> {
             FedPage::Reading(mut page) => match page.feed(piece) {
                 Ok(()) => Ok(FedPage::Reading(page)),
                 Err(PageFault::Refused { line, rule }) => {
-                    page.leave();
+                    drop(page);
                     Ok(FedPage::Faulty { line, rule })
                 }
                 Err(PageFault::Memory) => {
-                    page.leave();
+                    drop(page);
                     Err(Stop::Memory)
                 }
             },
             FedPage::Faulty { line, rule } => Ok(FedPage::Faulty { line, rule }),
-        }
-    }
-
-    /// Gives the page up, of which nothing is asked any more.
-    fn leave(self) {
-        match self {
-            FedPage::Reading(page) => page.leave(),
-            FedPage::Faulty { line: _, rule: _ } => {}
         }
     }
 
@@ -106,7 +99,7 @@ fn read_page<I: Source, G: Grammar>(
         let count = match input.read(&mut block) {
             Ok(count) => count as usize,
             Err(Failed) => {
-                page.leave();
+                drop(page);
                 return Err(Stop::Read);
             }
         };
@@ -114,7 +107,7 @@ fn read_page<I: Source, G: Grammar>(
             return Ok(page);
         }
         if count > MOST_PAGE_BYTES - taken {
-            page.leave();
+            drop(page);
             return Err(Stop::TooLong);
         }
         taken += count;

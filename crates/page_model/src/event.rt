@@ -46,11 +46,7 @@ pub struct Shown {
 }
 
 impl Shown {
-    /// An equal value, whose page and long texts have one owner more.
-    ///
-    /// # Errors
-    ///
-    /// Want of memory.
+    /// The same: its page and long texts have one owner more.
     pub fn copy(&self) -> Result<Shown, Memory>
         ensures { IfOk result (λ shown. shown ≡ self.now) }
     {

@@ -15,10 +15,6 @@ pub struct Exemplar {
 
 impl Exemplar {
     /// An equal exemplar, whose labels have one owner more.
-    ///
-    /// # Errors
-    ///
-    /// Want of memory.
     pub fn copy(&self) -> Result<Exemplar, Memory>
         ensures { IfOk result (λ exemplar. exemplar ≡ self.now) }
     {

@@ -41,10 +41,6 @@ pub enum Value {
 
 impl Value {
     /// An equal value, whose list has one owner more.
-    ///
-    /// # Errors
-    ///
-    /// Want of memory.
     pub fn copy(&self) -> Result<Value, Memory>
         ensures { IfOk result (λ value. value ≡ self.now) }
     {
@@ -77,10 +73,6 @@ pub struct Reading {
 
 impl Reading {
     /// An equal reading, whose labels, lists and long texts have one owner more.
-    ///
-    /// # Errors
-    ///
-    /// Want of memory.
     pub fn copy(&self) -> Result<Reading, Memory>
         ensures { IfOk result (λ reading. reading ≡ self.now) }
     {
@@ -111,10 +103,6 @@ pub struct Family {
 
 impl Family {
     /// An equal family, whose readings and long texts have one owner more.
-    ///
-    /// # Errors
-    ///
-    /// Want of memory.
     pub fn copy(&self) -> Result<Family, Memory>
         ensures { IfOk result (λ family. family ≡ self.now) }
     {
@@ -190,10 +178,6 @@ impl Page {
     }
 
     /// The same page: its families have one owner more.
-    ///
-    /// # Errors
-    ///
-    /// Want of memory.
     pub fn copy(&self) -> Result<Page, Memory>
         ensures { IfOk result (λ page. page ≡ self.now) }
     {

@@ -41,10 +41,6 @@ fn page_message(alloc: Global, format: Format, body: &[u8]) -> Result<Vec<u8>, A
 }
 
 /// The reply of a page: the whole of it, and then the peer ends.
-///
-/// # Errors
-///
-/// Want of memory.
 pub fn page_reply(
     alloc: Global,
     at: u64,
@@ -62,10 +58,6 @@ pub fn page_reply(
 }
 
 /// The reply of raw bytes.
-///
-/// # Errors
-///
-/// Want of memory.
 pub fn raw_reply(
     alloc: Global,
     at: u64,

@@ -1,4 +1,3 @@
 mod Counted
 mod Federated
-mod Homes
 mod Served

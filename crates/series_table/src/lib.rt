@@ -3,7 +3,6 @@
 
 mod aim;
 mod counts;
-mod faults;
 mod making;
 mod point_counts;
 mod post_text;

@@ -1,5 +1,5 @@
 use Rattle.scraper_pool.proofs.Served.{served_on}
-use Rattle.scraper_pool.proofs.pool.Pool.serve_pages.Goals as goal
+use Rattle.scraper_pool.proofs.pool.Pool.serve_door.Goals as goal
 
 pub loop-preserved : goal.loop-preserved
 loop-preserved g c =

@@ -1,2 +1,0 @@
-mod RightEvents
-mod Tries
