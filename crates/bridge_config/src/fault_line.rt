@@ -56,6 +56,10 @@ fn push_words(text: &mut Vec<u8>, fault: &ConfigFault) -> Result<(), Memory>
 }
 
 /// Puts the line of a fault behind a text. Want of memory has no line of its own; its word is put.
+///
+/// # Errors
+///
+/// Want of memory.
 pub fn push_line(text: &mut Vec<u8>, fault: &ConfigFault) -> Result<(), Memory>
     ensures { OnOk result (text.new.items ≡ text.old.items ++ spec.config_line fault.now) }
 {

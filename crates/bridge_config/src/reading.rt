@@ -45,6 +45,10 @@ fn judge(alloc: Global, document: &Table) -> Result<Config, ConfigFault>
 }
 
 /// The configuration of these bytes, or its first fault.
+///
+/// # Errors
+///
+/// The first fault of the configuration, each a variant of [`ConfigFault`]; want of memory is one.
 pub fn read(alloc: Global, bytes: &[u8]) -> Result<Config, ConfigFault>
     ensures config { IfOk result (IsConfiguration bytes.now) }
     ensures fault { IfErr result (λ fault. (fault ≡ WantOfMemory) ⊎ HasConfigFault bytes.now fault) }

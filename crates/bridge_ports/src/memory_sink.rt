@@ -41,6 +41,10 @@ impl Model for MemorySink {
 impl MemorySink {
     /// A sink for `room` bytes, whose memory it takes here; `failing` names, counted from 1, the
     /// writes that fail.
+    ///
+    /// # Errors
+    ///
+    /// Want of memory.
     pub fn new(alloc: Global, room: u64, failing: List<u64>) -> Result<MemorySink, Memory>
         ensures { IfOk result (λ sink. sink ≡
             record { held = []; room = room; faults = 0; writes = 0; failing = failing }) }

@@ -56,6 +56,10 @@ pub struct Address {
 
 impl Address {
     /// An equal address.
+    ///
+    /// # Errors
+    ///
+    /// Want of memory.
     pub fn copy(&self) -> Result<Address, Memory>
         ensures { IfOk result (λ address. address ≡ self.now) }
     {
@@ -67,6 +71,10 @@ impl Address {
     }
 
     /// Equal addresses, of the scrapes and of the posts of one pair of wires.
+    ///
+    /// # Errors
+    ///
+    /// Want of memory.
     pub fn copy_both(scrape: &Address, post: &Address) -> Result<(Address, Address), Memory>
         ensures scrape { IfOk result (λ copies. copies.0 ≡ scrape.now) }
         ensures post { IfOk result (λ copies. copies.1 ≡ post.now) }

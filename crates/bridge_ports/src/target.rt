@@ -75,6 +75,10 @@ impl Target {
     }
 
     /// An equal target.
+    ///
+    /// # Errors
+    ///
+    /// Want of memory.
     pub fn copy(&self) -> Result<Target, Memory>
         ensures { IfOk result (λ target. target ≡ self.now) }
     {

@@ -8,6 +8,10 @@ use crate::{Failed, Sink};
 
 /// Writes a text whole; where a write fails, the count of the output's faults rose, and a front of the text was
 /// written. Nothing is written of an empty text.
+///
+/// # Errors
+///
+/// [`Failed`] where a write failed.
 pub fn write_all<O: Sink>(output: &mut O, text: &[u8]) -> Result<(), Failed>
     ensures whole { OnOk result (Appends (O.held output.old) (O.held output.new) text.now) }
     ensures front { OnErr result (WroteFront (O.held output.old) (O.held output.new) text.now) }

@@ -116,6 +116,10 @@ impl ByteTable {
     }
 
     /// Adds a string behind all others, and answers nothing; or answers its number, where it was added before.
+    ///
+    /// # Errors
+    ///
+    /// Want of memory: then the table has the strings that it had.
     pub fn insert(&mut self, string: &[u8]) -> Result<Option<usize>, AllocError>
         ensures found { IfOk result (λ found. MatchOption found (list_any (bytes_eq string.now) self.old ≡ false) (λ at. slice_get self.old at ≡ Some string.now)) }
         ensures added { IfOk result (λ found. MatchOption found (self.new ≡ self.old ++ string.now ∷ []) (λ at. self.new ≡ self.old)) }

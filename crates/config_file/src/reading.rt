@@ -62,6 +62,10 @@ fn bytes_in<W: World>(alloc: Global, path: Text, world: &mut W) -> Result<Vec<u8
 /// The configuration in the file of a path. The file is read to its end, or up to a read that takes more than 1 MiB.
 /// It answers [`FileStop::Read`] exactly where the world's count of faults of files rose; nothing else of the world
 /// changes.
+///
+/// # Errors
+///
+/// Each way in which the file gives no configuration, as [`FileStop`] tells it; want of memory is one.
 pub fn config_in<W: World>(alloc: Global, path: Text, world: &mut W) -> Result<Config, FileStop>
     requires { (W.world world.old).asked ≡ None }
     ensures config { IfOk result (HoldsConfig (W.files world.old path)) }

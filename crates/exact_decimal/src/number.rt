@@ -112,6 +112,11 @@ fn read_word(token: &[u8]) -> Result<Number, NumberFault>
 /// `NotANumber` where the token is none of these. `OutOfRange` where it is and breaks a limit (the bridge's
 /// own): 128 bytes; 38 digits without the zeros at both ends, and a leading digit at a power of ten from
 /// -400 to 308, of which zero is free.
+///
+/// # Errors
+///
+/// [`NumberFault::NotANumber`] where the token is not in the grammar, [`NumberFault::OutOfRange`] where it is and
+/// breaks a limit. It takes no memory.
 pub fn read(token: &[u8]) -> Result<Number, NumberFault>
     ensures { result ≡ number_read token.now }
 {

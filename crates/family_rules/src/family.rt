@@ -69,6 +69,10 @@ impl FamilySoFar {
     }
 
     /// Counts a sample more. A page has few enough samples that memory is never the answer in fact.
+    ///
+    /// # Errors
+    ///
+    /// Want of memory.
     pub fn count_sample(&mut self) -> Result<(), Memory>
         ensures counted { OnOk result (self.new ≡ family_with_sample self.old) }
         ensures groups { self.new.groups ≡ self.old.groups }
@@ -83,6 +87,10 @@ impl FamilySoFar {
     }
 
     /// Keeps what a line says of it.
+    ///
+    /// # Errors
+    ///
+    /// Want of memory.
     pub fn describe(&mut self, alloc: Global, descriptor: Descriptor) -> Result<(), Memory>
         ensures described { OnOk result (self.new ≡ family_with descriptor self.old) }
         ensures groups { self.new.groups ≡ self.old.groups }

@@ -89,6 +89,10 @@ impl KeyedValues {
     }
 
     /// Adds a sample, and answers its key where that isn't new.
+    ///
+    /// # Errors
+    ///
+    /// Want of memory.
     pub fn insert(&mut self, key: SampleKey, value: Number) -> Result<Option<SampleKey>, Memory>
         ensures known { IfOk result (λ known. is_some known ≡ is_key_of key self.old) }
         ensures key { IfOk result (λ known. IfSome known (λ k. k ≡ key)) }
@@ -107,6 +111,10 @@ impl KeyedValues {
 
     /// Whether one of so many samples at the end has these labels, and the last one has not. What was seen is
     /// forgotten.
+    ///
+    /// # Errors
+    ///
+    /// Want of memory.
     pub fn take_passed(
         &mut self,
         alloc: Global,
@@ -199,6 +207,10 @@ fn pass_over_keys(keys: &mut KeySource, count: usize)
 
 impl KeyedEntries {
     /// The next sample, where there is one.
+    ///
+    /// # Errors
+    ///
+    /// Want of memory.
     #[inline(always)]
     pub fn next(&mut self, alloc: Global) -> Result<Option<(SampleKey, Number)>, Memory>
         ensures { IfOk result (λ next. ComesNext next self.old self.new) }

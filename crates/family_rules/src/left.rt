@@ -66,6 +66,10 @@ impl LeftFamilies {
     }
 
     /// Puts a family behind the others, or in place of the one of its name.
+    ///
+    /// # Errors
+    ///
+    /// Want of memory.
     pub fn put(&mut self, name: &Name, family: FamilySoFar) -> Result<(), Memory>
         ensures { OnOk result (self.new ≡ insert_entry bytes_eq self.old name.now family) }
     {
@@ -125,6 +129,10 @@ impl Model for LeftEntries {
 
 impl LeftEntries {
     /// The next family, where there is one; its name is read back.
+    ///
+    /// # Errors
+    ///
+    /// Want of memory.
     pub fn next(&mut self, alloc: Global) -> Result<Option<(Name, FamilySoFar)>, Memory>
         ensures { IfOk result (λ next. MatchOption next ((self.old ≡ []) × (self.new ≡ [])) (λ entry. self.old ≡ entry ∷ self.new)) }
     {

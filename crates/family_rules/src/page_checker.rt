@@ -36,6 +36,10 @@ impl Checker {
     ghost use Rattle.family_rules.specs.TakenLines.{MayTake};
 
     /// A checker that has taken no line, and will make a page. `limit` is the most samples that the page may have.
+    ///
+    /// # Errors
+    ///
+    /// Want of memory.
     pub fn new(
         alloc: Global,
         format: Format,
@@ -48,7 +52,11 @@ impl Checker {
         Ok(Checker { items })
     }
 
-    /// The same, for a page that will be counted: it takes less memory, and `close` more time.
+    /// A checker that has taken no line, for a page that will be counted: it takes less memory, and `close` more time.
+    ///
+    /// # Errors
+    ///
+    /// Want of memory.
     pub fn counting(
         alloc: Global,
         format: Format,
@@ -64,6 +72,11 @@ impl Checker {
     /// Takes the item of a line, which a line of the format spells that breaks no rule of a line alone. It is refused
     /// where it breaks a rule, the least of which is named, and the checker goes on answering its first refusal, or
     /// `Memory` after that.
+    ///
+    /// # Errors
+    ///
+    /// [`PageFault::Refused`] with the line and the least rule that it breaks, or that an earlier item broke; and want
+    /// of memory.
     pub fn item(&mut self, line: u32, item: Item) -> Result<(), PageFault>
         requires { MayTake self.old item }
         ensures answer { (st : Setting) (earlier : List Item) → Stands st self.old earlier → Answers line (item_fault st earlier item) result }
@@ -77,6 +90,10 @@ impl Checker {
 
     /// The page of all lines. `line` is the line past the last, and `clean` says that the page is empty or
     /// ends with a line feed. An earlier refusal, or want of memory, is answered again.
+    ///
+    /// # Errors
+    ///
+    /// [`PageFault::Refused`] with the line and the rule of the first fault; and want of memory.
     pub fn close(self, line: u32, clean: bool) -> Result<Page, PageFault>
         ensures answer { (st : Setting) (earlier : List Item) → Stands st self earlier → Answers line (end_fault st earlier clean) result }
         ensures page { (st : Setting) (earlier : List Item) → Stands st self earlier → IfOk result (λ page. page ≡ page_of st earlier) }
@@ -89,6 +106,10 @@ impl Checker {
     }
 
     /// How many families and samples the page of all lines has. It answers as `close` does, and makes no page.
+    ///
+    /// # Errors
+    ///
+    /// As `close`.
     pub fn count(self, line: u32, clean: bool) -> Result<PageCounts, PageFault>
         ensures answer { (st : Setting) (earlier : List Item) → Stands st self earlier → Answers line (end_fault st earlier clean) result }
         ensures counts { (st : Setting) (earlier : List Item) → Stands st self earlier → IfOk result (λ counts. counts ≡ counts_of (page_of st earlier)) }

@@ -146,6 +146,10 @@ fn put_families(
 }
 
 /// The families of what is known of each, in their order; their samples stand one family behind the other.
+///
+/// # Errors
+///
+/// Want of memory.
 pub fn families_in(
     alloc: Global,
     format: Format,

@@ -31,6 +31,10 @@ impl RareText {
     }
 
     /// A text.
+    ///
+    /// # Errors
+    ///
+    /// Want of memory.
     pub fn some(alloc: Global, text: Text) -> Result<RareText, Memory>
         ensures { IfOk result (λ rare. rare ≡ Some text) }
     {

@@ -45,6 +45,10 @@ pub fn has_own_runs(kind: Kind) -> bool
 }
 
 /// The labels that a sample of this kind of family shares with those of its group.
+///
+/// # Errors
+///
+/// Want of memory.
 pub fn group_labels(
     alloc: Global,
     kind: Kind,
@@ -93,6 +97,10 @@ impl GroupRuns {
 
     /// Adds a sample of the group with these labels, and answers whether it goes back to that group. Where it
     /// does, nothing is said of the groups any more.
+    ///
+    /// # Errors
+    ///
+    /// Want of memory.
     pub fn enter(&mut self, family: &Name, labels: LabelSet) -> Result<bool, Memory>
         ensures back { IfOk result (λ back. back ≡ goes_back self.old (group_key family.now labels)) }
         ensures entered { IfOk result (λ back. back ≡ false → self.new ≡ with_group self.old (group_key family.now labels)) }

@@ -74,6 +74,10 @@ fn is_bad_plain_value(kind: Kind, family: &Name, sample: &Sample) -> bool
 
 /// What a sample whose name the kind allows is to its group, where the kind has groups, or the rule that its
 /// value or its label breaks: 15 or 16.
+///
+/// # Errors
+///
+/// The rule that the sample breaks.
 pub fn part_or_rule(
     format: Format,
     kind: Kind,

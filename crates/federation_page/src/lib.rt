@@ -29,6 +29,10 @@ use std::alloc::Global;
 ///
 /// Families stand in byte order of their names, each with the readings of all targets. Where two families can't
 /// stand on one page, that of the earlier target stays. The values of readings are shared, not copied.
+///
+/// # Errors
+///
+/// Want of memory.
 pub fn gather(alloc: Global, shown: &[Shown]) -> Result<Page, Memory>
     requires { AreShowable shown.now }
     ensures { IfOk result (λ page. page ≡ federated_page shown.now) }
@@ -41,7 +45,9 @@ pub fn gather(alloc: Global, shown: &[Shown]) -> Result<Page, Memory>
 
 /// Puts the text of a page at the end of `out`, as [`open_writing::write`] does.
 ///
-/// Where there is no memory for it, the answer is [`Memory`], and `out` holds what it held.
+/// # Errors
+///
+/// Want of memory: then `out` holds what it held.
 pub fn text(page: &Page, out: &mut Vec<u8>) -> Result<(), Memory>
     ensures ok { OnOk result (out.new.items ≡ out.old.items ++ written_text page.now) }
     ensures err { OnErr result (out.new.items ≡ out.old.items) }

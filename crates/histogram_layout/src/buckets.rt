@@ -57,9 +57,12 @@ fn finite_part(number: &Number) -> Option<Decimal>
     }
 }
 
-/// The layout of cumulative buckets: the finite bounds, the differences of the counts of neighbours, and
-/// the last count (OpenTelemetry metrics data model, "Histogram"; OpenMetrics 1.0, "Histogram"). Want of
-/// memory is the only error.
+/// The layout of cumulative buckets: the finite bounds, the differences of the counts of neighbours, and the last count
+/// (OpenTelemetry metrics data model, "Histogram"; OpenMetrics 1.0, "Histogram").
+///
+/// # Errors
+///
+/// Want of memory.
 #[tactic(auto, unfolding(crate::specs::Layouts::layout_of))]
 pub fn layout(alloc: Global, buckets: &[Bucket]) -> Result<Layout, Memory>
     requires { spec.are_cumulative buckets.now ≡ true }

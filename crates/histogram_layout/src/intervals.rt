@@ -19,6 +19,10 @@ pub struct Layout {
 
 impl Layout {
     /// An equal layout, whose bounds and counts have one owner more.
+    ///
+    /// # Errors
+    ///
+    /// Want of memory.
     pub fn copy(&self) -> Result<Layout, Memory>
         ensures { IfOk result (λ layout. layout ≡ self.now) }
     {

@@ -248,7 +248,7 @@ impl HeadFacts {
     }
 }
 
-/// The same, if the field is Content-encoding.
+/// Whether the body is coded, once this field was read too, if it is Content-encoding.
 fn coding_by(coded: bool, name: &[u8], value: &[u8]) -> bool
     ensures { result ≡ (if is_word (codes "content-encoding") name.now then with_coding coded value.now else coded) }
 {
@@ -259,7 +259,7 @@ fn coding_by(coded: bool, name: &[u8], value: &[u8]) -> bool
     }
 }
 
-/// The same, if the field is Transfer-encoding.
+/// How the body is transferred, once this field was read too, if it is Transfer-encoding.
 fn transfer_by(transfer: Transfer, name: &[u8], value: &[u8]) -> Transfer
     ensures { result ≡ (if is_word (codes "transfer-encoding") name.now then with_transfer transfer value.now else transfer) }
 {
@@ -270,7 +270,7 @@ fn transfer_by(transfer: Transfer, name: &[u8], value: &[u8]) -> Transfer
     }
 }
 
-/// The same, if the field is Content-type.
+/// The media type, once this field was read too, if it is Content-type.
 fn media_by(media: Media, name: &[u8], value: &[u8]) -> Media
     ensures { result ≡ (if is_word (codes "content-type") name.now then with_media media value.now else media) }
 {
@@ -281,7 +281,7 @@ fn media_by(media: Media, name: &[u8], value: &[u8]) -> Media
     }
 }
 
-/// The same, if the field is Content-length.
+/// The lengths, once this field was read too, if it is Content-length.
 fn lengths_by(lengths: Lengths, name: &[u8], value: &[u8]) -> Lengths
     ensures { result ≡ (if is_word (codes "content-length") name.now then with_length lengths value.now else lengths) }
 {

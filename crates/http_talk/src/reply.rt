@@ -57,6 +57,10 @@ impl Reply {
     ghost use Rattle.http_talk.specs.ReplyReading.{Stands, HasStopped, TakesBytes, BeginsBody, FeedAnswer, FinishAnswer};
 
     /// A reader that was fed nothing, of a body of at most `max_page` bytes.
+    ///
+    /// # Errors
+    ///
+    /// Want of memory.
     pub fn new(alloc: Global, max_page: u32) -> Result<Reply, Memory>
         requires { IsBodyLimit max_page }
         ensures { IfOk result (λ reply. (reply.most ≡ max_page) × Stands [] reply) }
@@ -74,6 +78,10 @@ impl Reply {
 
     /// Goes on with the reply. A refusal is the verdict on what it was fed, and is answered again from
     /// then on; so is want of memory. What follows a whole reply is ignored.
+    ///
+    /// # Errors
+    ///
+    /// What is wrong with the reply, each a variant of [`ReplyFault`]; want of memory is one.
     pub fn feed(&mut self, piece: &[u8]) -> Result<Progress, ReplyFault>
         ensures same { self.new.most ≡ self.old.most }
         ensures answer { (fed : List ℕ) → Stands fed self.old → FeedAnswer (fed ++ piece.now) self.new result }
@@ -221,6 +229,11 @@ impl Reply {
 
     /// Ends the reply: the body of one that is whole or goes to the end. An earlier refusal, or want of
     /// memory, is answered again.
+    ///
+    /// # Errors
+    ///
+    /// What is wrong with the reply, each a variant of [`ReplyFault`]: a reply that ended too early is
+    /// [`ReplyFault::Truncated`]; want of memory is one.
     pub fn finish(self) -> Result<Body, ReplyFault>
         ensures answer { (fed : List ℕ) → Stands fed self → FinishAnswer self.most fed result }
         ensures stopped { (fault : AnyFault) → HasStopped fault self → result ≡ Err fault }

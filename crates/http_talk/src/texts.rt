@@ -124,6 +124,10 @@ fn text_bytes<T: Emit>(alloc: Global, value: &T) -> Result<Bytes, Memory>
 }
 
 /// The request of a scrape of this address.
+///
+/// # Errors
+///
+/// Want of memory.
 pub fn get_text(alloc: Global, to: &Address) -> Result<Bytes, Memory>
     ensures { IfOk result (λ text. text ≡ get_request to.now) }
 {
@@ -132,6 +136,10 @@ pub fn get_text(alloc: Global, to: &Address) -> Result<Bytes, Memory>
 
 /// The head of the request that carries a body of so many bytes in JSON to the collector at this address: what stands
 /// before the body, so that a long one can be sent from where it lies.
+///
+/// # Errors
+///
+/// Want of memory.
 pub fn post_head(alloc: Global, to: &Address, len: u64) -> Result<Bytes, Memory>
     ensures { IfOk result (λ text. text ≡ post_head to.now len) }
 {
@@ -139,6 +147,10 @@ pub fn post_head(alloc: Global, to: &Address, len: u64) -> Result<Bytes, Memory>
 }
 
 /// The request that carries a body in JSON to the collector at this address.
+///
+/// # Errors
+///
+/// Want of memory.
 pub fn post_text(alloc: Global, to: &Address, body: &[u8]) -> Result<Bytes, Memory>
     ensures { IfOk result (λ text. text ≡ post_request to.now body.now) }
 {

@@ -27,6 +27,10 @@ impl Bytes {
     }
 
     /// A copy of a slice.
+    ///
+    /// # Errors
+    ///
+    /// Want of memory.
     pub fn from_slice(alloc: Global, slice: &[u8]) -> Result<Bytes, AllocError>
         ensures { IfOk result (λ b. b ≡ slice.now) }
     {
@@ -64,6 +68,10 @@ impl Bytes {
     }
 
     /// Equal bytes in memory of their own.
+    ///
+    /// # Errors
+    ///
+    /// Want of memory.
     pub fn copy(&self) -> Result<Bytes, AllocError>
         ensures { IfOk result (λ b. b ≡ self.now) }
     {

@@ -23,6 +23,10 @@ impl Label {
     }
 
     /// An equal label, whose long texts have one owner more.
+    ///
+    /// # Errors
+    ///
+    /// Want of memory.
     pub fn copy(&self) -> Result<Label, AllocError>
         ensures { IfOk result (λ l. l ≡ self.now) }
     {

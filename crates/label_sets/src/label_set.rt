@@ -72,6 +72,11 @@ impl LabelSet {
 
     /// The set of the labels that have a value, where there are at most `most` in all and no two
     /// have one name, empty values included.
+    ///
+    /// # Errors
+    ///
+    /// [`LabelFault::TooMany`] above `most` labels; else [`LabelFault::Twice`] where two have one name; and want of
+    /// memory.
     pub fn build(alloc: Global, pairs: Vec<Label>, most: u32) -> Result<LabelSet, LabelFault>
         ensures ok { IfOk result (λ set. set ≡ label_set pairs.items) }
         ensures faultless { OnOk result ((length pairs.items ≤ most) × (repeated_at [] 0 pairs.items ≡ None)) }
@@ -90,6 +95,10 @@ impl LabelSet {
     }
 
     /// The set of labels that are known to be one, as they are.
+    ///
+    /// # Errors
+    ///
+    /// Want of memory.
     pub fn from_sorted(labels: Vec<Label>) -> Result<LabelSet, AllocError>
         requires { IsLabelSet labels.items }
         ensures { IfOk result (λ set. set ≡ labels.items) }
@@ -130,6 +139,10 @@ impl LabelSet {
     /// The set with other names for the labels that a target's own labels stand beside: `job` and
     /// `instance` get `exported_` before them until no other label has the name. Values stay
     /// (Prometheus configuration, "scrape_config", `honor_labels`).
+    ///
+    /// # Errors
+    ///
+    /// Want of memory.
     pub fn renamed(self, alloc: Global) -> Result<LabelSet, AllocError>
         ensures { IfOk result (λ set. set ≡ renamed self) }
     {
@@ -159,6 +172,10 @@ impl LabelSet {
     }
 
     /// The set without the label of this name.
+    ///
+    /// # Errors
+    ///
+    /// Want of memory.
     pub fn without(&self, alloc: Global, name: &[u8]) -> Result<LabelSet, AllocError>
         ensures { IfOk result (λ set. set ≡ without_label name.now self.now) }
     {
@@ -193,6 +210,10 @@ impl LabelSet {
     }
 
     /// The same set, with one owner more.
+    ///
+    /// # Errors
+    ///
+    /// Want of memory.
     pub fn copy(&self) -> Result<LabelSet, AllocError>
         ensures { IfOk result (λ set. set ≡ self.now) }
     {

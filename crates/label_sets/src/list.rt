@@ -55,6 +55,10 @@ impl<T> List<T> {
 
 impl<T: Drop> List<T> {
     /// The values of a vector, without a copy.
+    ///
+    /// # Errors
+    ///
+    /// Want of memory.
     pub fn from_vec(items: Vec<T>) -> Result<List<T>, AllocError>
         ensures { IfOk result (λ l. l ≡ items.items) }
     {
@@ -63,6 +67,10 @@ impl<T: Drop> List<T> {
     }
 
     /// The same values, with one owner more.
+    ///
+    /// # Errors
+    ///
+    /// Want of memory.
     pub fn copy(&self) -> Result<List<T>, AllocError>
         ensures { IfOk result (λ l. l ≡ self.now) }
     {

@@ -18,6 +18,10 @@ pub struct SeriesKey {
 
 impl SeriesKey {
     /// An equal key, whose labels and long texts have one owner more.
+    ///
+    /// # Errors
+    ///
+    /// Want of memory.
     pub fn copy(&self) -> Result<SeriesKey, AllocError>
         ensures { IfOk result (λ key. key ≡ self.now) }
     {

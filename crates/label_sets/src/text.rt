@@ -51,6 +51,10 @@ impl Text {
     }
 
     /// The text of a string, whose bytes are kept where they are many.
+    ///
+    /// # Errors
+    ///
+    /// Want of memory.
     pub fn from_string(text: String) -> Result<Text, AllocError>
         ensures { IfOk result (λ t. t ≡ string_bytes text) }
     {
@@ -62,6 +66,10 @@ impl Text {
     }
 
     /// A copy of a text.
+    ///
+    /// # Errors
+    ///
+    /// Want of memory.
     pub fn from_str(alloc: Global, text: &str) -> Result<Text, AllocError>
         ensures { IfOk result (λ t. t ≡ text.now) }
     {
@@ -74,6 +82,10 @@ impl Text {
 
     /// The text that bytes spell, or `None` where they are no UTF-8 (RFC 3629), for which no
     /// memory is taken. The bytes are tested once and copied once.
+    ///
+    /// # Errors
+    ///
+    /// Want of memory.
     pub fn from_bytes(alloc: Global, bytes: &[u8]) -> Result<Option<Text>, AllocError>
         ensures text { IfOk result (λ t. SomeIff t (IsUtf8 bytes.now) bytes.now) }
         ensures memory { OnErr result (IsUtf8 bytes.now) }
@@ -86,6 +98,10 @@ impl Text {
 
     /// The text that bytes spell, for bytes that are known to be UTF-8 (RFC 3629): they are not
     /// tested again.
+    ///
+    /// # Errors
+    ///
+    /// Want of memory.
     pub fn from_utf8(alloc: Global, bytes: &[u8]) -> Result<Text, AllocError>
         requires { IsUtf8 bytes.now }
         ensures { IfOk result (λ t. t ≡ bytes.now) }
@@ -127,6 +143,10 @@ impl Text {
     }
 
     /// The same text, with one owner more where it has many bytes.
+    ///
+    /// # Errors
+    ///
+    /// Want of memory.
     pub fn copy(&self) -> Result<Text, AllocError>
         ensures { IfOk result (λ t. t ≡ self.now) }
     {
@@ -204,6 +224,10 @@ impl Model for Name {
 
 impl Name {
     /// The name that a string spells, whose bytes are kept where they are many.
+    ///
+    /// # Errors
+    ///
+    /// Want of memory.
     pub fn from_string(text: String) -> Result<Name, AllocError>
         ensures { IfOk result (λ n. n ≡ string_bytes text) }
     {
@@ -219,6 +243,10 @@ impl Name {
     }
 
     /// A copy of a name.
+    ///
+    /// # Errors
+    ///
+    /// Want of memory.
     pub fn from_str(alloc: Global, text: &str) -> Result<Name, AllocError>
         ensures { IfOk result (λ n. n ≡ text.now) }
     {
@@ -228,6 +256,10 @@ impl Name {
 
     /// The name that bytes spell, or `None` where they are no UTF-8 (RFC 3629), for which no
     /// memory is taken. The bytes are tested once and copied once.
+    ///
+    /// # Errors
+    ///
+    /// Want of memory.
     pub fn from_bytes(alloc: Global, bytes: &[u8]) -> Result<Option<Name>, AllocError>
         ensures name { IfOk result (λ n. SomeIff n (IsUtf8 bytes.now) bytes.now) }
         ensures memory { OnErr result (IsUtf8 bytes.now) }
@@ -238,6 +270,10 @@ impl Name {
 
     /// The name that bytes spell, for bytes that are known to be UTF-8 (RFC 3629): they are not
     /// tested again.
+    ///
+    /// # Errors
+    ///
+    /// Want of memory.
     pub fn from_utf8(alloc: Global, bytes: &[u8]) -> Result<Name, AllocError>
         requires { IsUtf8 bytes.now }
         ensures { IfOk result (λ n. n ≡ bytes.now) }
@@ -275,6 +311,10 @@ impl Name {
     }
 
     /// The same name, with one owner more where it has many bytes.
+    ///
+    /// # Errors
+    ///
+    /// Want of memory.
     pub fn copy(&self) -> Result<Name, AllocError>
         ensures { IfOk result (λ n. n ≡ self.now) }
     {

@@ -27,6 +27,10 @@ pub trait LabelList {
 }
 
 /// Adds the labels up to the closing brace, at most so many, and answers what stands behind it.
+///
+/// # Errors
+///
+/// Want of memory.
 pub fn labels_at<'a, L: LabelList>(
     alloc: Global,
     most: usize,

@@ -37,6 +37,10 @@ pub enum AfterLabel<'a> {
 }
 
 /// The label that written parts make.
+///
+/// # Errors
+///
+/// Want of memory.
 #[inline(always)]
 pub fn label_of(alloc: Global, parts: LabelParts<'_>) -> Result<Label, Memory>
     requires name { IsUtf8 parts.name.now }
@@ -64,6 +68,10 @@ pub fn after_label(bytes: &[u8]) -> AfterLabel<'_>
 
 /// The labels that were gathered, in no more room than they need. The room that they were gathered in is for
 /// the next line.
+///
+/// # Errors
+///
+/// Want of memory.
 #[inline(always)]
 pub fn own_labels(alloc: Global, labels: &mut Vec<Label>) -> Result<Vec<Label>, Memory>
     ensures { IfOk result (λ items. items.items ≡ labels.old.items) }
@@ -84,6 +92,10 @@ fn label_limit(treatment: Treatment) -> u32
 }
 
 /// The label set of labels; nothing where two labels have one name or there are too many.
+///
+/// # Errors
+///
+/// Want of memory.
 pub fn set_of(
     alloc: Global,
     treatment: Treatment,

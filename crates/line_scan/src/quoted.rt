@@ -142,6 +142,10 @@ pub fn has_backslash(written: &[u8]) -> bool
 }
 
 /// The text that escaped bytes stand for. Bytes without a backslash are copied at once.
+///
+/// # Errors
+///
+/// Want of memory.
 #[inline(always)]
 pub fn unescaped_text(
     alloc: Global,

@@ -113,6 +113,10 @@ fn load_targets(
 
 /// The script that a number, so many targets and so many rounds stand for. The page of each target in each round is
 /// made, one target after the other.
+///
+/// # Errors
+///
+/// Want of memory.
 pub fn generated(alloc: Global, number: u32, targets: u32, rounds: u32) -> Result<Script, Memory>
     requires { spec.IsLoad number targets rounds }
     ensures script { IfOk result (λ script. script ≡ spec.generated_script number targets rounds) }

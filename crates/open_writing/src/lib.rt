@@ -19,9 +19,12 @@ use page_model::{Family, Page};
 
 /// Puts the text of a page at the end of `out` (OpenMetrics 1.0, "Text Format").
 ///
-/// Of each family TYPE, UNIT and HELP stand above its samples, and `# EOF` stands last. Timestamps and
-/// exemplars are not written. `out` grows as the text does. Where there is no memory for that, the
-/// answer is [`Memory`], and `out` holds what it held.
+/// Of each family TYPE, UNIT and HELP stand above its samples, and `# EOF` stands last. Timestamps and exemplars are
+/// not written. `out` grows as the text does.
+///
+/// # Errors
+///
+/// Want of memory: then `out` holds what it held.
 #[tactic(auto, unfolding(crate::specs::Writing::written_text))]
 pub fn write(page: &Page, out: &mut Vec<u8>) -> Result<(), Memory>
     ensures ok { OnOk result (out.new.items ≡ out.old.items ++ written_text page.now) }

@@ -34,8 +34,11 @@ pub fn length(request: &Request) -> u64
 
 /// Puts the text of a request at the end of `out`: one JSON object with no blanks and no line end.
 ///
-/// `out` grows as the text does. Where there is no memory for that, the answer is [`Memory`], and `out`
-/// holds what it held.
+/// `out` grows as the text does.
+///
+/// # Errors
+///
+/// Want of memory: then `out` holds what it held.
 pub fn write(request: &Request, out: &mut Vec<u8>) -> Result<(), Memory>
     ensures ok { OnOk result (out.new.items ≡ out.old.items ++ request_text request.now) }
     ensures err { OnErr result (out.new.items ≡ out.old.items) }
@@ -45,7 +48,9 @@ pub fn write(request: &Request, out: &mut Vec<u8>) -> Result<(), Memory>
 
 /// Writes the text of a request and a line feed to an output, as it is made, so that it takes no memory.
 ///
-/// Where a write fails, the answer is [`Failed`]: a front of the text was written, and not all of it.
+/// # Errors
+///
+/// [`Failed`] where a write failed: a front of the text was written, and not all of it.
 pub fn print_line<O: Sink>(request: &Request, output: &mut O) -> Result<(), Failed>
     ensures whole { OnOk result (Appends (O.held output.old) (O.held output.new) (request_text request.now ++ codes "\n")) }
     ensures front { OnErr result (WroteFront (O.held output.old) (O.held output.new) (request_text request.now ++ codes "\n")) }

@@ -76,7 +76,7 @@ pub fn post<W: Wire>(wire: &mut W, text: &[u8], tries: u32) -> Posted
     post_parts(wire, text, &[], tries)
 }
 
-/// The same of a text that lies in two parts, so that a long body need not be copied behind its head.
+/// Posts a text that lies in two parts, as [`post`] posts one, so that a long body need not be copied behind its head.
 pub fn post_parts<W: Wire>(wire: &mut W, front: &[u8], rest: &[u8], tries: u32) -> Posted
     requires ready { AllowsTalks tries (length (front.now ++ rest.now)) (W.state wire.old) }
     requires few { (1 ≤ tries) × (tries ≤ 8) }

@@ -59,6 +59,10 @@ impl Keys {
     }
 
     /// The next key, where there is one. A name is shared with the key before where it is the same.
+    ///
+    /// # Errors
+    ///
+    /// Want of memory.
     pub fn next(&mut self, alloc: Global) -> Result<Option<SampleKey>, Memory>
         ensures steps { IfOk result (λ next. MatchOption next ((self.old ≡ []) × (self.new ≡ [])) (λ key. self.old ≡ key ∷ self.new)) }
         ensures err { OnErr result (self.new ≡ self.old) }

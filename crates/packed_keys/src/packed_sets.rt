@@ -78,6 +78,10 @@ impl PackedSets {
     }
 
     /// Puts a set behind the others.
+    ///
+    /// # Errors
+    ///
+    /// Want of memory.
     pub fn push(&mut self, labels: &LabelSet) -> Result<(), Memory>
         ensures ok { OnOk result (self.new ≡ self.old ++ labels.now ∷ []) }
         ensures err { OnErr result (self.new ≡ self.old) }
@@ -88,6 +92,10 @@ impl PackedSets {
     }
 
     /// Puts the labels of a key that was seen, the one at this place, behind the others. They are packed already.
+    ///
+    /// # Errors
+    ///
+    /// Want of memory.
     pub fn push_seen(&mut self, seen: &SeenKeys, at: usize) -> Result<(), Memory>
         requires { at < length seen.now }
         ensures ok { (key : AnyKey) → slice_get seen.now at ≡ Some key → OnOk result (self.new ≡ self.old ++ key.labels ∷ []) }
@@ -97,6 +105,10 @@ impl PackedSets {
     }
 
     /// The set at a place.
+    ///
+    /// # Errors
+    ///
+    /// Want of memory.
     pub fn set(&self, alloc: Global, at: usize) -> Result<LabelSet, Memory>
         requires { at < length self.now }
         ensures { IfOk result (λ set. slice_get self.now at ≡ Some set) }

@@ -68,9 +68,13 @@ fn take_near(
     Ok(next)
 }
 
-/// Two lists of keys without pairs of equal ones: a key that is asked for is looked for among the few behind the
-/// one found last, so lists that have the same series in one order lose all but those that one of them lacks. No
-/// key is hashed, and only keys that are left are copied. Want of memory is the only error.
+/// Two lists of keys without pairs of equal ones: a key that is asked for is looked for among the few behind the one
+/// found last, so lists that have the same series in one order lose all but those that one of them lacks. No key is
+/// hashed, and only keys that are left are copied.
+///
+/// # Errors
+///
+/// Want of memory.
 pub fn part(alloc: Global, keys: &[&SeriesKey], asked: &[&SeriesKey]) -> Result<Parted, Memory>
     ensures { IfOk result (λ parted. IsParted (keys_behind asked.now) (keys_behind keys.now) parted.strays parted.left) }
 {

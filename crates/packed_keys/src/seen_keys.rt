@@ -55,6 +55,10 @@ impl SeenKeys {
     }
 
     /// Adds a key, and answers whether it is new.
+    ///
+    /// # Errors
+    ///
+    /// Want of memory.
     pub fn insert(&mut self, key: &SampleKey) -> Result<bool, Memory>
         ensures added { IfOk result (λ added. added ≡ not (list_any (sample_key_eq key.now) self.old)) }
         ensures keys { IfOk result (λ added. self.new ≡ (if added then self.old ++ key.now ∷ [] else self.old)) }

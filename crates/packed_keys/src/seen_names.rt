@@ -50,6 +50,10 @@ impl SeenNames {
     }
 
     /// Adds a name behind all others, and answers nothing; or answers its place, where it was added before.
+    ///
+    /// # Errors
+    ///
+    /// Want of memory.
     pub fn insert(&mut self, name: &Name) -> Result<Option<usize>, Memory>
         ensures found { IfOk result (λ found. MatchOption found (list_any (bytes_eq name.now) self.old ≡ false) (λ at. slice_get self.old at ≡ Some name.now)) }
         ensures added { IfOk result (λ found. MatchOption found (self.new ≡ self.old ++ name.now ∷ []) (λ at. self.new ≡ self.old)) }
@@ -59,6 +63,10 @@ impl SeenNames {
     }
 
     /// The name at a place.
+    ///
+    /// # Errors
+    ///
+    /// Want of memory.
     pub fn name(&self, alloc: Global, at: usize) -> Result<Name, Memory>
         requires { at < length self.now }
         ensures { IfOk result (λ name. slice_get self.now at ≡ Some name) }

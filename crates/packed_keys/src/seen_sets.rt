@@ -54,6 +54,10 @@ impl SeenSets {
     }
 
     /// Adds the set without the label of this name, where it is new, and answers its place. No set is made.
+    ///
+    /// # Errors
+    ///
+    /// Want of memory.
     pub fn insert_without(&mut self, labels: &LabelSet, name: &[u8]) -> Result<usize, Memory>
         ensures place { IfOk result (λ at. slice_get self.new at ≡ Some (without_label name.now labels.now)) }
         ensures sets { IfOk result (λ at. self.new ≡ with_set self.old (without_label name.now labels.now)) }
@@ -71,6 +75,10 @@ impl SeenSets {
     }
 
     /// The set at a place.
+    ///
+    /// # Errors
+    ///
+    /// Want of memory.
     pub fn set(&self, alloc: Global, at: usize) -> Result<LabelSet, Memory>
         requires { at < length self.now }
         ensures { IfOk result (λ set. slice_get self.now at ≡ Some set) }

@@ -188,6 +188,10 @@ impl SeriesPlaces {
 
     /// Where a key stands among the keys, or nothing where it does not: its place, counted from 0, where no key
     /// stands twice. The places behind the last answer are looked at first.
+    ///
+    /// # Errors
+    ///
+    /// Want of memory.
     pub fn find(&mut self, alloc: Global, key: &SeriesKey) -> Result<Option<usize>, Memory>
         ensures place { IfOk result (IsPlace self.old key.now) }
         ensures same { self.new ≡ self.old }

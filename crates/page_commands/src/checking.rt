@@ -31,6 +31,10 @@ fn counted_text(alloc: Global, counts: PageCounts) -> Result<Vec<u8>, AllocError
 }
 
 /// The families and samples of the page on the input.
+///
+/// # Errors
+///
+/// The page has a fault or is too long, a read failed, or memory was wanted: [`Stop`] tells which.
 pub fn check<I: Source>(alloc: Global, format: Format, input: &mut I) -> Result<Vec<u8>, Stop>
     ensures text { IfOk result (λ text. HasAnswer (IsPageAnswer (page_setting format) checked_text) (I.left input.old) (code_of Done) text.items) }
     ensures stop { IfErr result (StopsAs (IsPageAnswer (page_setting format) checked_text) (I.left input.old)) }

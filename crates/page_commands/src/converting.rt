@@ -41,6 +41,10 @@ fn first_event(alloc: Global, target: &Target, nanos: u64, page: Page) -> Result
 }
 
 /// The tree of the event that the page on the input is.
+///
+/// # Errors
+///
+/// The page has a fault or is too long, a read failed, or memory was wanted: [`Stop`] tells which.
 pub fn convert<I: Source>(
     alloc: Global,
     format: Format,

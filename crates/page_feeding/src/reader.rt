@@ -72,6 +72,10 @@ impl<G: Grammar> PageReader<G> {
     ghost use Rattle.page_feeding.specs.PageFeeding.{Stands, GoesBy, HasStopped, TakesLine, TakesStep, TakesPiece, line_result, AtLast, EndAnswer, LastAnswer, Answers, CountAnswers};
 
     /// A reader that was fed nothing. `limit` is the most samples that the page may have.
+    ///
+    /// # Errors
+    ///
+    /// Want of memory.
     pub fn new(alloc: Global, treatment: Treatment, limit: u32) -> Result<PageReader<G>, Memory>
         ensures { IfOk result (Stands G.format treatment limit []) }
     {
@@ -80,7 +84,11 @@ impl<G: Grammar> PageReader<G> {
         Ok(PageReader::over(alloc, treatment, lines, checker))
     }
 
-    /// The same, for a page that will be counted: it takes less memory, and `finish` more time.
+    /// A reader that was fed nothing, for a page that will be counted: it takes less memory, and `finish` more time.
+    ///
+    /// # Errors
+    ///
+    /// Want of memory.
     pub fn counting(
         alloc: Global,
         treatment: Treatment,
@@ -197,6 +205,10 @@ impl<G: Grammar> PageReader<G> {
 
     /// Goes on with the page. A refusal is the first fault of the page, however it goes on, and is answered
     /// again from then on; so is want of memory.
+    ///
+    /// # Errors
+    ///
+    /// [`PageFault::Refused`] with the line and the rule of the page's first fault; and want of memory.
     pub fn feed(&mut self, piece: &[u8]) -> Result<(), PageFault>
         requires { self.old.lines.fed + length piece.now < 2 ^ 32 - 1 }
         ensures answer { TakesPiece G.format self.old self.new piece.now result }
@@ -272,6 +284,10 @@ impl<G: Grammar> PageReader<G> {
 
     /// Ends the page: its families and readings, or its first fault. An earlier refusal, or want of memory,
     /// is answered again.
+    ///
+    /// # Errors
+    ///
+    /// [`PageFault::Refused`] with the line and the rule of the page's first fault; and want of memory.
     pub fn finish(self) -> Result<Page, PageFault>
         ensures answer { (t : AnyTreatment) (limit : ℕ) (fed : List ℕ) → Stands G.format t limit fed self → Answers (setting_of G.format t limit) fed result }
         ensures stopped { (fault : AnyFault) → HasStopped fault self → result ≡ Err fault }
@@ -283,6 +299,10 @@ impl<G: Grammar> PageReader<G> {
     }
 
     /// Ends the page as `finish` does, and answers how many families and samples it has: no page is made.
+    ///
+    /// # Errors
+    ///
+    /// As `finish`.
     pub fn count(self) -> Result<PageCounts, PageFault>
         ensures answer { (t : AnyTreatment) (limit : ℕ) (fed : List ℕ) → Stands G.format t limit fed self → CountAnswers (setting_of G.format t limit) fed result }
         ensures stopped { (fault : AnyFault) → HasStopped fault self → result ≡ Err fault }

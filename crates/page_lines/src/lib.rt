@@ -80,6 +80,10 @@ impl Lines {
 
     /// A reader that was fed nothing, of lines of at most `most` bytes each. It takes the memory of
     /// one line here, and no later call takes memory.
+    ///
+    /// # Errors
+    ///
+    /// Want of memory.
     pub fn new(alloc: Global, most: u32) -> Result<Lines, AllocError>
         ensures value { IfOk result (λ lines. lines ≡
             record { most = most; fed = 0; line = []; number = 1; place = Within }) }

@@ -46,7 +46,11 @@ pub struct Shown {
 }
 
 impl Shown {
-    /// The same: its page and long texts have one owner more.
+    /// An equal value, whose page and long texts have one owner more.
+    ///
+    /// # Errors
+    ///
+    /// Want of memory.
     pub fn copy(&self) -> Result<Shown, Memory>
         ensures { IfOk result (λ shown. shown ≡ self.now) }
     {

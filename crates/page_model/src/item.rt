@@ -15,6 +15,10 @@ pub struct Exemplar {
 
 impl Exemplar {
     /// An equal exemplar, whose labels have one owner more.
+    ///
+    /// # Errors
+    ///
+    /// Want of memory.
     pub fn copy(&self) -> Result<Exemplar, Memory>
         ensures { IfOk result (λ exemplar. exemplar ≡ self.now) }
     {

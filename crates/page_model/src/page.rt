@@ -41,6 +41,10 @@ pub enum Value {
 
 impl Value {
     /// An equal value, whose list has one owner more.
+    ///
+    /// # Errors
+    ///
+    /// Want of memory.
     pub fn copy(&self) -> Result<Value, Memory>
         ensures { IfOk result (λ value. value ≡ self.now) }
     {
@@ -73,6 +77,10 @@ pub struct Reading {
 
 impl Reading {
     /// An equal reading, whose labels, lists and long texts have one owner more.
+    ///
+    /// # Errors
+    ///
+    /// Want of memory.
     pub fn copy(&self) -> Result<Reading, Memory>
         ensures { IfOk result (λ reading. reading ≡ self.now) }
     {
@@ -103,6 +111,10 @@ pub struct Family {
 
 impl Family {
     /// An equal family, whose readings and long texts have one owner more.
+    ///
+    /// # Errors
+    ///
+    /// Want of memory.
     pub fn copy(&self) -> Result<Family, Memory>
         ensures { IfOk result (λ family. family ≡ self.now) }
     {
@@ -178,6 +190,10 @@ impl Page {
     }
 
     /// The same page: its families have one owner more.
+    ///
+    /// # Errors
+    ///
+    /// Want of memory.
     pub fn copy(&self) -> Result<Page, Memory>
         ensures { IfOk result (λ page. page ≡ self.now) }
     {

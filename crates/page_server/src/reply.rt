@@ -72,6 +72,10 @@ impl Emit for ReplyHead {
 }
 
 /// The head of a reply that carries so many bytes.
+///
+/// # Errors
+///
+/// Want of memory.
 pub fn reply_head(alloc: Global, status: ReplyStatus, count: u64) -> Result<Vec<u8>, Memory>
     ensures { IfOk result (λ text. text.items ≡ reply_head status count) }
 {
@@ -96,6 +100,10 @@ fn say_all<K: Conn>(conn: &mut K, text: &[u8]) -> Result<(), Failed>
 }
 
 /// Writes the head of a reply and what it carries.
+///
+/// # Errors
+///
+/// [`Failed`] where a write failed.
 pub fn say_both<K: Conn>(conn: &mut K, head: &[u8], page: &[u8]) -> Result<(), Failed>
     ensures whole { OnOk result (WereWritten (K.seen conn.old) (K.seen conn.new) (head.now ++ page.now)) }
     ensures front { OnErr result (WereCutOff (K.seen conn.old) (K.seen conn.new) (head.now ++ page.now)) }

@@ -57,6 +57,10 @@ fn decided(got: &[u8]) -> Option<ReplyStatus>
 }
 
 /// Reads until the status is certain.
+///
+/// # Errors
+///
+/// [`Failed`] where a read failed before the status was certain.
 pub fn asked_status<K: Conn>(conn: &mut K) -> Result<ReplyStatus, Failed>
     ensures asked { IfOk result (λ status. IsAsked (K.seen conn.old) (K.seen conn.new) status) }
     ensures unread { OnErr result (IsUnheard (K.seen conn.old) (K.seen conn.new)) }

@@ -36,6 +36,10 @@ fn reply_for<P: ShownPage>(
 }
 
 /// Reads the request of one connection and writes the reply. Before the status is certain nothing is written.
+///
+/// # Errors
+///
+/// A read of the request or a write of the reply failed, or memory was wanted for the page.
 pub fn serve_one<P: ShownPage, K: Conn>(
     alloc: Global,
     from: &P,

@@ -39,6 +39,10 @@ fn script_text(alloc: Global, line: u64) -> Result<Vec<u8>, AllocError>
 }
 
 /// What is printed where a command stops. Only a fault's line takes memory.
+///
+/// # Errors
+///
+/// Want of memory.
 #[tactic(auto, unfolding(crate::specs::Stops::no_form_text, crate::specs::Stops::too_long_text))]
 pub fn stop_text(alloc: Global, stop: Stop) -> Result<CowSlice<'static, u8>, AllocError>
     ensures text { IfOk result (λ text. cow_slice_items text ≡ spec.stop_text stop) }

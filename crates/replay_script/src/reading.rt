@@ -11,6 +11,10 @@ use crate::script::Script;
 use std::alloc::Global;
 
 /// The script of these bytes, or its first fault. Each record's bytes are copied once.
+///
+/// # Errors
+///
+/// [`ScriptFault::Line`] with the line of the first head line that breaks a rule; and want of memory.
 pub fn read(alloc: Global, bytes: &[u8]) -> Result<Script, ScriptFault>
     ensures script { IfOk result (IsScript bytes.now) }
     ensures fault { IfErr result (IsFaultOf bytes.now) }

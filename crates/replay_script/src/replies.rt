@@ -41,6 +41,10 @@ fn page_message(alloc: Global, format: Format, body: &[u8]) -> Result<Vec<u8>, A
 }
 
 /// The reply of a page: the whole of it, and then the peer ends.
+///
+/// # Errors
+///
+/// Want of memory.
 pub fn page_reply(
     alloc: Global,
     at: u64,
@@ -58,6 +62,10 @@ pub fn page_reply(
 }
 
 /// The reply of raw bytes.
+///
+/// # Errors
+///
+/// Want of memory.
 pub fn raw_reply(
     alloc: Global,
     at: u64,

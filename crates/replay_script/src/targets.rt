@@ -57,7 +57,7 @@ fn instance_of(alloc: Global, host: &[u8], port: u16) -> Result<Vec<u8>, AllocEr
     Ok(text)
 }
 
-/// The same as a text.
+/// The instance of a host and a port, as a text.
 fn instance_text(alloc: Global, host: &[u8], port: u16) -> Result<Text, AllocError>
     requires { IsUtf8 (host.now ++ (codes ":" ++ decimal port)) }
     ensures { IfOk result (λ text. text ≡ host.now ++ (codes ":" ++ decimal port)) }
@@ -81,6 +81,10 @@ fn address(alloc: Global, words: &TargetWords<'_>) -> Result<Address, AllocError
 }
 
 /// The target of a target line.
+///
+/// # Errors
+///
+/// Want of memory.
 pub fn target(alloc: Global, words: &TargetWords<'_>) -> Result<Target, AllocError>
     requires { rules.is_target_line (words_found_as words.now) ≡ true }
     ensures { IfOk result (λ t. t ≡ target_of (words_found_as words.now)) }

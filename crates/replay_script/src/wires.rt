@@ -8,6 +8,10 @@ use label_sets::{Bytes, Memory};
 use std::alloc::Global;
 
 /// What the post wire answers where its records are used up.
+///
+/// # Errors
+///
+/// Want of memory.
 #[tactic(auto, unfolding(crate::specs::WirePlans::default_reply))]
 pub fn default_reply(alloc: Global) -> Result<MemoryReply, Memory>
     ensures { IfOk result (λ reply. reply ≡ spec.default_reply) }
@@ -21,6 +25,10 @@ pub fn default_reply(alloc: Global) -> Result<MemoryReply, Memory>
 }
 
 /// Where the bodies of a script are posted.
+///
+/// # Errors
+///
+/// Want of memory.
 #[tactic(auto, unfolding(crate::specs::WirePlans::script_collector))]
 pub fn collector(alloc: Global) -> Result<Address, Memory>
     ensures { IfOk result (λ address. address ≡ spec.script_collector) }

@@ -92,6 +92,10 @@ fn push_lines(text: &mut Vec<u8>, ends: &[TargetEnd]) -> Result<(), Memory>
 }
 
 /// Puts the report of targets behind a text: a line for each, in order, and a line for all of them.
+///
+/// # Errors
+///
+/// Want of memory.
 #[tactic(auto, unfolding(crate::specs::Reports::report_text, crate::specs::Reports::all_line))]
 pub fn push_report(text: &mut Vec<u8>, ends: &[TargetEnd]) -> Result<(), Memory>
     ensures { OnOk result (text.new.items ≡ text.old.items ++ spec.report_text ends.now) }
@@ -102,6 +106,10 @@ pub fn push_report(text: &mut Vec<u8>, ends: &[TargetEnd]) -> Result<(), Memory>
 }
 
 /// Puts the line of the pages that were served behind a text.
+///
+/// # Errors
+///
+/// Want of memory.
 #[tactic(auto, unfolding(crate::specs::Reports::served_line))]
 pub fn push_served(text: &mut Vec<u8>, served: u32) -> Result<(), Memory>
     ensures { OnOk result (text.new.items ≡ text.old.items ++ spec.served_line served) }

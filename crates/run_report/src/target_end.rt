@@ -22,6 +22,10 @@ pub struct TargetEnd {
 
 impl TargetEnd {
     /// How the target of a track ended, as its visits stand.
+    ///
+    /// # Errors
+    ///
+    /// Want of memory.
     pub fn of<W: Wire>(track: &Track<W>) -> Result<TargetEnd, Memory>
         ensures { IfOk result (λ end. end ≡ spec.track_end track.now) }
     {
@@ -37,6 +41,10 @@ impl TargetEnd {
 }
 
 /// How the target of each track ended, as its visits stand.
+///
+/// # Errors
+///
+/// Want of memory.
 pub fn ends_of<W: Wire>(alloc: Global, tracks: &[Track<W>]) -> Result<Vec<TargetEnd>, Memory>
     ensures { IfOk result (λ ends. ends.items ≡ map spec.track_end tracks.now) }
 {

@@ -51,6 +51,10 @@ impl Groups {
     /// group's: none tells it apart from others of its group, as with counters. They are packed already
     /// where a key was `seen` last that has them; otherwise they live on beside the groups, and are shared.
     /// Nothing is said of the groups any more where memory was wanted.
+    ///
+    /// # Errors
+    ///
+    /// Want of memory.
     pub fn begin(
         &mut self,
         alloc: Global,
@@ -76,6 +80,10 @@ impl Groups {
     /// bucket that isn't above the last one, or has fewer observations, or a quantile that the group has
     /// already. Where it was not added, nothing is said of the groups any more. Also answers whether the
     /// group is overtaken.
+    ///
+    /// # Errors
+    ///
+    /// Want of memory. A part that breaks the order of its group is no error: the answer tells it.
     pub fn add(
         &mut self,
         alloc: Global,
@@ -104,6 +112,10 @@ impl Groups {
 
     /// Whether the group of a sample with these labels is overtaken: it has begun, and another one after it.
     /// Nothing is said of the groups any more.
+    ///
+    /// # Errors
+    ///
+    /// Want of memory.
     pub fn is_overtaken(
         &mut self,
         alloc: Global,
@@ -131,6 +143,10 @@ impl Groups {
 
     /// The readings of the groups, in their order. A counter's group without a total and a summary's with a
     /// created time alone have none.
+    ///
+    /// # Errors
+    ///
+    /// Want of memory.
     pub fn into_readings(
         self,
         alloc: Global,

@@ -169,7 +169,7 @@ impl Others {
         Ok(place)
     }
 
-    /// The same, at first at the nearest place.
+    /// The place of the group of these labels, looked for at the nearest place first.
     fn place_from(&mut self, alloc: Global, kind: Kind, labels: &LabelSet) -> Result<usize, Memory>
         ensures { IfOk result (HasPlace self.old self.new (shared_labels kind labels.now)) }
     {

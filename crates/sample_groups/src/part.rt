@@ -198,6 +198,11 @@ fn part_with(kind: Kind, sample: &Sample, suffix: Suffix) -> Result<Part, Rule>
 }
 
 /// The part of a sample whose name the kind allows, or the rule that its value or its label breaks.
+///
+/// # Errors
+///
+/// The rule that the sample breaks: [`Rule::Value`] where its value is none that its place may have, else
+/// [`Rule::Threshold`].
 pub fn part_of(kind: Kind, family: &Name, sample: &Sample) -> Result<Part, Rule>
     ensures { (st : Setting) → is_grouped st.format kind ≡ true → has_wrong_suffix st kind family.now sample.now ≡ false
         → result ≡ (if has_bad_value st.format kind family.now sample.now then Err rules.Value

@@ -20,6 +20,10 @@ use std::alloc::{AllocError, Global};
 /// Unix epoch: it asks for the target's page, and reads until a verdict on the reply is there, or the talk
 /// ends. `limit` is the most samples of the page, from 1 to 200,000, and `max_page` the most bytes of the
 /// body, from 1,024 to 67,108,864. After want of memory no talk is under way.
+///
+/// # Errors
+///
+/// Want of memory alone: a scrape that fails is an event too.
 pub fn scrape<W: Wire>(
     alloc: Global,
     wire: &mut W,
@@ -53,6 +57,10 @@ pub fn scrape<W: Wire>(
 
 /// What a talk comes to that got these bytes and ended so, by itself; it was not left. `limit` is the most
 /// samples of a page, and `max_page` the most bytes of a body, as in [`scrape`].
+///
+/// # Errors
+///
+/// Want of memory alone: a talk without a page is an outcome too.
 pub fn outcome(
     alloc: Global,
     got: &[u8],

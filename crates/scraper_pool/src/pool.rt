@@ -25,6 +25,10 @@ pub struct Pool<N: RunName, A: Lane, B: Lane, C: Lane, D: Lane, W: Wire> {
 
 impl<N: RunName, A: Lane, B: Lane, C: Lane, D: Lane, W: Wire> Pool<N, A, B, C, D, W> {
     /// The pool of the tracks of a run's targets, none of which was visited, and the shares of its lanes.
+    ///
+    /// # Errors
+    ///
+    /// Want of memory: the tracks are given back.
     pub fn new(
         alloc: Global,
         tracks: Vec<Track<W>>,
@@ -92,7 +96,11 @@ impl<N: RunName, A: Lane, B: Lane, C: Lane, D: Lane, W: Wire> Pool<N, A, B, C, D
     }
 
     /// Puts the text of the federation page of what readers see behind what `out` holds. The lock is held while that is
-    /// copied, and not while the text is made. Where there is no memory, `out` holds what it held.
+    /// copied, and not while the text is made.
+    ///
+    /// # Errors
+    ///
+    /// Want of memory: then `out` holds what it held.
     pub fn federate<R: Wait>(&self, rt: &R, out: &mut Vec<u8>) -> Result<(), Memory>
         ensures ok { OnOk result (HasPage talking N.run out.old.items out.new.items) }
         ensures err { OnErr result (out.new.items ≡ out.old.items) }

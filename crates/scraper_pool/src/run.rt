@@ -165,6 +165,10 @@ fn run_named<
 
 /// Visits the targets of these tracks, each so often, by so many workers, but at most four, and serves so many
 /// connections of a door beside them, where one is given.
+///
+/// # Errors
+///
+/// Want of memory for the table: the tracks and the door are given back as they were.
 pub fn run_with_door<W: Wire, K: Conn, E: Door<Conn = K>, R: Threads + Wait + Sync>(
     rt: &R,
     alloc: Global,
@@ -194,6 +198,10 @@ pub fn run_with_door<W: Wire, K: Conn, E: Door<Conn = K>, R: Threads + Wait + Sy
 }
 
 /// Visits the targets of these tracks, each so often, by so many workers, but at most four. Nothing is served.
+///
+/// # Errors
+///
+/// Want of memory for the table: the tracks are given back.
 pub fn run_targets<W: Wire, R: Threads + Wait + Sync>(
     rt: &R,
     alloc: Global,

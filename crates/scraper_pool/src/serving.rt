@@ -58,6 +58,10 @@ impl<N: RunName, A: Lane, B: Lane, C: Lane, D: Lane, W: Wire> Pool<N, A, B, C, D
     /// Reads the request of one connection and writes the reply, which carries the federation page of what readers see
     /// where a GET asks for `/federate` (RFC 9110, sections 9.3.1 and 15.5). Before the status is certain nothing is
     /// written. The lock is not held while the connection is read or written.
+    ///
+    /// # Errors
+    ///
+    /// A read of the request or a write of the reply failed, or memory was wanted for the page.
     pub fn serve_one<K: Conn, R: Wait>(
         &self,
         rt: &R,

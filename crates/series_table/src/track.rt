@@ -70,6 +70,10 @@ fn begin(alloc: Global, target: &Target, keep: u32) -> Result<(TargetState, Show
 
 impl<W: Wire> Track<W> {
     /// The track of a target that was not visited: its bodies go to the address `to`, over the wire `post`.
+    ///
+    /// # Errors
+    ///
+    /// Want of memory: the two wires are given back.
     pub fn new(
         alloc: Global,
         target: Target,

@@ -61,6 +61,10 @@ fn lacking(
 /// The series with points that the page before has and the page now lacks, in the order of the page before; all of
 /// them where there is no page now, since the scrape failed. Only keys that stand elsewhere than in the page before are
 /// hashed. Want of memory is the only error (OTLP 1.x, "DataPointFlags"; Prometheus, "Staleness").
+///
+/// # Errors
+///
+/// Want of memory.
 pub fn vanished(alloc: Global, before: &Page, now: Option<&Page>) -> Result<List<SeriesKey>, Memory>
     ensures { IfOk result (λ keys. keys ≡ keys_gone before.now (page_or_empty (option_copied now.entry))) }
 {

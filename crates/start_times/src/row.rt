@@ -22,7 +22,7 @@ pub enum Last {
 }
 
 impl Last {
-    /// The same, where the lists of a layout have one owner more.
+    /// An equal value, whose layout's lists have one owner more.
     fn copy(&self) -> Result<Last, Memory>
         ensures { IfOk result (λ last. last ≡ self.now) }
     {

@@ -49,6 +49,10 @@ impl Tracker {
     }
 
     /// The same rows, with one owner more.
+    ///
+    /// # Errors
+    ///
+    /// Want of memory.
     pub fn copy(&self) -> Result<Tracker, Memory>
         ensures { IfOk result (λ tracker. tracker ≡ self.now) }
     {
@@ -62,7 +66,11 @@ impl Tracker {
     }
 
     /// The starts of a page's readings at this moment, and the rows behind it. A moment is in nanoseconds since the
-    /// Unix epoch, and later than those of the pages before. Want of memory is the only error.
+    /// Unix epoch, and later than those of the pages before.
+    ///
+    /// # Errors
+    ///
+    /// Want of memory.
     pub fn advance(
         &self,
         alloc: Global,
@@ -87,8 +95,11 @@ impl Tracker {
         self.rows.len() as u64
     }
 
-    /// Since when the values of series count, one after the other; none for a series that has no row. Want of
-    /// memory is the only error.
+    /// Since when the values of series count, one after the other; none for a series that has no row.
+    ///
+    /// # Errors
+    ///
+    /// Want of memory.
     pub fn starts_of(&self, alloc: Global, keys: &List<SeriesKey>) -> Result<Starts, Memory>
         ensures { IfOk result (λ starts. IsDistinct key_eq (keys_of self.now.rows) → starts.list ≡ map (kept_start self.now.rows) keys.now) }
     {

@@ -95,6 +95,10 @@ fn gone_groups(
 impl TargetState {
     /// A target that was never scraped, whose series keep their starts over so many scrapes that miss
     /// them: at most 4. It takes no memory.
+    ///
+    /// # Errors
+    ///
+    /// Want of memory.
     pub fn new(alloc: Global, target: Target, keep: u32) -> Result<TargetState, Memory>
         requires { keep ≤ 4 }
         ensures { IfOk result (λ s. StandsFor target (record { keep = keep }) s []) }
@@ -233,6 +237,10 @@ impl TargetState {
     /// than the moment before. Each reading of its page has a point with the start of its series; each
     /// series of the page before that it lacks has a point without a value. Want of memory is the only
     /// error, and changes nothing.
+    ///
+    /// # Errors
+    ///
+    /// Want of memory.
     pub fn step(&mut self, alloc: Global, event: Event) -> Result<Request, Memory>
         requires { HasNextMoment self.old.moment }
         ensures ok { IfOk result (λ request. Steps self.old event request self.new) }
@@ -250,6 +258,10 @@ impl TargetState {
 
     /// What the target shows: its last page, which is empty where that scrape failed or where there was
     /// none, and the moment. The page has one owner more.
+    ///
+    /// # Errors
+    ///
+    /// Want of memory.
     pub fn latest(&self) -> Result<Shown, Memory>
         ensures { IfOk result (ShowsLatest self.now) }
     {

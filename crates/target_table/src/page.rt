@@ -8,8 +8,11 @@ use label_sets::Memory;
 use page_model::Shown;
 use std::alloc::{AllocError, Global};
 
-/// Puts the text of the federation page of what is shown behind what `out` holds. Where there is no memory, `out` holds
-/// what it held.
+/// Puts the text of the federation page of what is shown behind what `out` holds.
+///
+/// # Errors
+///
+/// Want of memory: then `out` holds what it held.
 pub fn write_page(shown: &[Shown], out: &mut Vec<u8>) -> Result<(), Memory>
     requires { AreShowable shown.now }
     ensures ok { OnOk result (out.new.items ≡ out.old.items ++ federated_text shown.now) }

@@ -73,6 +73,10 @@ fn rooms<W: Wire>(
 
 impl<N: RunName, A: Lane, B: Lane, C: Lane, D: Lane, W: Wire> Table<N, A, B, C, D, W> {
     /// The table of the tracks of a run's targets, none of which was visited, and the shares of its lanes.
+    ///
+    /// # Errors
+    ///
+    /// Want of memory: the tracks are given back.
     pub fn new(
         alloc: Global,
         tracks: Vec<Track<W>>,
@@ -167,6 +171,10 @@ impl<N: RunName, A: Lane, B: Lane, C: Lane, D: Lane, W: Wire> Table<N, A, B, C, 
     }
 
     /// What readers see of each target, in order. It may be gathered.
+    ///
+    /// # Errors
+    ///
+    /// Want of memory.
     pub fn shown(&self, alloc: Global) -> Result<Vec<Shown>, Memory>
         ensures shown { IfOk result (λ shown. shown.items ≡ self.now.seen) }
         ensures table { IsTable talking N.run self.now }
@@ -176,9 +184,13 @@ impl<N: RunName, A: Lane, B: Lane, C: Lane, D: Lane, W: Wire> Table<N, A, B, C, 
     }
 
     /// Puts the text of the federation page of what readers see behind what `out` holds, targets in order. Of a target
-    /// that is out they see what they saw when it was taken. Where there is no memory, `out` holds what it held.
+    /// that is out they see what they saw when it was taken.
     ///
     /// What they see may be gathered, so the text reads back as its page (`federation_page::gathered_pages`).
+    ///
+    /// # Errors
+    ///
+    /// Want of memory: then `out` holds what it held.
     pub fn page(&self, out: &mut Vec<u8>) -> Result<(), Memory>
         ensures ok { OnOk result (out.new.items ≡ out.old.items ++ federated_text self.now.seen) }
         ensures err { OnErr result (out.new.items ≡ out.old.items) }

@@ -37,8 +37,11 @@ pub fn length<T: Emit>(value: &T) -> u64
 
 /// Puts a text at the end of `out`.
 ///
-/// `out` grows as the text does. Where there is no memory for that, the answer is [`AllocError`], and
-/// `out` holds what it held.
+/// `out` grows as the text does.
+///
+/// # Errors
+///
+/// Want of memory: then `out` holds what it held.
 #[tactic(auto, using(crate::proofs::Folds::append_folded, crate::proofs::Folds::front_kept))]
 pub fn write<T: Emit>(value: &T, out: &mut Vec<u8>) -> Result<(), AllocError>
     ensures ok { OnOk result (out.new.items ≡ out.old.items ++ T.text value.now) }
@@ -72,7 +75,9 @@ fn emit_line<T: Emit, O: Sink>(value: &T, out: &mut ByteEmitter<Printing<'_, O>>
 
 /// Writes a text and a line feed to an output, as it is made, so that it takes no memory.
 ///
-/// Where a write fails, the answer is [`Failed`]: a front of the text was written, and not all of it.
+/// # Errors
+///
+/// [`Failed`] where a write failed: a front of the text was written, and not all of it.
 pub fn print_line<T: Emit, O: Sink>(value: &T, output: &mut O) -> Result<(), Failed>
     ensures whole { OnOk result (Appends (O.held output.old) (O.held output.new) (T.text value.now ++ codes "\n")) }
     ensures front { OnErr result (WroteFront (O.held output.old) (O.held output.new) (T.text value.now ++ codes "\n")) }

@@ -215,6 +215,10 @@ fn conversion(
 }
 
 /// The command that the words ask for; `None` where they fit no form.
+///
+/// # Errors
+///
+/// Want of memory.
 pub fn command_of(alloc: Global, words: &[String]) -> Result<Option<Command>, AllocError>
     ensures found { IfOk result (λ found. IfSome found (IsCommand (map string_bytes words.now))) }
     ensures none { IfOk result (λ found. IfNone found (FitNoForm (map string_bytes words.now))) }
