@@ -28,7 +28,6 @@ const MOST_SAMPLES: u32 = 200_000;
 const BLOCK_BYTES: usize = 1 << 16;
 
 /// A page that is fed while it is read.
-#[derive(Drop)]
 pub(crate) enum FedPage<G: Grammar> {
     /// It has no fault yet.
     Reading(PageReader<G>),
@@ -47,15 +46,23 @@ impl<G: Grammar> FedPage<G> {
             FedPage::Reading(mut page) => match page.feed(piece) {
                 Ok(()) => Ok(FedPage::Reading(page)),
                 Err(PageFault::Refused { line, rule }) => {
-                    drop(page);
+                    page.leave();
                     Ok(FedPage::Faulty { line, rule })
                 }
                 Err(PageFault::Memory) => {
-                    drop(page);
+                    page.leave();
                     Err(Stop::Memory)
                 }
             },
             FedPage::Faulty { line, rule } => Ok(FedPage::Faulty { line, rule }),
+        }
+    }
+
+    /// Gives the page up, of which nothing is asked any more.
+    fn leave(self) {
+        match self {
+            FedPage::Reading(page) => page.leave(),
+            FedPage::Faulty { line: _, rule: _ } => {}
         }
     }
 
@@ -99,7 +106,7 @@ fn read_page<I: Source, G: Grammar>(
         let count = match input.read(&mut block) {
             Ok(count) => count as usize,
             Err(Failed) => {
-                drop(page);
+                page.leave();
                 return Err(Stop::Read);
             }
         };
@@ -107,7 +114,7 @@ fn read_page<I: Source, G: Grammar>(
             return Ok(page);
         }
         if count > MOST_PAGE_BYTES - taken {
-            drop(page);
+            page.leave();
             return Err(Stop::TooLong);
         }
         taken += count;

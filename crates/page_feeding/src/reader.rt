@@ -270,6 +270,9 @@ impl<G: Grammar> PageReader<G> {
         self.checker
     }
 
+    /// Gives the page up, of which nothing is asked any more.
+    pub fn leave(self) {}
+
     /// Takes what is left of the lines, and gives the checker that took them all.
     fn end(self) -> Result<(Checker, PageEnd), PageFault>
         ensures answer { (t : AnyTreatment) (limit : ℕ) (fed : List ℕ) → Stands G.format t limit fed self → LastAnswer G.format t limit fed result }
@@ -278,7 +281,10 @@ impl<G: Grammar> PageReader<G> {
         let mut page = self;
         match page.read_rest() {
             Ok(end) => Ok((page.into_checker(), end)),
-            Err(fault) => Err(fault),
+            Err(fault) => {
+                page.leave();
+                Err(fault)
+            }
         }
     }
 

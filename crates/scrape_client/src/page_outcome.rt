@@ -62,7 +62,7 @@ fn read_page<G: Grammar>(alloc: Global, bytes: &[u8], limit: u32) -> Result<Page
     match page.feed(bytes) {
         Ok(()) => page.finish(),
         Err(fault) => {
-            drop(page);
+            page.leave();
             Err(fault)
         }
     }

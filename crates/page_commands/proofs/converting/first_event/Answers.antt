@@ -8,5 +8,5 @@ use Rattle.page_commands.proofs.converting.first_event.Goals as goal
 
 pub returns : goal.returns
 returns c =
-    subst (λ (t : Scraped). IfOk c.step.result (λ request. request ≡ event_request t (moment_after None c.args.nanos) (Page c.args.page)))
-    (c.in_ok-state.ensures.target_is ∙ c.in_ok-target.ensures) (c.step.ensures.first c.in_ok-state.ensures.moment_is)
+    subst (λ (t : Scraped). IfOk c.step-request.result (λ request. request ≡ event_request t (moment_after None c.args.nanos) (Page c.args.page)))
+    (c.in_ok-state.ensures.target_is ∙ c.in_ok-target.ensures) (c.step-request.ensures.first c.in_ok-state.ensures.moment_is)
