@@ -33,7 +33,9 @@ ghost use Rattle.scraper_pool.specs.Turns.{run_of};
 mod asked;
 
 use crate::asked::number;
-use bridge_ports::{Address, End, Failed, MemoryReply, MemoryWire, Place, Settings, Target, Wire};
+use bridge_ports::{
+    Address, End, Failed, MemoryReply, MemoryWire, Notice, Place, Settings, Target, Wire,
+};
 use label_sets::{Bytes, List, Memory, Text};
 use scraper_pool::{TableFault, Track, run_targets};
 use series_table::TrackFault;
@@ -91,6 +93,10 @@ impl<R: Clock + Sync> Wire for SlowWire<'_, R> {
 
     fn leave(&mut self) {
         self.wire.leave()
+    }
+
+    fn notice(&mut self, notice: Notice) {
+        self.wire.notice(notice)
     }
 }
 

@@ -1,7 +1,10 @@
 //! The program `bridge`: hands its words, the world of the machine, standard input and standard output to the
-//! library, and ends with the status that comes back.
+//! library, says why where it did not go well, and ends with the status that comes back.
 #![tactic(auto)]
 
+mod ending;
+
+use crate::ending::Ending;
 use bridge_ports::std_edge::{StdSink, StdSource};
 use bridge_program::bridge;
 use program_words::Status;
@@ -28,17 +31,27 @@ fn main(rt: HostRuntime) -> ExitCode {
         Err(_) => Ok(Vec::new(rt.alloc())),
     };
     let Ok(words) = words else {
+        let _ = eprintln!(rt; "bridge: there was not enough memory");
         return ExitCode::from(Status::WantOfMemory.code());
     };
     let mut world = StdWorld::new(rt, rt.alloc());
     let mut input = StdSource::new(rt.stdin());
     let mut output = StdSink::new(rt.stdout());
-    ExitCode::from(bridge(
+    let status = bridge(
         &rt,
         rt.alloc(),
         words.as_slice(),
         &mut world,
         &mut input,
         &mut output,
-    ))
+    );
+    let ending = Ending {
+        words: words.as_slice(),
+        input: input.reason(),
+        output: output.reason(),
+        file: world.reason(),
+        broken_at: world.broken_at(),
+    };
+    ending.say(&rt, status);
+    ExitCode::from(status)
 }

@@ -3,6 +3,7 @@
 #![tactic(auto)]
 
 mod addresses;
+mod broken;
 mod config;
 mod config_laws;
 mod fault;
@@ -16,6 +17,7 @@ mod reading;
 mod tables;
 mod values;
 
+pub use broken::broken_at;
 pub use config::Config;
 pub use config_laws::{configs_are_right, numbers_are_right};
 pub use fault::{ConfigFault, Product};

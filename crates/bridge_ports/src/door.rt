@@ -29,4 +29,8 @@ pub trait Door: Send + Drop {
         requires { (door self.old).out ≡ true }
         ensures { door self.new ≡ closed_with (Self.Conn.read_faults conn)
             (Self.Conn.write_faults conn) (door self.old) };
+
+    /// Says that no connection will be asked for any more, so that a peer that comes then need not be kept waiting.
+    fn shut(&mut self)
+        ensures { door self.new ≡ door self.old };
 }

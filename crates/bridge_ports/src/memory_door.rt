@@ -172,6 +172,9 @@ impl Door for MemoryDoor {
         self.broken_reads += broken_count(conn.source.faults());
         self.broken_writes += broken_count(conn.sink.faults());
     }
+
+    /// Nobody waits in memory.
+    fn shut(&mut self) {}
 }
 
 // A count that isn't 0 counts once.

@@ -7,11 +7,11 @@ ghost use Rattle.bridge_ports.specs.declared.talk.End.TheVariants.{ConnectFailed
 ghost use Rattle.bridge_ports.specs.declared.talk.Stage.TheVariants as stages;
 ghost use Rattle.bridge_ports.specs.Talks.{made_ready, begun_at, sent_on, after_read, failed_at, left_at};
 
-use crate::Failed;
 use crate::copy_front::copy_front;
 use crate::kept::{Kept, KeptTalks};
 use crate::talk::{End, MemoryReply, Place, Stage};
 use crate::wire::Wire;
+use crate::{Failed, Notice};
 use label_sets::{List, Memory};
 use std::alloc::{AllocError, Global};
 use std::marker::Model;
@@ -363,4 +363,7 @@ impl Wire for MemoryWire {
             self.end_talk(End::Left);
         }
     }
+
+    /// Keeps nothing of it.
+    fn notice(&mut self, _notice: Notice) {}
 }

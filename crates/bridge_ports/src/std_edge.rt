@@ -7,7 +7,7 @@ ghost use Rattle.bridge_ports.specs.Causes.{HasCause};
 ghost use Rattle.bridge_ports.specs.Edges.{untold};
 ghost use Rattle.bridge_ports.specs.InMemory.{one_more};
 
-use crate::{Failed, Sink, Source};
+use crate::{Failed, Reason, Sink, Source};
 use std::io::{ErrorKind, Read, Write};
 use std::marker::Model;
 
@@ -19,6 +19,7 @@ pub const MOST_TRIES: u32 = 100;
 pub struct StdSource<R> {
     reader: R,
     faults: u64,
+    reason: Reason,
 }
 
 impl<R> Model for StdSource<R> {
@@ -34,7 +35,16 @@ impl<R> StdSource<R> {
     pub fn new(reader: R) -> StdSource<R>
         ensures { result ≡ record { stream = reader; faults = 0 } }
     {
-        StdSource { reader, faults: 0 }
+        StdSource {
+            reader,
+            faults: 0,
+            reason: Reason::Other,
+        }
+    }
+
+    /// Why its last read failed that did.
+    pub fn reason(&self) -> Reason {
+        self.reason
     }
 }
 
@@ -63,6 +73,7 @@ impl<R: Read> Source for StdSource<R> {
             match self.reader.read(&mut into[..most]) {
                 Ok(count) => return Ok(count as u32),
                 Err(error) => {
+                    self.reason = Reason::of(error.kind());
                     if error.kind() != ErrorKind::Interrupted {
                         break;
                     }
@@ -79,6 +90,7 @@ impl<R: Read> Source for StdSource<R> {
 pub struct StdSink<W> {
     writer: W,
     faults: u64,
+    reason: Reason,
 }
 
 impl<W> Model for StdSink<W> {
@@ -95,7 +107,16 @@ impl<W> StdSink<W> {
     pub fn new(writer: W) -> StdSink<W>
         ensures { result ≡ record { stream = writer; faults = 0 } }
     {
-        StdSink { writer, faults: 0 }
+        StdSink {
+            writer,
+            faults: 0,
+            reason: Reason::Other,
+        }
+    }
+
+    /// Why its last write failed that did.
+    pub fn reason(&self) -> Reason {
+        self.reason
     }
 }
 
@@ -126,6 +147,7 @@ impl<W: Write> Sink for StdSink<W> {
                 Ok(0) if most > 0 => break,
                 Ok(count) => return Ok(count as u32),
                 Err(error) => {
+                    self.reason = Reason::of(error.kind());
                     if error.kind() != ErrorKind::Interrupted {
                         break;
                     }

@@ -6,7 +6,7 @@ ghost use Rattle.bridge_ports.specs.declared.talk.End.TheVariants.{ConnectFailed
 ghost use Rattle.bridge_ports.specs.declared.talk.Stage.TheVariants as stages;
 ghost use Rattle.bridge_ports.specs.Talks.{WireState, made_ready, begun_at, sent_on, after_read, failed_at, left_at};
 
-use crate::Failed;
+use crate::{Failed, Notice};
 use label_sets::Memory;
 use std::alloc::Global;
 
@@ -62,4 +62,8 @@ pub trait Wire: Send {
     /// Leaves the talk, where one is under way.
     fn leave(&mut self)
         ensures { state self.new ≡ left_at (state self.old).stage (state self.old) };
+
+    /// Takes what a visit of its target came to. It takes no memory and can't fail.
+    fn notice(&mut self, notice: Notice)
+        ensures { state self.new ≡ state self.old };
 }

@@ -8,7 +8,7 @@ ghost use Rattle.bridge_ports.specs.Doors.{new_door};
 ghost use Rattle.bridge_ports.specs.Worlds.{WorldState, Given, KeepsComing, IsHome, KeepsOthers, FileReads, with_file_open, with_no_file_open, with_back_door, with_shelved_pair};
 
 use crate::memory_wire::MemoryWire;
-use crate::{Address, Door, Failed, Wire};
+use crate::{Address, Door, Failed, RunNotice, Wire};
 use label_sets::{Memory, Text};
 use std::alloc::Global;
 
@@ -59,13 +59,14 @@ pub trait World {
         ensures given { given self.new ≡ given self.old }
         ensures coming { coming self.new ≡ coming self.old };
 
-    /// Hands out the pair of wires of this number, to these addresses.
+    /// Hands out the pair of wires of this number, to these addresses. Scrapes are due so many nanoseconds apart.
     fn wires(
         &mut self,
         alloc: Global,
         number: u32,
         scrape: &Address,
         post: &Address,
+        interval: u64,
     ) -> Result<(Self::Wire, Self::Wire), Memory>
         requires { IsSome (home self.old number) }
         ensures pair { IfOk result (λ pair. home self.old number ≡ Some pair) }
@@ -123,6 +124,14 @@ pub trait World {
         requires post { post.stage ≡ stages.Idle }
         ensures done { OnOk result (world self.new ≡ with_shelved_pair scrape post (world self.old)) }
         ensures refused { OnErr result (world self.new ≡ world self.old) }
+        ensures files { files self.new ≡ files self.old }
+        ensures home { home self.new ≡ home self.old }
+        ensures given { given self.new ≡ given self.old }
+        ensures coming { coming self.new ≡ coming self.old };
+
+    /// Takes what is told of a run. It takes no memory and can't fail.
+    fn notice(&mut self, notice: RunNotice)
+        ensures world { world self.new ≡ world self.old }
         ensures files { files self.new ≡ files self.old }
         ensures home { home self.new ≡ home self.old }
         ensures given { given self.new ≡ given self.old }

@@ -4,13 +4,16 @@ ghost use Rattle.bridge_config.specs.ConfigFaults.{IsConfiguration};
 ghost use Rattle.config_file.specs.ConfigFiles.{HoldsWhole, HoldsConfig, StopsAtFile, IsFileAsked, LeavesFile, left_of};
 
 use crate::file_stop::FileStop;
-use bridge_config::{Config, read};
-use bridge_ports::World;
+use bridge_config::{Config, ConfigFault, broken_at, read};
+use bridge_ports::{RunNotice, World};
 use label_sets::Text;
 use std::alloc::Global;
 
 /// The most bytes of a configuration: 1 MiB.
 const MOST_CONFIG_BYTES: usize = 1 << 20;
+
+/// The nanoseconds of a millisecond.
+const NANOS: u64 = 1_000_000;
 
 /// The most bytes that one read takes.
 const BLOCK_BYTES: usize = 1 << 16;
@@ -59,9 +62,23 @@ fn bytes_in<W: World>(alloc: Global, path: Text, world: &mut W) -> Result<Vec<u8
     }
 }
 
+/// What is told of the bytes of a file, which are this configuration or have this fault.
+fn told(alloc: Global, bytes: &[u8], config: &Result<Config, ConfigFault>) -> RunNotice {
+    match config {
+        Ok(config) => RunNotice::Begun {
+            targets: config.targets.len().min(u32::MAX as usize) as u32,
+            interval_ms: config.settings.interval / NANOS,
+        },
+        Err(ConfigFault::Toml) => RunNotice::Faulty {
+            broken_at: broken_at(alloc, bytes),
+        },
+        Err(_) => RunNotice::Faulty { broken_at: None },
+    }
+}
+
 /// The configuration in the file of a path. The file is read to its end, or up to a read that takes more than 1 MiB.
 /// It answers [`FileStop::Read`] exactly where the world's count of faults of files rose; nothing else of the world
-/// changes.
+/// changes. The world is told that the run of a configuration begins, or where a document is none of TOML.
 ///
 /// # Errors
 ///
@@ -78,5 +95,7 @@ pub fn config_in<W: World>(alloc: Global, path: Text, world: &mut W) -> Result<C
     ensures coming { W.coming world.new ≡ W.coming world.old }
 {
     let bytes = bytes_in(alloc, path, world)?;
-    Ok(read(alloc, bytes.as_slice())?)
+    let config = read(alloc, bytes.as_slice());
+    world.notice(told(alloc, bytes.as_slice(), &config));
+    Ok(config?)
 }

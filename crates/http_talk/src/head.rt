@@ -1,10 +1,9 @@
 //! The head of a reply, read by `httparse` from its first bytes until it is there.
-ghost use Rattle.std.specs.Prelude.{◌≡◌, ℕ, ◌≤◌, List, length, take};
-ghost use Rattle.httparse.specs.Spans.{ResponseOverflows};
-ghost use Rattle.httparse.specs.declared.spans.HeaderSpan.{HeaderSpan as AnySpan};
+ghost use Rattle.std.specs.Prelude.{◌≡◌, ℕ, List, length, take};
 ghost use Rattle.http_talk.specs.HeadFeeding.{IsParsed, IsFoundWithin, IsHeadOf};
 ghost use Rattle.http_talk.specs.Heads.{Shows, head_limit, field_limit};
 
+use crate::long_head::parse_long_head;
 use crate::seen::HeadSeen;
 use httparse::spans::{EMPTY_HEADER_SPAN, HeaderSpan, ResponseSpans, parse_response};
 use httparse::{Error, Status};
@@ -25,8 +24,7 @@ pub(crate) const MOST_FIELDS: usize = 64;
 
 /// What these bytes say of a head.
 fn parse_head(bytes: &[u8], spans: &mut [HeaderSpan]) -> Head
-    requires short { length bytes.now ≤ head_limit }
-    requires room { length spans.old ≡ field_limit }
+    requires { length spans.old ≡ field_limit }
     ensures { IsParsed bytes.now spans.new result }
 {
     match parse_response(bytes, spans) {
@@ -37,25 +35,9 @@ fn parse_head(bytes: &[u8], spans: &mut [HeaderSpan]) -> Head
     }
 }
 
-/// The same where a head at the front has more than 64 fields. The table has room for every field that
-/// so many bytes can hold.
-fn parse_long_head(bytes: &[u8]) -> Head
-    requires short { length bytes.now ≤ head_limit }
-    requires many { ResponseOverflows field_limit bytes.now }
-    ensures { (spans : List AnySpan) → IsParsed bytes.now spans result }
-{
-    let mut spans = [EMPTY_HEADER_SPAN; 8_192];
-    match parse_response(bytes, &mut spans) {
-        Ok(Status::Complete(_)) => Head::Bad,
-        Ok(Status::Partial) => Head::More,
-        Err(_) => Head::Bad,
-    }
-}
-
 /// What the bytes got say of a head, by the first of them, as many as a head may have.
 pub(crate) fn head_of(front: &[u8], spans: &mut [HeaderSpan]) -> Head
-    requires short { length front.now ≤ head_limit }
-    requires room { length spans.old ≡ field_limit }
+    requires { length spans.old ≡ field_limit }
     ensures within { IsFoundWithin front.now spans.new result }
     ensures head { (got : List ℕ) → front.now ≡ take head_limit got → IsHeadOf got front.now spans.new result }
 {

@@ -6,6 +6,7 @@ mod chunk_reader;
 mod fault;
 mod head;
 mod head_facts;
+mod long_head;
 mod part;
 mod reply;
 pub mod reply_laws;

@@ -11,8 +11,8 @@ use crate::keyed::{Keyed, place_of};
 use crate::memory_files::MemoryFiles;
 use crate::memory_pairs::MemoryPairs;
 use bridge_ports::{
-    Address, Door, Failed, MemoryDoor, MemoryFile, MemoryListen, MemoryPair, MemoryWire, Shelved,
-    World,
+    Address, Door, Failed, MemoryDoor, MemoryFile, MemoryListen, MemoryPair, MemoryWire, RunNotice,
+    Shelved, World,
 };
 use label_sets::{List, Memory, Text};
 use std::alloc::Global;
@@ -227,6 +227,7 @@ impl World for MemoryWorld {
         number: u32,
         scrape: &Address,
         post: &Address,
+        _interval: u64,
     ) -> Result<(MemoryWire, MemoryWire), Memory> {
         match self.pairs.hand_out(alloc, number, scrape, post) {
             Ok(wires) => Ok((wires.scrape, wires.post)),
@@ -279,6 +280,9 @@ impl World for MemoryWorld {
         self.shelf.push_reserved(Shelved { scrape, post });
         Ok(())
     }
+
+    /// Keeps nothing of it.
+    fn notice(&mut self, _notice: RunNotice) {}
 
     fn has_shelf(&self) -> bool {
         // Looked at so that its proof sees it.

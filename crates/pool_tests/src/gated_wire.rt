@@ -1,7 +1,7 @@
 //! Wires in memory whose reads wait for one another. Contracts see no gate: such a wire is the wire in memory in it.
 ghost use Rattle.bridge_ports.specs.Plans.{seen_of};
 
-use bridge_ports::{Failed, MemoryWire, Wire};
+use bridge_ports::{Failed, MemoryWire, Notice, Wire};
 use label_sets::Memory;
 use std::alloc::Global;
 use std::sync::atomic::{AtomicBool, Ordering};
@@ -90,5 +90,9 @@ impl<R: Clock + Sync> Wire for GatedWire<'_, R> {
 
     fn leave(&mut self) {
         self.wire.leave()
+    }
+
+    fn notice(&mut self, notice: Notice) {
+        self.wire.notice(notice)
     }
 }

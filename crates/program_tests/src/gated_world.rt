@@ -5,7 +5,7 @@ ghost use Rattle.bridge_ports.specs.Plans.{MemoryState, seen_of};
 ghost use Rattle.bridge_ports.specs.MemoryWorlds.{MemoryWorldState};
 ghost use Rattle.memory_world.specs.WorldParts.{coming_in, files_of, given_in, home_of};
 
-use bridge_ports::{Address, Failed, MemoryDoor, MemoryWire, Wire, World};
+use bridge_ports::{Address, Failed, MemoryDoor, MemoryWire, Notice, RunNotice, Wire, World};
 use label_sets::{Memory, Text};
 use memory_world::MemoryWorld;
 use std::alloc::Global;
@@ -126,6 +126,10 @@ impl<R: Clock + Sync> Wire for GatedWire<'_, R> {
     fn leave(&mut self) {
         self.wire.leave()
     }
+
+    fn notice(&mut self, notice: Notice) {
+        self.wire.notice(notice)
+    }
 }
 
 /// A world in memory, of whose wires those for scrapes of the first two targets have gates.
@@ -180,8 +184,9 @@ impl<'a, R: Clock + Sync> World for GatedWorld<'a, R> {
         number: u32,
         scrape: &Address,
         post: &Address,
+        interval: u64,
     ) -> Result<(GatedWire<'a, R>, GatedWire<'a, R>), Memory> {
-        match self.world.wires(alloc, number, scrape, post) {
+        match self.world.wires(alloc, number, scrape, post, interval) {
             Ok((scrape, post)) => Ok((
                 GatedWire {
                     wire: scrape,
@@ -215,6 +220,10 @@ impl<'a, R: Clock + Sync> World for GatedWorld<'a, R> {
         post: MemoryWire,
     ) -> Result<(), Memory> {
         self.world.shelve(alloc, scrape, post)
+    }
+
+    fn notice(&mut self, notice: RunNotice) {
+        self.world.notice(notice)
     }
 
     fn has_shelf(&self) -> bool {

@@ -13,6 +13,8 @@ mod inputs;
 #[cfg(test)]
 mod loads;
 #[cfg(test)]
+mod nearest_words;
+#[cfg(test)]
 mod overlap;
 #[cfg(test)]
 mod shelves;

@@ -3,6 +3,7 @@
 
 mod digits;
 mod limits;
+mod nearest;
 mod status;
 mod stop;
 mod stop_texts;
@@ -10,6 +11,7 @@ mod usage;
 mod words;
 
 pub use digits::push_number;
+pub use nearest::nearest_form;
 pub use status::{Status, end_code};
 pub use stop::Stop;
 pub use stop_texts::stop_text;

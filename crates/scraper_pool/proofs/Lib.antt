@@ -1,3 +1,4 @@
 mod Counted
 mod Federated
+mod Homes
 mod Served

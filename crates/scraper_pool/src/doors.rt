@@ -44,9 +44,9 @@ impl<N: RunName, A: Lane, B: Lane, C: Lane, D: Lane, W: Wire> Pool<N, A, B, C, D
         }
     }
 
-    /// Serves so many connections of a door, and ends at the first that it can't hand out. It gives the door back, and
-    /// how many connections were answered.
-    pub(crate) fn serve_door<K: Conn, E: Door<Conn = K>, R: Wait>(
+    // Serves so many connections of a door, and ends at the first that it can't hand out. It gives the door back, and
+    // how many connections were answered.
+    fn serve_pages<K: Conn, E: Door<Conn = K>, R: Wait>(
         &self,
         rt: &R,
         alloc: Global,
@@ -64,6 +64,22 @@ impl<N: RunName, A: Lane, B: Lane, C: Lane, D: Lane, W: Wire> Pool<N, A, B, C, D
                 Err(Failed) => return (door, served),
             }
         }
+        (door, served)
+    }
+
+    /// The same, and shuts the door behind the last of them, which may be long before the run ends.
+    pub(crate) fn serve_door<K: Conn, E: Door<Conn = K>, R: Wait>(
+        &self,
+        rt: &R,
+        alloc: Global,
+        door: E,
+        pages: u32,
+    ) -> (E, u32)
+        requires { IsUnopened (E.door door) }
+        ensures { HasServed pages (E.door door) (E.door result.0) result.1 }
+    {
+        let (mut door, served) = self.serve_pages(rt, alloc, door, pages);
+        door.shut();
         (door, served)
     }
 }

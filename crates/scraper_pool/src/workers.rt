@@ -100,6 +100,36 @@ impl<
         )
     }
 
+    // The work of all lanes.
+    fn work_lanes<R: Threads + Wait + Sync>(
+        &self,
+        rt: &R,
+        alloc: Global,
+        shares: Shares<A, B, C, D>,
+        scrapers: u32,
+    ) -> Shares<A, B, C, D>
+        requires a { IsFreeLane A.all A.parts shares.a.held }
+        requires b { IsFreeLane B.all B.parts shares.b.held }
+        requires c { IsFreeLane C.all C.parts shares.c.held }
+        requires d { IsFreeLane D.all D.parts shares.d.held }
+        ensures a { IsWork (nat_lt 0 scrapers) (seated shares.a.held shares.a.taken shares.a.idle) (seated result.a.held result.a.taken result.a.idle) }
+        ensures b { IsWork (nat_lt 1 scrapers) (seated shares.b.held shares.b.taken shares.b.idle) (seated result.b.held result.b.taken result.b.idle) }
+        ensures c { IsWork (nat_lt 2 scrapers) (seated shares.c.held shares.c.taken shares.c.idle) (seated result.c.held result.c.taken result.c.idle) }
+        ensures d { IsWork (nat_lt 3 scrapers) (seated shares.d.held shares.d.taken shares.d.idle) (seated result.d.held result.d.taken result.d.idle) }
+    {
+        let Shares { a, b, c, d } = shares;
+        let (a, (b, (c, d))) = join(
+            rt,
+            || -> Share<First, A>
+                requires { IsSync R.row × IsFreeLane A.all A.parts a.held }
+            { self.work(rt, alloc, a, 0 < scrapers) },
+            || -> (Share<Second, B>, (Share<Third, C>, Share<Fourth, D>))
+                requires { IsSync R.row × IsFreeLane B.all B.parts b.held × IsFreeLane C.all C.parts c.held × IsFreeLane D.all D.parts d.held }
+            { self.work_later(rt, alloc, b, c, d, scrapers) },
+        );
+        Shares { a, b, c, d }
+    }
+
     /// Has as many workers as `scrapers` says, but at most four, take turns until they find none to take. Each has a
     /// lane of its own, and gives the lane's share back.
     pub(crate) fn work_all<R: Threads + Wait + Sync>(
@@ -119,17 +149,7 @@ impl<
         ensures d { IsWork (nat_lt 3 scrapers) (seated shares.d.held shares.d.taken shares.d.idle) (seated result.d.held result.d.taken result.d.idle) }
         ensures home { (result.a.held ≡ 0) × (result.b.held ≡ 0) × (result.c.held ≡ 0) × (result.d.held ≡ 0) }
     {
-        let Shares { a, b, c, d } = shares;
-        let (a, (b, (c, d))) = join(
-            rt,
-            || -> Share<First, A>
-                requires { IsSync R.row × IsFreeLane A.all A.parts a.held }
-            { self.work(rt, alloc, a, 0 < scrapers) },
-            || -> (Share<Second, B>, (Share<Third, C>, Share<Fourth, D>))
-                requires { IsSync R.row × IsFreeLane B.all B.parts b.held × IsFreeLane C.all C.parts c.held × IsFreeLane D.all D.parts d.held }
-            { self.work_later(rt, alloc, b, c, d, scrapers) },
-        );
-        Shares { a, b, c, d }
+        self.work_lanes(rt, alloc, shares, scrapers)
     }
 
     /// The work of all lanes, and beside it that of a door, where one is given: so many of its connections are served.

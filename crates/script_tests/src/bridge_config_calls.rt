@@ -1,5 +1,7 @@
 //! Tests of `bridge_config`.
-use bridge_config::{Config, ConfigFault, configs_are_right, numbers_are_right, push_line, read};
+use bridge_config::{
+    Config, ConfigFault, broken_at, configs_are_right, numbers_are_right, push_line, read,
+};
 use label_sets::Memory;
 use std::alloc::Global;
 use std::test::Fail;
@@ -159,4 +161,17 @@ fn many_targets(rt: HostRuntime) -> Result<(), Fail> {
     let text = many(rt.alloc(), "sample_limit = 181818\n", 11)?;
     assert!(rt; is_read(rt.alloc(), text.as_slice()));
     Ok(())
+}
+
+#[test]
+fn a_document_is_broken_at_a_place(rt: HostRuntime) {
+    const ROWS: &[(&[u8], Option<(u32, u32)>)] = &[
+        (b"", None),
+        (b"rounds = 1\n", None),
+        (b"= 1\n", Some((1, 1))),
+        (b"a = 1\n\"\xc3\xa4\" = x\n", Some((2, 7))),
+    ];
+    for (bytes, place) in ROWS {
+        assert!(rt; broken_at(rt.alloc(), bytes) == *place);
+    }
 }

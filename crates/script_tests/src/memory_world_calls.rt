@@ -73,7 +73,7 @@ fn is_home(alloc: Global, world: &mut MemoryWorld) -> Result<[bool; 3], Memory>
 {
     let to = address(alloc)?;
     let before = world.home(7).is_some();
-    let (scrape, post) = world.wires(alloc, 7, &to, &to)?;
+    let (scrape, post) = world.wires(alloc, 7, &to, &to, 0)?;
     let out = world.home(7).is_some();
     world.back(7, scrape, post);
     Ok([before, out, world.home(7).is_some()])
@@ -91,9 +91,9 @@ fn shelved(alloc: Global, world: &mut MemoryWorld) -> Result<usize, Memory>
     requires { world.old.pairs ≡ [] }
 {
     let to = address(alloc)?;
-    let (scrape, post) = world.wires(alloc, 7, &to, &to)?;
+    let (scrape, post) = world.wires(alloc, 7, &to, &to, 0)?;
     world.back(7, scrape, post);
-    let (scrape, post) = world.wires(alloc, 7, &to, &to)?;
+    let (scrape, post) = world.wires(alloc, 7, &to, &to, 0)?;
     world.shelve(alloc, scrape, post)?;
     Ok(world.shelf().len())
 }

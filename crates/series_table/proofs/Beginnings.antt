@@ -15,6 +15,7 @@ use Rattle.series_table.specs.Counting.{visit_counts}
 use Rattle.series_table.specs.Records.{IsFresh, IsTrack, IsShownOf, BodiesOf}
 use Rattle.series_table.specs.Keeping.{followed_by, kept_by}
 use Rattle.series_table.proofs.Shows.{shows_nothing}
+use Rattle.series_table.proofs.FewRows.{few_rows_behind}
 
 no_talks : (told : Option (List Talk)) (talks : List Talk) → IfSome told (λ ts. ts ≡ []) → told ≡ Some talks → [] ≡ talks
 no_talks None talks h e = absurd (none-some talks e)
@@ -45,6 +46,7 @@ new_track w aim s p f shown counts law ranges scrape post stands shows counted =
         stands = λ e. stands;
         bodies = λ scrapes posts a b. subst (λ ts. BodiesOf w followed 0 ts posts [] []) (no_talks _ scrapes scrape.untold a) (subst (λ ts. BodiesOf w followed 0 [] ts [] []) (no_talks _ posts post.untold b) (nothing_posted w followed));
       };
+      few_rows = few_rows_behind followed f [] stands tt;
       shows = subst (IsShownOf followed) (sym shows) (shows_nothing followed law);
       second_shows = tt;
       unvisited = λ e. refl;

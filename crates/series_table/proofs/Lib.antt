@@ -3,6 +3,7 @@ pub mod Histories
 pub mod Halting
 pub mod Tallies
 pub mod Shows
+pub mod FewRows
 pub mod Takings
 pub mod Beginnings
 pub mod Visits

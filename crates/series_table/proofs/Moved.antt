@@ -22,6 +22,7 @@ track-without_second w k h = record {
   scrape_wire = h.scrape_wire;
   post_wire = h.post_wire;
   history = record_stays w k h.history;
+  few_rows = h.few_rows;
   shows = h.shows;
   second_shows = tt;
   unvisited = λ e. refl;

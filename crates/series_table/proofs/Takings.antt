@@ -13,7 +13,7 @@ use Rattle.series_table.specs.declared.aim.Aim.{Aim}
 use Rattle.series_table.specs.declared.making.Taken.{Taken}
 use Rattle.series_table.specs.declared.making.Prepared.{Prepared}
 use Rattle.series_table.specs.Counting.{has_failed}
-use Rattle.series_table.specs.Making.{TookEvent, IsOfTaken, IsPrepared, point_counts, whole_request}
+use Rattle.series_table.specs.Making.{TookEvent, TookAtMostOne, IsOfTaken, IsPrepared, point_counts, whole_request}
 use Rattle.series_table.proofs.Shows.{page_within, keys_differ}
 
 one_talk : (limit most : ℕ) (to : Address) (e : Event) (a b : Option ToldTalks) → Tells (GrewByEvent limit most to e) a b → Tells GrewByOne a b
@@ -37,6 +37,10 @@ takes aim old new before after event taken distinct nothing scrape steps failed 
       failed = failed;
       steps = λ t earlier stands. steps aim.target t earlier stands (keys_differ aim.settings.limit (page_of_outcome event.outcome) distinct page);
     }
+
+-- that was one event
+pub took_one : (aim : Aim) (old new : WireState) (before after : Following) (taken : Taken) (event : Event) → TookEvent aim old new before after taken event → TookAtMostOne aim before after
+took_one aim old new before after taken event took = inr (event, took.page, λ t earlier stands. (took.steps t earlier stands).1)
 
 -- all was made
 pub prepares : (aim : Aim) (old new post_old post_new : WireState) (before after : Following) (event : Event) (taken : Taken) (p : Prepared) → TookEvent aim old new before after taken event → IsOfTaken aim.to taken after p

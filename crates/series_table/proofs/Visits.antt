@@ -27,6 +27,7 @@ use Rattle.series_table.proofs.Histories.{event_fits, run_fits, all_counted, vis
 use Rattle.series_table.proofs.Halting.{same_plans}
 use Rattle.series_table.proofs.Tallies.{counts_rise, same_tally, visits_rise}
 use Rattle.series_table.proofs.Shows.{shows_event}
+use Rattle.series_table.proofs.FewRows.{few_rows_behind}
 
 -- the talks of a post wire that was made ready and used
 tried : (most room : ℕ) (text : List ℕ) (p m p1 : WireState) (last : Try) → m ≡ made_ready most room p → Tells (GrewByRun most text last) m.told p1.told → Tells (GrewByRun most text last) p.told p1.told
@@ -121,6 +122,7 @@ goes_on aim s0 s1 p0 p1 f0 f1 shown second counts made event last x =
         stands = λ e. m.stands;
         bodies = λ scrapes posts a b. bodies_of aim s0 s1 p0 p1 f0 f1 shown second counts made event last x scrapes posts a b;
       };
+      few_rows = few_rows_behind f f1 (event ∷ r.events) m.stands (x.prepared.page, r.pages);
       shows = shows;
       second_shows = subst (IsShownOf f) (sym x.prepared.second) shows;
       unvisited = λ none. absurd (let more = visits_rise counts x.few in omega (arith, more, none));

@@ -3,6 +3,7 @@
 
 mod aim;
 mod counts;
+mod faults;
 mod making;
 mod point_counts;
 mod post_text;

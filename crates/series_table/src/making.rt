@@ -9,9 +9,10 @@ ghost use Rattle.series_table.specs.Counting as counting;
 ghost use Rattle.series_table.specs.Making.{due_after, whole_request, TakesEvent, ShowsTwice, IsOfTaken, Prepares};
 
 use crate::aim::Aim;
+use crate::faults::told_scrape;
 use crate::point_counts::{PointCounts, of_tree};
 use crate::post_text::PostText;
-use bridge_ports::{Address, Wire};
+use bridge_ports::{Address, TalkFault, Wire};
 use label_sets::Memory;
 use otlp_json::write;
 use otlp_tree::Request;
@@ -26,6 +27,7 @@ pub(crate) struct Taken {
     tree: Request,
     reading: u64,
     failed: bool,
+    fault: Option<TalkFault>,
 }
 
 /// All that the posts of a visit, and its end, need.
@@ -34,6 +36,8 @@ pub(crate) struct Prepared {
     /// The reading of the clock at the scrape, in nanoseconds since the Unix epoch.
     pub(crate) reading: u64,
     pub(crate) failed: bool,
+    /// Why the scrape failed, as it is told.
+    pub(crate) fault: Option<TalkFault>,
     pub(crate) points: PointCounts,
     /// The request that is posted.
     pub(crate) text: PostText,
@@ -88,11 +92,13 @@ fn take_event<W: Wire>(
     };
     let reading = event.reading;
     let failed = has_failed(&event);
+    let fault = told_scrape(&event);
     match state.step(alloc, event) {
         Ok(tree) => Ok(Taken {
             tree,
             reading,
             failed,
+            fault,
         }),
         Err(AllocError) => Err(AllocError),
     }
@@ -138,6 +144,7 @@ fn all_made(
     Ok(Prepared {
         reading: taken.reading,
         failed: taken.failed,
+        fault: taken.fault,
         points: of_tree(&taken.tree),
         text,
         shown,

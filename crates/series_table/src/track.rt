@@ -10,9 +10,10 @@ ghost use Rattle.series_table.specs.Records.{IsBodyOf, IsFree, IsFresh, IsNew, I
 
 use crate::aim::Aim;
 use crate::counts::Counts;
+use crate::faults::told_body;
 use crate::making::{due_after, prepare};
 use crate::visited::Visited;
-use bridge_ports::{Address, Settings, Target, Wire};
+use bridge_ports::{Address, BodyFault, Notice, Settings, TalkFault, Target, Wire};
 use label_sets::Memory;
 use otlp_sender::post_parts;
 use page_model::{Shown, page_laws};
@@ -36,6 +37,10 @@ pub struct Track<W: Wire> {
     halted: bool,
     /// How long the last body was, in bytes: the next one mostly is about as long.
     last_len: usize,
+    /// Why the scrape of the last visit failed, where it did.
+    scrape_fault: Option<TalkFault>,
+    /// Why the body of the last visit was not taken, where it was not.
+    body_fault: Option<BodyFault>,
 }
 
 /// Why there is no track.
@@ -105,6 +110,8 @@ impl<W: Wire> Track<W> {
                 counts: Counts::NONE,
                 halted: false,
                 last_len: 0,
+                scrape_fault: None,
+                body_fault: None,
             }),
             Err(_) => Err(TrackFault::Memory(scrape, post)),
         }
@@ -114,16 +121,34 @@ impl<W: Wire> Track<W> {
     /// takes memory comes before the posts. The first visit is due at once, and each later one `interval` behind
     /// the one before, from the reading of the first on. `Halted` stands for want of memory, in this visit or an
     /// earlier one: then nothing of this visit was posted, it is not counted, what is shown stays, and every later
-    /// visit does nothing.
+    /// visit does nothing. The wire of its scrapes is told what the visit came to.
     pub fn visit(&mut self, alloc: Global) -> Visited
         requires { self.old.counts.visits < most_visits }
         ensures visit { Visits talking self.old self.new result }
         ensures sentence { PostsWhatItsTalksTell talking self.new }
     {
         match self.next_body(alloc) {
-            Some(_) => Visited::Done,
-            None => Visited::Halted,
+            Some(_) => {
+                let notice = Notice::Visited {
+                    scrape: self.scrape_fault,
+                    body: self.body_fault,
+                };
+                self.tell(notice);
+                Visited::Done
+            }
+            None => {
+                self.tell(Notice::Halted);
+                Visited::Halted
+            }
         }
+    }
+
+    // Tells the wire of scrapes what a visit came to.
+    fn tell(&mut self, notice: Notice)
+        ensures kept { self.new ≡ self.old }
+        ensures sentence { PostsWhatItsTalksTell talking self.new }
+    {
+        self.scrape.notice(notice);
     }
 
     /// Visits the target, and gives the body that was posted, which is the JSON text of the scrape's event, whatever
@@ -153,6 +178,8 @@ impl<W: Wire> Track<W> {
                 self.last_len = body.len();
                 self.first = Some(self.first.unwrap_or(made.reading));
                 self.counts = self.counts.with_visit(made.failed, made.points, posted);
+                self.scrape_fault = made.fault;
+                self.body_fault = told_body(posted);
                 self.shown = made.shown;
                 self.second = Some(made.second);
                 Some(made.text.into_body())
@@ -225,6 +252,8 @@ impl<W: Wire> Track<W> {
             counts: _,
             halted: _,
             last_len: _,
+            scrape_fault: _,
+            body_fault: _,
         } = self;
         drop(aim);
         drop(state);

@@ -3,3 +3,4 @@ pub mod DoorCounts
 pub mod Pairs
 pub mod KeptPairs
 pub mod World
+pub mod Saying

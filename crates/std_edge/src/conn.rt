@@ -6,13 +6,19 @@ ghost use Rattle.bridge_ports.specs.Causes.{HasCause};
 ghost use Rattle.bridge_ports.specs.Edges.{untold};
 ghost use Rattle.bridge_ports.specs.InMemory.{one_more};
 
-use crate::deadline::{Deadline, MOST_WAIT};
+use crate::deadline::{Deadline, MOST_LINGER, MOST_WAIT};
 use bridge_ports::std_edge::{StdSink, StdSource};
-use bridge_ports::{Conn, Failed, Sink, Source};
+use bridge_ports::{Conn, Failed, Reason, Sink, Source};
 use std::io;
 use std::marker::Model;
-use std::net::TcpStream;
-use std::time::Clock;
+use std::net::{Shutdown, TcpStream};
+use std::time::{Clock, Duration};
+
+/// The most bytes that are read off behind what was written, before a connection is closed.
+const MOST_BEHIND: usize = 65_536;
+
+/// How many of them are read at once.
+const PIECE_BYTES: usize = 4_096;
 
 /// A connection to one peer, until its deadline.
 #[derive(Drop)]
@@ -23,6 +29,7 @@ pub struct NetConn<R> {
     patience: u64,
     reads: u64,
     writes: u64,
+    reason: Reason,
 }
 
 impl<R> Model for NetConn<R> {
@@ -54,6 +61,7 @@ impl<R: Drop> NetConn<R> {
             patience,
             reads: 0,
             writes: 0,
+            reason: Reason::Other,
         })
     }
 
@@ -70,12 +78,17 @@ impl<R: Drop> NetConn<R> {
     {
         self.writes
     }
+
+    /// Why the last call failed that did.
+    pub(crate) fn reason(&self) -> Reason {
+        self.reason
+    }
 }
 
 impl<R: Clock + Drop> NetConn<R> {
-    // Whether there is time left for a read, which then stands still no longer than that.
-    fn may_read(&self) -> bool {
-        let left = self.deadline.left(&self.machine, self.patience);
+    // Whether there is time left for a read until then, which stands still no longer than that.
+    fn may_read(&self, end: Deadline) -> bool {
+        let left = end.left(&self.machine, self.patience);
         left.is_some() && self.stream.set_read_timeout(left).is_ok()
     }
 
@@ -85,28 +98,81 @@ impl<R: Clock + Drop> NetConn<R> {
         left.is_some() && self.stream.set_write_timeout(left).is_ok()
     }
 
-    // Reads, where there is time left.
-    fn read_in_time(&self, into: &mut [u8]) -> Result<u32, Failed>
+    // Reads, where there is time left until then.
+    fn read_until(&self, end: Deadline, into: &mut [u8]) -> Result<u32, Reason>
         requires { 0 < length into.old }
         ensures bound { ReadsAtMost result into.new }
         ensures bytes { ReadConsumes untold untold result into.new }
     {
-        if !self.may_read() {
-            return Err(Failed);
+        if !self.may_read(end) {
+            return Err(Reason::TimedOut);
         }
-        StdSource::new(&self.stream).read(into)
+        let mut source = StdSource::new(&self.stream);
+        match source.read(into) {
+            Ok(count) => Ok(count),
+            Err(Failed) => Err(source.reason()),
+        }
     }
 
     // Writes, where there is time left.
-    fn write_in_time(&self, piece: &[u8]) -> Result<u32, Failed>
+    fn write_in_time(&self, piece: &[u8]) -> Result<u32, Reason>
         ensures bound { WritesAtMost result piece.now }
         ensures bytes { WriteAppends untold untold result piece.now }
         ensures progress { IfOk result (λ count. count ≡ 0 → piece.now ≡ []) }
     {
         if !self.may_write() {
-            return Err(Failed);
+            return Err(Reason::TimedOut);
         }
-        StdSink::new(&self.stream).write(piece)
+        let mut sink = StdSink::new(&self.stream);
+        match sink.write(piece) {
+            Ok(count) => Ok(count),
+            Err(Failed) => Err(sink.reason()),
+        }
+    }
+
+    // Whether the peer has sent bytes that were not read.
+    fn is_answered(&self) -> bool {
+        let mut first = [0u8; 1];
+        let soon = Duration::from_millis(1);
+        self.stream.set_read_timeout(Some(soon)).is_ok()
+            && self.stream.peek(&mut first).unwrap_or(0) > 0
+    }
+
+    /// Takes bytes from the front of a piece and answers how many. Where the peer takes no more and has answered, that is
+    /// all of the piece: what comes of the request is in the reply, which can be read (RFC 9112, section 9.5).
+    pub(crate) fn send(&mut self, piece: &[u8]) -> Result<u32, Failed>
+        ensures bound { WritesAtMost result piece.now }
+        ensures progress { IfOk result (λ count. count ≡ 0 → piece.now ≡ []) }
+    {
+        match self.write(piece) {
+            Ok(count) => Ok(count),
+            Err(failed) => {
+                if self.is_answered() {
+                    Ok(piece.len().min(u32::MAX as usize) as u32)
+                } else {
+                    Err(failed)
+                }
+            }
+        }
+    }
+
+    /// Ends what is written and reads off what the peer still sends, unless a call failed: a connection that is closed
+    /// while bytes of the peer lie unread is reset, and what was written may be lost (RFC 9112, section 9.6).
+    pub(crate) fn linger(&self) {
+        let is_broken = self.reads > 0 || self.writes > 0;
+        if is_broken || self.stream.shutdown(Shutdown::Write).is_err() {
+            return;
+        }
+        let end = Deadline::after(&self.machine, MOST_LINGER).or_earlier(self.deadline);
+        let mut piece = [0u8; PIECE_BYTES];
+        let mut left = MOST_BEHIND;
+        while left > 0 {
+            match self.read_until(end, &mut piece) {
+                Ok(0) => return,
+                Ok(count) => left = left.saturating_sub(count as usize),
+                Err(_) => return,
+            }
+        }
     }
 }
 
@@ -125,11 +191,12 @@ impl<R: Clock + Drop> Source for NetConn<R> {
         ensures fault { OnErr result (self.new.reads ≡ one_more self.old.reads) }
         ensures writes { self.new.writes ≡ self.old.writes }
     {
-        match self.read_in_time(into) {
+        match self.read_until(self.deadline, into) {
             Ok(count) => Ok(count),
-            Err(failed) => {
+            Err(reason) => {
                 self.reads = self.reads.saturating_add(1);
-                Err(failed)
+                self.reason = reason;
+                Err(Failed)
             }
         }
     }
@@ -152,9 +219,10 @@ impl<R: Clock + Drop> Sink for NetConn<R> {
     {
         match self.write_in_time(piece) {
             Ok(count) => Ok(count),
-            Err(failed) => {
+            Err(reason) => {
                 self.writes = self.writes.saturating_add(1);
-                Err(failed)
+                self.reason = reason;
+                Err(Failed)
             }
         }
     }

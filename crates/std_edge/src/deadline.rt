@@ -6,7 +6,7 @@ use std::time::{Clock, Duration};
 pub const MOST_WAIT: u64 = 10_000;
 
 /// How many milliseconds a scrape takes at most, from its connect to its last byte. Where the interval is between one
-/// second and this, a scrape behind the first takes at most an interval.
+/// second and this, a scrape takes at most an interval.
 pub const MOST_SCRAPE: u64 = 10_000;
 
 /// How many milliseconds a post takes at most, from its connect to the last byte of the reply. A read of it may stand
@@ -15,6 +15,9 @@ pub const MOST_POST: u64 = 30_000;
 
 /// How many milliseconds a connection at the door takes at most.
 pub const MOST_SERVED: u64 = 10_000;
+
+/// How many milliseconds of them what a peer still sends is read off at most, before its connection is closed.
+pub const MOST_LINGER: u64 = 1_000;
 
 /// The nanoseconds of a millisecond.
 pub(crate) const MILLISECOND: u64 = 1_000_000;
@@ -31,6 +34,13 @@ impl Deadline {
         let now = steady_nanos(clock).unwrap_or(0);
         Deadline {
             end: now.saturating_add(millis.saturating_mul(MILLISECOND)),
+        }
+    }
+
+    /// The earlier one.
+    pub(crate) fn or_earlier(self, other: Deadline) -> Deadline {
+        Deadline {
+            end: self.end.min(other.end),
         }
     }
 

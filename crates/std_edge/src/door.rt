@@ -23,11 +23,11 @@ pub(crate) struct DoorCounts {
     broken_writes: u32,
 }
 
-/// A door at which peers connect over TCP. A connection there takes at most [`MOST_SERVED`].
+/// A door at which peers connect over TCP, until it is shut. A connection there takes at most [`MOST_SERVED`].
 #[derive(Drop)]
 pub struct NetDoor<R> {
     machine: R,
-    listener: TcpListener,
+    listener: Option<TcpListener>,
     counts: DoorCounts,
     out: bool,
 }
@@ -71,7 +71,7 @@ impl<R> NetDoor<R> {
     {
         NetDoor {
             machine,
-            listener,
+            listener: Some(listener),
             counts: DoorCounts::none(),
             out: false,
         }
@@ -90,7 +90,7 @@ impl<R: Clock + Copy + Send + Drop> Door for NetDoor<R> {
 
     ghost door = { λ d. d };
 
-    /// Waits for a peer, for as long as it takes.
+    /// Waits for a peer, for as long as it takes. It fails once the door is shut.
     fn accept(&mut self) -> Result<NetConn<R>, Failed>
         requires home { self.old.out ≡ false }
         requires few { self.old.handed < most_handed }
@@ -100,7 +100,7 @@ impl<R: Clock + Copy + Send + Drop> Door for NetDoor<R> {
 
         ensures fault { OnErr result (self.new.faults ≡ one_more self.old.faults) }
     {
-        match accepted(self.machine, &self.listener) {
+        match accepted(self.machine, self.listener.as_ref()) {
             Some(conn) => {
                 self.counts.handed += 1;
                 self.out = true;
@@ -113,6 +113,7 @@ impl<R: Clock + Copy + Send + Drop> Door for NetDoor<R> {
         }
     }
 
+    /// What the peer still sends is read off first, up to a limit.
     fn close(&mut self, conn: NetConn<R>)
         requires { self.old.out ≡ true }
         ensures { self.new ≡ closed_with conn.reads conn.writes self.old }
@@ -120,14 +121,22 @@ impl<R: Clock + Copy + Send + Drop> Door for NetDoor<R> {
         self.out = false;
         self.counts.broken_reads += broken_count(conn.reads());
         self.counts.broken_writes += broken_count(conn.writes());
+        conn.linger();
+    }
+
+    /// Peers that connect from now on are refused, and so are those that wait.
+    fn shut(&mut self)
+        ensures { self.new ≡ self.old }
+    {
+        self.listener = None;
     }
 }
 
-/// The next peer that connects, where that succeeds.
-fn accepted<R: Clock + Drop>(machine: R, listener: &TcpListener) -> Option<NetConn<R>>
+/// The next peer that connects, where there is a listener and that succeeds.
+fn accepted<R: Clock + Drop>(machine: R, listener: Option<&TcpListener>) -> Option<NetConn<R>>
     ensures { IfSome result (λ conn. conn ≡ no_faults) }
 {
-    let (stream, _) = listener.accept().ok()?;
+    let (stream, _) = listener?.accept().ok()?;
     let deadline = Deadline::after(&machine, MOST_SERVED);
     NetConn::over(machine, stream, deadline, MOST_WAIT).ok()
 }

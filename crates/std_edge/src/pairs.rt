@@ -4,6 +4,7 @@ ghost use Rattle.bridge_ports.specs.Worlds.{IsHome, KeepsOthers};
 ghost use Rattle.std_edge.specs.KeptPairs.{kept_seen};
 ghost use Rattle.std_edge.specs.Pairs.{home_seen, home_in, last_given_in};
 
+use crate::pace::Pace;
 use crate::steady_clock::SteadyClock;
 use crate::wire::NetWire;
 use bridge_ports::{Address, Place};
@@ -52,11 +53,12 @@ impl<R> NetPairs<R> {
 }
 
 impl<R: Drop> NetPairs<R> {
-    /// Hands out the wires of a number, which are at home, to these addresses.
+    /// Hands out the wires of a number, which are at home, to these addresses, with a new pace.
     pub(crate) fn hand_out(
         &mut self,
         machine: R,
         clock: SteadyClock,
+        pace: Pace,
         number: u32,
         scrape: &Address,
         post: &Address,
@@ -82,7 +84,7 @@ impl<R: Drop> NetPairs<R> {
             post,
         };
         let before = self.kept.insert(number, kept)?;
-        Ok(wires_of(machine, clock, number, before, to_scrape, to_post))
+        Ok(wires_of(machine, clock, pace, number, before, to_scrape, to_post))
     }
 
     /// Takes the wires of a pair back that was handed out.
@@ -102,6 +104,7 @@ impl<R: Drop> NetPairs<R> {
 fn wires_of<R: Clock + Copy + Drop>(
     machine: R,
     clock: SteadyClock,
+    pace: Pace,
     number: u32,
     before: Option<KeptPair<R>>,
     scrape: Address,
@@ -113,21 +116,22 @@ fn wires_of<R: Clock + Copy + Drop>(
     match before {
         Some(pair) => {
             let (mut scrapes, mut posts) = pair.wires.unwrap();
-            scrapes.turn_to(scrape);
-            posts.turn_to(post);
+            scrapes.turn_to(scrape, pace);
+            posts.turn_to(post, pace);
             (scrapes, posts)
         }
         None => (
             NetWire::with_clock(
                 machine,
                 clock,
+                pace,
                 Place {
                     number,
                     post: false,
                 },
                 scrape,
             ),
-            NetWire::with_clock(machine, clock, Place { number, post: true }, post),
+            NetWire::with_clock(machine, clock, pace, Place { number, post: true }, post),
         ),
     }
 }

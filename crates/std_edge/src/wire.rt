@@ -9,11 +9,12 @@ ghost use Rattle.bridge_ports.specs.Talks.{made_ready, begun_at, sent_on, after_
 ghost use Rattle.std_edge.specs.Machine.{no_faults};
 
 use crate::conn::NetConn;
-use crate::deadline::{Deadline, MOST_POST, MOST_WAIT, nanos};
+use crate::deadline::{Deadline, MOST_POST, MOST_WAIT, nanos, steady_nanos};
+use crate::lines::{Line, Lines};
 use crate::pace::Pace;
-use crate::peer::host_of;
+use crate::peer::{PeerName, host_of};
 use crate::steady_clock::SteadyClock;
-use bridge_ports::{Address, Failed, Place, Sink, Source, Wire};
+use bridge_ports::{Address, Failed, Notice, Place, Reason, Source, Wire};
 use label_sets::Memory;
 use std::alloc::Global;
 use std::marker::Model;
@@ -39,6 +40,9 @@ pub struct NetWire<R> {
     reading: u64,
     has_begun: bool,
     conn: Option<NetConn<R>>,
+    /// Why the last call failed that did.
+    reason: Reason,
+    lines: Lines,
 }
 
 impl<R> Model for NetWire<R> {
@@ -63,20 +67,21 @@ impl<R> Model for NetWire<R> {
 impl<R: Drop> NetWire<R> {
     ghost use Rattle.std_edge.specs.Machine.{unused_wire};
 
-    /// A wire in this place to this address, whose clock starts now.
+    /// A wire in this place to this address, whose clock starts now. Of its scrapes no interval is known.
     pub fn new(machine: R, place: Place, to: Address) -> NetWire<R>
     where
         R: Clock,
         ensures { result ≡ unused_wire place }
     {
         let clock = SteadyClock::new(&machine);
-        NetWire::with_clock(machine, clock, place, to)
+        NetWire::with_clock(machine, clock, Pace::new(0), place, to)
     }
 
-    /// A wire in this place to this address, with this clock.
+    /// A wire in this place to this address, with this clock and pace.
     pub(crate) fn with_clock(
         machine: R,
         clock: SteadyClock,
+        pace: Pace,
         place: Place,
         to: Address,
     ) -> NetWire<R>
@@ -88,7 +93,7 @@ impl<R: Drop> NetWire<R> {
             deadline: Deadline::after(&machine, 0),
             machine,
             clock,
-            pace: Pace::new(),
+            pace,
             place,
             to,
             faults: 0,
@@ -98,23 +103,27 @@ impl<R: Drop> NetWire<R> {
             reading: 0,
             has_begun: false,
             conn: None,
+            reason: Reason::Other,
+            lines: Lines::new(),
         }
     }
 
-    /// The next talks are with this address.
-    pub(crate) fn turn_to(&mut self, to: Address)
+    /// The next talks are with this address, at this pace.
+    pub(crate) fn turn_to(&mut self, to: Address, pace: Pace)
         ensures { self.new ≡ self.old }
     {
         self.to = to;
-        self.pace = Pace::new();
+        self.pace = pace;
+        self.lines = Lines::new();
     }
 
     // Counts a fault, which ends the talk.
-    fn fail(&mut self) -> Failed
+    fn fail(&mut self, reason: Reason) -> Failed
         ensures ended { self.new ≡ record self.old { stage = stages.Idle; faults = one_more self.old.faults } }
         ensures later { self.old.faults ≤ self.new.faults }
     {
         self.faults = self.faults.saturating_add(1);
+        self.reason = reason;
         self.has_begun = false;
         self.conn = None;
         Failed
@@ -135,9 +144,7 @@ impl<R: Clock + Drop> NetWire<R> {
     }
 
     // When a talk begins at the earliest that is due then.
-    fn earliest(&mut self, due: u64) -> u64
-        ensures { self.new ≡ self.old }
-    {
+    fn earliest(&self, due: u64) -> u64 {
         if self.place.post {
             return due;
         }
@@ -152,6 +159,19 @@ impl<R: Clock + Drop> NetWire<R> {
         self.pace.most()
     }
 
+    // The line that a notice asks for, where one is due.
+    fn line(&mut self, notice: Notice) -> Option<Line>
+        ensures { self.new ≡ self.old }
+    {
+        match notice {
+            Notice::Visited { scrape, body } => {
+                let now = steady_nanos(&self.machine)?;
+                self.lines.visited(scrape, body, self.reason, now)
+            }
+            Notice::Halted => self.lines.halted(),
+        }
+    }
+
     // How many milliseconds a read stands still at most.
     fn patience(&self) -> u64 {
         if self.place.post {
@@ -161,9 +181,20 @@ impl<R: Clock + Drop> NetWire<R> {
     }
 }
 
+impl<R: Eprint> NetWire<R> {
+    // Writes a line on the target to the error output. Where that fails the line is lost.
+    fn say(&self, line: Line) {
+        let name = PeerName {
+            host: self.to.host.as_slice(),
+            port: self.to.port,
+        };
+        let _ = eprintln!(self.machine; "bridge: target {} {name}: {line}", self.place.number);
+    }
+}
+
 impl<R> Wire for NetWire<R>
 where
-    R: Net<Listener = TcpListener, Stream = TcpStream> + Clock + Copy + Send + Drop,
+    R: Net<Listener = TcpListener, Stream = TcpStream> + Clock + Eprint + Copy + Send + Drop,
 {
     ghost state = { λ w. w };
 
@@ -193,14 +224,15 @@ where
         ensures fault { OnErr result (self.new.faults ≡ one_more self.old.faults) }
     {
         match connected(self.machine, &self.to, self.deadline, self.patience()) {
-            Some(conn) => {
+            Ok(conn) => {
                 self.conn = Some(conn);
                 Ok(())
             }
-            None => Err(self.fail()),
+            Err(reason) => Err(self.fail(reason)),
         }
     }
 
+    /// Where the peer has answered and takes no more, the rest counts as sent, so that its reply is read.
     fn write(&mut self, piece: &[u8]) -> Result<u32, Failed>
         requires connected { self.old.stage ≡ stages.Connected }
         requires room { length piece.now ≤ self.old.left }
@@ -212,12 +244,16 @@ where
 
         ensures fault { OnErr result (self.new.faults ≡ one_more self.old.faults) }
     {
-        match self.conn.as_mut().unwrap().write(piece) {
+        let conn = self.conn.as_mut().unwrap();
+        match conn.send(piece) {
             Ok(count) => {
                 self.left -= count as u64;
                 Ok(count)
             }
-            Err(Failed) => Err(self.fail()),
+            Err(Failed) => {
+                let reason = conn.reason();
+                Err(self.fail(reason))
+            }
         }
     }
 
@@ -231,13 +267,17 @@ where
 
         ensures fault { OnErr result (self.new.faults ≡ one_more self.old.faults) }
     {
-        match self.conn.as_mut().unwrap().read(into) {
+        let conn = self.conn.as_mut().unwrap();
+        match conn.read(into) {
             Ok(0) => {
                 self.leave();
                 Ok(0)
             }
             Ok(count) => Ok(count),
-            Err(Failed) => Err(self.fail()),
+            Err(Failed) => {
+                let reason = conn.reason();
+                Err(self.fail(reason))
+            }
         }
     }
 
@@ -245,36 +285,65 @@ where
         self.has_begun = false;
         self.conn = None;
     }
+
+    /// Writes a line to the error output, at most one a minute, where how the target stands changed, and one where it is
+    /// halted.
+    fn notice(&mut self, notice: Notice) {
+        if let Some(line) = self.line(notice) {
+            self.say(line);
+        }
+    }
 }
 
-/// A connection to the first of the host's addresses that answers. They share what a connect may take.
+/// A connection to the first of the host's addresses that answers, or why there is none. They share what a connect may
+/// take.
 fn connected<R: Net<Listener = TcpListener, Stream = TcpStream> + Clock + Drop>(
     machine: R,
     to: &Address,
     deadline: Deadline,
     patience: u64,
-) -> Option<NetConn<R>>
-    ensures { IfSome result (λ conn. conn ≡ no_faults) }
+) -> Result<NetConn<R>, Reason>
+    ensures { IfOk result (λ conn. conn ≡ no_faults) }
 {
-    let host = host_of(to)?;
-    let mut found = [SocketAddr::from((Ipv4Addr::UNSPECIFIED, 0)); MOST_PEERS];
-    let count = machine.lookup_host(host, to.port, &mut found).ok()?;
-    let left = deadline.left(&machine, MOST_WAIT)?;
-    let stream = stream_to(&machine, &found[..count], left)?;
-    NetConn::over(machine, stream, deadline, patience).ok()
+    let stream = stream_to(&machine, to, deadline)?;
+    match NetConn::over(machine, stream, deadline, patience) {
+        Ok(conn) => Ok(conn),
+        Err(error) => Err(Reason::of(error.kind())),
+    }
 }
 
-/// A stream to the first of these peers that answers. They share this time.
-fn stream_to<R: Net<Listener = TcpListener, Stream = TcpStream>>(
+/// A stream to the first of the host's addresses that answers, or why there is none.
+fn stream_to<R: Net<Listener = TcpListener, Stream = TcpStream> + Clock>(
+    machine: &R,
+    to: &Address,
+    deadline: Deadline,
+) -> Result<TcpStream, Reason> {
+    let Some(host) = host_of(to) else {
+        return Err(Reason::Unresolved);
+    };
+    let mut found = [SocketAddr::from((Ipv4Addr::UNSPECIFIED, 0)); MOST_PEERS];
+    let Ok(count) = machine.lookup_host(host, to.port, &mut found) else {
+        return Err(Reason::Unresolved);
+    };
+    let Some(left) = deadline.left(machine, MOST_WAIT) else {
+        return Err(Reason::TimedOut);
+    };
+    first_stream(machine, &found[..count], left)
+}
+
+/// A stream to the first of these peers that answers, or why the last has none. They share this time.
+fn first_stream<R: Net<Listener = TcpListener, Stream = TcpStream>>(
     net: &R,
     peers: &[SocketAddr],
     time: Duration,
-) -> Option<TcpStream> {
+) -> Result<TcpStream, Reason> {
     let each = Duration::from_nanos(nanos(time) / peers.len().max(1) as u64);
+    let mut reason = Reason::Unresolved;
     for peer in peers {
-        if let Ok(stream) = net.connect_timeout(*peer, each) {
-            return Some(stream);
+        match net.connect_timeout(*peer, each) {
+            Ok(stream) => return Ok(stream),
+            Err(error) => reason = Reason::of(error.kind()),
         }
     }
-    None
+    Err(reason)
 }

@@ -5,12 +5,13 @@ ghost use Rattle.bridge_ports.specs.Causes.{HasCause};
 ghost use Rattle.bridge_ports.specs.InMemory.{one_more};
 
 use crate::door::{DoorCounts, NetDoor};
+use crate::pace::Pace;
 use crate::pairs::NetPairs;
-use crate::peer::host_of;
+use crate::peer::{PeerName, host_of};
 use crate::steady_clock::SteadyClock;
 use crate::wire::NetWire;
 use bridge_ports::std_edge::StdSource;
-use bridge_ports::{Address, Failed, MemoryWire, Source, World};
+use bridge_ports::{Address, Failed, MemoryWire, Reason, RunNotice, Source, World};
 use label_sets::{Memory, Text};
 use std::alloc::Global;
 use std::fs::{File, Files};
@@ -30,6 +31,10 @@ pub struct StdWorld<R> {
     door_faults: u64,
     door_at: Option<Address>,
     back_door: DoorCounts,
+    /// Why the last call on files failed that did.
+    reason: Reason,
+    /// Up to which line and column the file was a document of TOML that is none.
+    broken_at: Option<(u32, u32)>,
 }
 
 impl<R> Model for StdWorld<R> {
@@ -68,15 +73,28 @@ impl<R: Drop> StdWorld<R> {
             door_faults: 0,
             door_at: None,
             back_door: DoorCounts::none(),
+            reason: Reason::Other,
+            broken_at: None,
         }
     }
 
+    /// Why the last call on files failed that did.
+    pub fn reason(&self) -> Reason {
+        self.reason
+    }
+
+    /// The line and the column up to which the file was a document of TOML, where it is none.
+    pub fn broken_at(&self) -> Option<(u32, u32)> {
+        self.broken_at
+    }
+
     // Counts a fault of a call on files.
-    fn fail_file(&mut self) -> Failed
+    fn fail_file(&mut self, reason: Reason) -> Failed
         ensures counted { self.new ≡ record self.old { file_faults = one_more self.old.file_faults } }
         ensures later { self.old.file_faults ≤ self.new.file_faults }
     {
         self.file_faults = self.file_faults.saturating_add(1);
+        self.reason = reason;
         Failed
     }
 
@@ -95,6 +113,7 @@ where
     R: Net<Listener = TcpListener, Stream = TcpStream>
         + Clock
         + Files<File = File>
+        + Eprint
         + Copy
         + Send
         + Drop,
@@ -130,12 +149,18 @@ where
 
         ensures fault { OnErr result (self.new.file_faults ≡ one_more self.old.file_faults) }
     {
-        self.file = File::open(&self.machine, path.as_str()).ok();
+        let opened = File::open(&self.machine, path.as_str());
         self.asked = Some(path);
-        if self.file.is_some() {
-            return Ok(());
+        match opened {
+            Ok(file) => {
+                self.file = Some(file);
+                Ok(())
+            }
+            Err(error) => {
+                self.file = None;
+                Err(self.fail_file(Reason::of(error.kind())))
+            }
         }
-        Err(self.fail_file())
     }
 
     fn read_file(&mut self, into: &mut [u8]) -> Result<u32, Failed>
@@ -151,9 +176,13 @@ where
 
         ensures fault { OnErr result (self.new.file_faults ≡ one_more self.old.file_faults) }
     {
-        match StdSource::new(self.file.as_ref().unwrap()).read(into) {
+        let mut source = StdSource::new(self.file.as_ref().unwrap());
+        match source.read(into) {
             Ok(count) => Ok(count),
-            Err(Failed) => Err(self.fail_file()),
+            Err(Failed) => {
+                let reason = source.reason();
+                Err(self.fail_file(reason))
+            }
         }
     }
 
@@ -163,9 +192,13 @@ where
         number: u32,
         scrape: &Address,
         post: &Address,
+        interval: u64,
     ) -> Result<(NetWire<R>, NetWire<R>), Memory> {
-        let (machine, clock) = (self.machine, self.clock);
-        match self.pairs.hand_out(machine, clock, number, scrape, post) {
+        let (machine, clock, pace) = (self.machine, self.clock, Pace::new(interval));
+        let given = self
+            .pairs
+            .hand_out(machine, clock, pace, number, scrape, post);
+        match given {
             Ok(pair) => Ok(pair),
             Err(memory) => Err(memory),
         }
@@ -175,7 +208,7 @@ where
         self.pairs.take_back(number, scrape, post);
     }
 
-    /// A door at the first address of the host that can be had.
+    /// A door at the first address of the host that can be had. Where there is none, a line on the error output says so.
     fn door(&mut self, at: Address) -> Result<NetDoor<R>, Failed>
         requires { self.old.door_at ≡ None }
         ensures cause { HasCause self.old.door_faults self.new.door_faults result }
@@ -212,15 +245,55 @@ where
         Ok(())
     }
 
+    /// Writes to the error output how many targets are scraped how often. What a faulty configuration told is kept for
+    /// [`StdWorld::broken_at`].
+    fn notice(&mut self, notice: RunNotice) {
+        match notice {
+            RunNotice::Begun {
+                targets,
+                interval_ms,
+            } => {
+                let _ = eprintln!(self.machine;
+                    "bridge: targets {targets}, each scraped every {interval_ms} ms"
+                );
+            }
+            RunNotice::Faulty { broken_at } => self.broken_at = broken_at,
+        }
+    }
+
     fn has_shelf(&self) -> bool {
         false
     }
 }
 
-/// Listens at an address, where that can be had.
-fn listener_at<R: Net<Listener = TcpListener, Stream = TcpStream>>(
-    net: &R,
+/// Listens at an address, where that can be had. Else a line on the error output says why not.
+fn listener_at<R: Net<Listener = TcpListener, Stream = TcpStream> + Eprint>(
+    machine: &R,
     at: &Address,
 ) -> Option<TcpListener> {
-    TcpListener::bind(net, (host_of(at)?, at.port)).ok()
+    match bound_at(machine, at) {
+        Ok(listener) => Some(listener),
+        Err(reason) => {
+            let name = PeerName {
+                host: at.host.as_slice(),
+                port: at.port,
+            };
+            let _ = eprintln!(machine; "bridge: no page is served at {name}: {}", reason.words());
+            None
+        }
+    }
+}
+
+/// Listens at an address, where that can be had.
+fn bound_at<R: Net<Listener = TcpListener, Stream = TcpStream>>(
+    machine: &R,
+    at: &Address,
+) -> Result<TcpListener, Reason> {
+    let Some(host) = host_of(at) else {
+        return Err(Reason::Unresolved);
+    };
+    match TcpListener::bind(machine, (host, at.port)) {
+        Ok(listener) => Ok(listener),
+        Err(error) => Err(Reason::of(error.kind())),
+    }
 }

@@ -334,6 +334,13 @@ fn statuses_of_posts(rt: HostRuntime) {
         (&[(b"HTTP/1.1 503\r\n\r", 1)], HeadSeen::More),
         (&[(OK, 1), (b"a: b\r\n", 65), (b"\r\n", 1)], HeadSeen::Bad),
         (&[(OK, 1), (b"a: b\r\n", 65)], HeadSeen::More),
+        (&[(OK, 1), (b"a: b\r\n", 65), (b"b", 1)], HeadSeen::More),
+        (&[(OK, 1), (b"a: b\r\n", 65), (b"b\n", 1)], HeadSeen::Bad),
+        (&[(b"\r\n\n", 1), (OK, 1), (b"a:\n", 5_000)], HeadSeen::More),
+        (
+            &[(b"\r\n\n", 1), (OK, 1), (b"a:\n", 5_000), (b"\n", 1)],
+            HeadSeen::Bad,
+        ),
         (&[(OK, 1), (b"a: ", 1), (b"v", 16_363)], HeadSeen::More),
         (&[(OK, 1), (b"a: ", 1), (b"v", 16_364)], HeadSeen::Bad),
     ];

@@ -5,6 +5,10 @@
 #[cfg(test)]
 mod http_talk_calls;
 #[cfg(test)]
+mod lines_calls;
+#[cfg(test)]
+mod noted_wire;
+#[cfg(test)]
 mod otlp_sender_calls;
 #[cfg(test)]
 mod page_server_calls;
@@ -18,3 +22,5 @@ mod scrape_client_calls;
 mod series_table_calls;
 #[cfg(test)]
 mod std_edge_calls;
+#[cfg(test)]
+mod told_visits;

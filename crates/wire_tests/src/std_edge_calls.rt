@@ -1,5 +1,5 @@
 //! Both ends of a connection over loopback, in one process; and the files of the machine.
-ghost use Rattle.std.specs.Prelude.{◌≡◌, ◌<◌, None, true, false, is_some, IsSome, IfOk, OnOk};
+ghost use Rattle.std.specs.Prelude.{◌≡◌, ◌<◌, ◌≤◌, None, true, false, is_some, IsSome, IfOk, OnOk};
 ghost use Rattle.bridge_ports.specs.declared.talk.Stage.TheVariants as stages;
 ghost use Rattle.bridge_ports.specs.Doors.{most_handed};
 ghost use Rattle.std_edge.specs.World.{new_machine};
@@ -165,6 +165,124 @@ fn talks_cross_the_loopback_of_ipv6(rt: HostRuntime) {
     }
 }
 
+/// Whether a talk crosses to a door, and when one began that was held once the door was shut.
+fn asked_when_shut<W: Wire, D: Door>(
+    alloc: Global,
+    wire: &mut W,
+    door: &mut D,
+) -> Result<(bool, Option<u64>), Memory>
+    requires idle { (W.state wire.old).stage ≡ stages.Idle }
+    requires home { (D.door door.old).out ≡ false }
+    requires few { (D.door door.old).handed < most_handed }
+{
+    let heard = is_heard(alloc, wire, door, 0)?;
+    door.shut();
+    Ok((heard, ask(alloc, wire, 0)?))
+}
+
+/// The same of a door at a listener with this port.
+fn asked_at_shut_door(
+    rt: HostRuntime,
+    listener: TcpListener,
+    port: u16,
+) -> Result<(bool, Option<u64>), Memory> {
+    let to = address(rt.alloc(), LOOPBACK, port)?;
+    let mut door = NetDoor::new(rt, listener);
+    let mut wire = NetWire::new(rt, PLACE, to);
+    let asked = asked_when_shut(rt.alloc(), &mut wire, &mut door);
+    drop(wire);
+    drop(door);
+    asked
+}
+
+/// The same of a listener of this machine.
+fn asked_where_shut(rt: HostRuntime) -> Option<Result<(bool, Option<u64>), Memory>> {
+    let (listener, port) = listening(&rt, LOOPBACK)?;
+    Some(asked_at_shut_door(rt, listener, port))
+}
+
+#[test]
+fn door_that_is_shut_refuses(rt: HostRuntime) {
+    assert!(rt; asked_where_shut(rt) == Some(Ok((true, None))));
+}
+
+/// Takes one peer, says no, and lets it go.
+fn refuse<D: Door>(door: &mut D) -> Option<u32>
+    requires home { (D.door door.old).out ≡ false }
+    requires few { (D.door door.old).handed < most_handed }
+{
+    let mut conn = door.accept().ok()?;
+    let said = conn.write(b"no").ok();
+    door.close(conn);
+    said
+}
+
+/// How many bytes a peer takes that has gone, of two pieces, and what it said before.
+fn heard_behind_end<W: Wire>(wire: &mut W, into: &mut [u8; 8]) -> Option<[u32; 3]>
+    requires connected { (W.state wire.old).stage ≡ stages.Connected }
+    requires room { 8 ≤ (W.state wire.old).left }
+{
+    let first = wire.write(b"ping").ok()?;
+    if first != 4 {
+        wire.leave();
+        return None;
+    }
+    let second = wire.write(b"pong").ok()?;
+    Some([first, second, wire.read(into).ok()?])
+}
+
+/// The same of a peer at a door that has said no.
+fn heard_of_refusal<W: Wire, D: Door>(
+    alloc: Global,
+    wire: &mut W,
+    door: &mut D,
+) -> Result<Option<([u32; 3], bool)>, Memory>
+    requires idle { (W.state wire.old).stage ≡ stages.Idle }
+    requires home { (D.door door.old).out ≡ false }
+    requires few { (D.door door.old).handed < most_handed }
+{
+    let mut into = [0u8; 8];
+    wire.ready(alloc, 1, 8)?;
+    let _begun = wire.begin(0);
+    if wire.connect().is_err() {
+        return Ok(None);
+    }
+    if refuse(door) != Some(2) {
+        return Ok(None);
+    }
+    match heard_behind_end(wire, &mut into) {
+        Some(counts) => Ok(Some((counts, into.starts_with(b"no")))),
+        None => Ok(None),
+    }
+}
+
+/// The same over a wire of this machine to a listener with this port.
+fn heard_at_port(
+    rt: HostRuntime,
+    listener: TcpListener,
+    port: u16,
+) -> Result<Option<([u32; 3], bool)>, Memory> {
+    let to = address(rt.alloc(), LOOPBACK, port)?;
+    let mut door = NetDoor::new(rt, listener);
+    let mut wire = NetWire::new(rt, PLACE, to);
+    let heard = heard_of_refusal(rt.alloc(), &mut wire, &mut door);
+    drop(wire);
+    drop(door);
+    heard
+}
+
+/// The same of a listener of this machine.
+fn heard_there(rt: HostRuntime) -> Option<Result<Option<([u32; 3], bool)>, Memory>> {
+    let (listener, port) = listening(&rt, LOOPBACK)?;
+    Some(heard_at_port(rt, listener, port))
+}
+
+// The second piece finds no peer any more; its reply is read all the same.
+#[test]
+fn early_reply_is_read(rt: HostRuntime) {
+    assert!(rt; heard_there(rt) == Some(Ok(Some(([4, 4, 2], true)))));
+}
+
 /// When a talk to a host began, where it could be sent.
 fn asked(rt: HostRuntime, host: &str) -> Result<Option<u64>, Memory> {
     let mut wire = NetWire::new(rt, PLACE, address(rt.alloc(), host, 1)?);
@@ -240,7 +358,7 @@ fn handed_out_asked(
 ) -> Result<(Option<u64>, bool), Memory> {
     let mut door = NetDoor::new(rt, listener);
     let mut world = StdWorld::new(rt, rt.alloc());
-    let asked = match world.wires(rt.alloc(), 7, here, nowhere) {
+    let asked = match world.wires(rt.alloc(), 7, here, nowhere, 0) {
         Ok((scrape, post)) => pair_asked(rt.alloc(), scrape, post, &mut door),
         Err(memory) => Err(memory),
     };
@@ -281,22 +399,23 @@ fn lend<W: World>(
     requires home { IsSome (W.home world.old 7) }
     ensures home { OnOk result (IsSome (W.home world.new 7)) }
 {
-    let (scrape, post) = world.wires(alloc, 7, scrape, post)?;
+    let (scrape, post) = world.wires(alloc, 7, scrape, post, 0)?;
     world.back(7, scrape, post);
     Ok(())
 }
 
-/// When a talk over each wire of a pair began.
+/// Whether a talk over each wire of a pair could be sent.
 fn both_asked<V: Wire + Drop>(
     alloc: Global,
     mut scrape: V,
     mut post: V,
-) -> Result<[Option<u64>; 2], Memory>
+) -> Result<[bool; 2], Memory>
     requires scrape { (V.state scrape).stage ≡ stages.Idle }
     requires post { (V.state post).stage ≡ stages.Idle }
 {
     let first = ask(alloc, &mut scrape, 0)?;
-    Ok([first, ask(alloc, &mut post, 0)?])
+    let second = ask(alloc, &mut post, 0)?;
+    Ok([first.is_some(), second.is_some()])
 }
 
 /// The same of a pair that came back of the one order of two addresses and was handed out to the other.
@@ -305,16 +424,16 @@ fn turned_asked(
     world: &mut StdWorld<HostRuntime>,
     here: &Address,
     nowhere: &Address,
-) -> Result<[Option<u64>; 2], Memory>
+) -> Result<[bool; 2], Memory>
     requires { world.old ≡ new_machine }
 {
     lend(alloc, world, here, nowhere)?;
-    let (scrape, post) = world.wires(alloc, 7, nowhere, here)?;
+    let (scrape, post) = world.wires(alloc, 7, nowhere, here, 0)?;
     both_asked(alloc, scrape, post)
 }
 
 /// The same of the machine's world, of which the one address has this port, and nobody listens at the other.
-fn turned_asked_at_port(rt: HostRuntime, port: u16) -> Result<[Option<u64>; 2], Memory> {
+fn turned_asked_at_port(rt: HostRuntime, port: u16) -> Result<[bool; 2], Memory> {
     let (here, nowhere) = two_addresses(rt.alloc(), port)?;
     let mut world = StdWorld::new(rt, rt.alloc());
     let asked = turned_asked(rt.alloc(), &mut world, &here, &nowhere);
@@ -325,7 +444,7 @@ fn turned_asked_at_port(rt: HostRuntime, port: u16) -> Result<[Option<u64>; 2], 
 }
 
 /// The same of a listener of this machine.
-fn turned_asked_there(rt: HostRuntime) -> Option<Result<[Option<u64>; 2], Memory>> {
+fn turned_asked_there(rt: HostRuntime) -> Option<Result<[bool; 2], Memory>> {
     let (listener, port) = listening(&rt, LOOPBACK)?;
     let asked = turned_asked_at_port(rt, port);
     drop(listener);
@@ -334,8 +453,7 @@ fn turned_asked_there(rt: HostRuntime) -> Option<Result<[Option<u64>; 2], Memory
 
 #[test]
 fn wires_come_back_and_turn_to_other_addresses(rt: HostRuntime) {
-    let asked = turned_asked_there(rt);
-    assert!(rt; matches!(asked, Some(Ok([None, Some(_)]))));
+    assert!(rt; turned_asked_there(rt) == Some(Ok([false, true])));
 }
 
 /// Whether a talk crosses to a world's door, and what is asked once the door came back.

@@ -65,6 +65,17 @@ pub record AreTaken (c : Config) (at : ℕ) (ks : List Kept) (before now : Outsi
   pub out : EachTrack (IsOut now.home now.given) ks
   pub rest : KeepsRest at before now
 
+-- before the first track none is taken
+pub none_taken : (c : Config) (ks : List Kept) (o : Outside) → ks ≡ [] → AreTaken c 0 ks o o
+none_taken c ks o none = subst (λ (ls : List Kept). AreTaken c 0 ls o o) (sym none) (record {
+  many = refl;
+  first = λ i d within. absurd (omega (arith, within));
+  targets = refl;
+  was = λ i d within. absurd (omega (arith, within));
+  out = λ i d within. absurd (omega (arith, within));
+  rest = record { world = refl; files = refl; homes = λ n outside. refl; addresses = λ n outside. refl };
+})
+
 each_more : (P : ℕ → Kept → Type 0) (ks : List Kept) (k : Kept) → EachTrack P ks → P (length ks) k → EachTrack P (ks ++ k ∷ [])
 each_more P [] k all one zero d within = one
 each_more P [] k all one (suc i) d within = absurd (omega (arith, within))

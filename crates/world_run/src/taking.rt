@@ -40,7 +40,8 @@ fn new_track<W: World>(
     let scraped = target.copy()?;
     let to = config.collector.copy()?;
     let (_job, _instance) = (target.job(), target.instance());
-    let (scrape, post) = match world.wires(alloc, number, target.address(), &config.collector) {
+    let (from, interval) = (target.address(), config.settings.interval);
+    let (scrape, post) = match world.wires(alloc, number, from, &config.collector, interval) {
         Ok(pair) => pair,
         Err(AllocError) => return Err(AllocError),
     };
@@ -58,6 +59,7 @@ fn new_track<W: World>(
 
 /// The tracks of a configuration's targets, in order, before their first visits. Without memory all pairs are at home
 /// again.
+#[tactic(auto, using(crate::proofs::Homes::none_taken))]
 pub(crate) fn new_tracks<W: World>(
     alloc: Global,
     config: &Config,

@@ -33,7 +33,7 @@ invariant_of-self-in-Err g c =
     let inside = c.self.inside in
     let state = g.W.Wire.state in
     track_halts talking inside.aim (state inside.scrape) (state c.prepare.new.wire) (state inside.post) (state c.prepare.new.post) inside.state c.prepare.new.state inside.shown inside.second inside.counts inside.halted c.self.invariant c.if-self.false
-    c.in-Err.ensures.0 c.in-Err.ensures.1
+    c.in-Err.ensures.0 c.in-Err.ensures.1 c.in-Err.ensures.2
 
 pub returns-in-Ok-clause-visit : goal.returns-in-Ok-clause-visit
 returns-in-Ok-clause-visit g c =
