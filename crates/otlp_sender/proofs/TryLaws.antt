@@ -1,5 +1,5 @@
 -- Laws on tries.
-use Rattle.std.proofs.Common.{◌≡◌, ℕ, ◌≤◌, List, [], ◌∷◌, length, refl, sym, ap, ◌∙◌, arith}
+use Rattle.std.proofs.Common.{◌≡◌, ℕ, suc, ◌+◌, ◌*◌, ◌≤◌, List, [], ◌∷◌, length, refl, sym, ap, ◌∙◌, arith}
 use Rattle.std.proofs.lemmas.List.{length-append}
 use Rattle.bridge_ports.specs.declared.talk.End.{End}
 use Rattle.bridge_ports.specs.declared.talk.End.TheVariants as ends
@@ -27,12 +27,18 @@ try_some text talk x =
     ]
 
 pub tries_counted : (most : ℕ) (texts : List (List ℕ)) (talks : List Talk) (lasts : List Try) → ArePosted most texts talks lasts
-    → (length lasts ≡ length texts) × (length texts ≤ length talks)
-tries_counted most [] talks lasts x = (ap (length {A = Try}) x.1, omega arith)
+    → (length lasts ≡ length texts) × (length texts ≤ length talks) × (length talks ≤ length texts * most)
+tries_counted most [] talks lasts x = (ap (length {A = Try}) x.1, omega arith, (let none : length talks ≡ 0 = ap (length {A = Talk}) x.0 in omega (arith, none)))
 tries_counted most (text ∷ texts) talks [] x = absurd x
 tries_counted most (text ∷ texts) talks (last ∷ lasts) x =
     let run = x.0 in
     let before = x.1 in
     let made = x.3 in
     let rest = tries_counted most texts before lasts x.4 in
-    (omega (arith, rest.0), omega (arith, rest.1, ap (length {A = Talk}) x.2, length-append run before, ap (length {A = Talk}) made.talks_are))
+    let both : length talks ≡ length run + length before = ap (length {A = Talk}) x.2 ∙ length-append run before in
+    let few : length before ≤ length texts * most = rest.2 in
+    let more : suc (length texts) * most ≡ most + length texts * most = one_more (length texts) most in
+    (omega (arith, rest.0), omega (arith, rest.1, both, ap (length {A = Talk}) made.talks_are), omega (arith, both, few, more, made.few))
+  where
+    one_more : (n m : ℕ) → suc n * m ≡ m + n * m
+    one_more n m = omega arith

@@ -1,6 +1,6 @@
 -- What a visit makes before its posts.
 -- The bridge's own.
-use Rattle.std.specs.Prelude.{◌≡◌, ℕ, ◌+◌, ◌*◌, List, ◌∷◌, ◌++◌, length, Option, Some, None, Result, Ok, Err}
+use Rattle.std.specs.Prelude.{◌≡◌, ◌⊎◌, ℕ, ◌+◌, ◌*◌, List, ◌∷◌, ◌++◌, length, Option, Some, None, Result, Ok, Err}
 use Rattle.page_model.specs.declared.event.Event.{Event}
 use Rattle.page_model.specs.declared.event.Shown.{Shown}
 use Rattle.page_model.specs.Presence.{page_of_outcome}
@@ -43,10 +43,15 @@ pub record TookEvent (aim : Aim) (old new : WireState) (before after : Following
   pub steps : (t : Tracking) (earlier : List Event) → StandsFor aim.target t before earlier
       → (taken.tree ≡ request_after aim.target t earlier event) × StandsFor aim.target t after (event ∷ earlier)
 
+-- a state took no event, or one whose page is within the limit
+abbrev pub TookAtMostOne : Aim → Following → Following → Type 0
+TookAtMostOne aim before after = (after ≡ before) ⊎ ((event : Event) × IsScrapedWithin aim.settings.limit (page_of_outcome event.outcome)
+    × ((t : Tracking) (earlier : List Event) → StandsFor aim.target t before earlier → StandsFor aim.target t after (event ∷ earlier)))
+
 -- what comes of a scrape and of the step behind it
 abbrev pub TakesEvent : {E : Type 0} → Aim → WireState → WireState → Following → Following → Result Taken E → Type 0
 TakesEvent aim old new before after (Ok taken) = (event : Event) × TookEvent aim old new before after taken event
-TakesEvent aim old new before after (Err e) = IsCutShort old new
+TakesEvent aim old new before after (Err e) = IsCutShort old new × (after ≡ before)
 
 -- two pages are what a state shows
 abbrev pub ShowsTwice : Following → Shown × Shown → Type 0
@@ -80,4 +85,4 @@ pub record IsPrepared (aim : Aim) (old new post_old post_new : WireState) (befor
 -- what comes of all that a visit does before its posts: nothing was posted
 abbrev pub Prepares : {E : Type 0} → Aim → WireState → WireState → WireState → WireState → Following → Following → Result Prepared E → Type 0
 Prepares aim old new post_old post_new before after (Ok p) = (event : Event) × IsPrepared aim old new post_old post_new before after p event
-Prepares aim old new post_old post_new before after (Err e) = IsCutShort old new × (post_new ≡ post_old)
+Prepares aim old new post_old post_new before after (Err e) = IsCutShort old new × (post_new ≡ post_old) × TookAtMostOne aim before after

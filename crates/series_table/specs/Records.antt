@@ -1,6 +1,6 @@
 -- What the track of a target keeps, and what one visit adds.
 -- The bridge's own.
-use Rattle.std.specs.Prelude.{◌≡◌, ℕ, ◌+◌, ◌≤◌, Bool, true, false, List, [], ◌∷◌, ◌++◌, length, Option, Some, None, is_some, option_map, IfSome, ⊤, if◌then◌else◌}
+use Rattle.std.specs.Prelude.{◌≡◌, ℕ, ◌+◌, ◌*◌, ◌≤◌, Bool, true, false, List, [], ◌∷◌, ◌++◌, length, Option, Some, None, is_some, option_map, IfSome, ⊤, if◌then◌else◌}
 use Rattle.page_model.specs.declared.event.Event.{Event}
 use Rattle.page_model.specs.declared.event.Shown.{Shown}
 use Rattle.page_model.specs.declared.page.Page.{Page}
@@ -107,12 +107,17 @@ pub record IsFree (plan : Option Plan) (wire : WireState) : Type 0 where
   pub free : wire.stage ≡ Idle
   pub plan_is : wire.plan ≡ plan
 
+-- the most rows that are kept of a target's series: one for each sample that a page may have, over `keep + 1` scrapes
+abbrev pub most_rows : Settings → ℕ
+most_rows s = (s.keep + 1) * s.limit
+
 -- the facts of every track, whether its wires tell or not
 pub record IsTrack (w : Talking) (k : Kept) : Type 0 where
   pub ranges : AreInRange k.followed.settings
   pub scrape_wire : IsFree k.followed.scrape_plan k.scrape
   pub post_wire : IsFree k.followed.post_plan k.post
   pub history : HasRecord w k
+  pub few_rows : length k.following.tracked.rows ≤ most_rows k.followed.settings
   pub shows : IsShownOf k.followed k.shown
   pub second_shows : MayShow k.followed k.second
   pub unvisited : k.counts.visits ≡ 0 → k.second ≡ None

@@ -1,11 +1,11 @@
--- A page has at most twice as many written sample lines as it was read from.
+-- A page has at most twice as many written sample lines as it was read from, and at most as many readings.
 use Rattle.std.proofs.Common.{◌≡◌, ℕ, ◌+◌, ◌≤◌, Bool, true, false, not, cond, List, [], ◌∷◌, ◌++◌, map, filter, filter_map, find, length, reverse, codes, Option, Some, None, option_map, refl, sym, ap, subst, ◌∙◌, arith, inl, inr}
 use Rattle.std.specs.Prelude.{option_and_then}
-use Rattle.std.specs.List.{sum_by, AllByRecursion, IsDistinct, cons_option}
+use Rattle.std.specs.List.{sum_by, flat_map, AllByRecursion, IsDistinct, cons_option}
 use Rattle.std.specs.Str.{bytes_eq}
 use Rattle.std.specs.Cmp.Lexicographic.{bytes_decides}
 use Rattle.std.proofs.lemmas.Bool.{not-true}
-use Rattle.std.proofs.lemmas.List.{reverse-append, length-map}
+use Rattle.std.proofs.lemmas.List.{reverse-append, length-map, length-append}
 use Rattle.std.proofs.lemmas.List.Sums.{sum_by-cons}
 use Rattle.label_sets.specs.declared.kind.Kind.{Kind}
 use Rattle.label_sets.specs.declared.kind.Kind.TheVariants.{Counter, Histogram, GaugeHistogram, Info, Summary}
@@ -33,7 +33,8 @@ use Rattle.page_model.specs.Readings.{reading_labels, value_with, either_value, 
 use Rattle.page_model.specs.Pages.{items_of, AreSomeOf, IsThinnerReading, AreThinnerFamilies}
 use Rattle.open_writing.specs.Pieces.{option_count, value_lines, reading_lines, family_lines}
 use Rattle.open_writing.proofs.Laws.{families_counted}
-use Rattle.writing_laws.specs.WritingLaws.{WritesFewLines}
+use Rattle.page_model.specs.Presence.{all_readings}
+use Rattle.writing_laws.specs.WritingLaws.{WritesFewLines, ReadsFewReadings}
 use Rattle.writing_laws.proofs.Together.{same_set}
 
 -- ---- sums
@@ -398,3 +399,77 @@ few_lines st page read =
     let bound = subst (λ (p : Page). total family_lines p.families ≤ p.samples + p.samples) (sym is_page) (page_bound st (items_of st.format read.read.lines)) in
     let samples = read.samples in
     omega (arith, counted, listed, thinner, bound, samples)
+
+-- ---- readings
+
+few_filtered : {A : Type 0} (p : A → Bool) (xs : List A) → length (filter p xs) ≤ length xs
+few_filtered p [] = omega arith
+few_filtered p (x ∷ xs) = go (p x) (few_filtered p xs)
+  where
+    go : (b : Bool) → length (filter p xs) ≤ length xs → length (cond b (x ∷ filter p xs) (filter p xs)) ≤ length (x ∷ xs)
+    go true ih = omega (arith, ih)
+    go false ih = omega (arith, ih)
+
+few_firsts : {A : Type 0} (eq : A → A → Bool) (xs : List A) → length (first_of_each eq xs) ≤ length xs
+few_firsts eq [] = omega arith
+few_firsts eq (x ∷ xs) =
+    let kept = few_filtered (λ y. not (eq x y)) (first_of_each eq xs) in
+    let rest = few_firsts eq xs in
+    omega (arith, kept, rest)
+
+readings_few : (st : Setting) (kind : Kind) (family unit : List ℕ) (samples : List Sample) → length (readings_of st kind family unit samples) ≤ length samples
+unfolding readings_of
+readings_few st kind family unit samples =
+    let kept = length-kept family (reading_of st kind family unit samples) (first_of_each label_sets_eq (map (reading_labels st kind family) samples)) in
+    let firsts = few_firsts label_sets_eq (map (reading_labels st kind family) samples) in
+    let mapped = length-map samples (reading_labels st kind family) in
+    omega (arith, kept, firsts, mapped)
+
+family_few : (st : Setting) (lines : List Owned) (name : List ℕ) → length (family_of st lines name).readings ≤ length (samples_of lines name)
+unfolding family_of
+family_few st lines name = readings_few st _ name _ (samples_of lines name)
+
+families_few : (st : Setting) (lines : List Owned) (names : List (List ℕ)) → length (flat_map (λ (f : Family). f.readings) (map (family_of st lines) names)) ≤ total (λ (name : List ℕ). length (samples_of lines name)) names
+families_few st lines [] = omega arith
+families_few st lines (name ∷ names) =
+    let both = length-append (family_of st lines name).readings (flat_map (λ (f : Family). f.readings) (map (family_of st lines) names)) in
+    let here = family_few st lines name in
+    let rest = families_few st lines names in
+    omega (arith, both, here, rest)
+
+page_few : (st : Setting) (is : List Item) → length (all_readings (page_of st is)) ≤ (page_of st is).samples
+unfolding page_of families_of
+page_few st is =
+    let lines = reverse (owned_lines st.format is) in
+    let names = first_of_each bytes_eq (map (λ (o : Owned). o.family) lines) in
+    let few = families_few st lines names in
+    let within = names_within lines names (firsts_distinct bytes_eq (map (λ (o : Owned). o.family) lines)) in
+    let turned = total-reverse samples_in (owned_lines st.format is) in
+    let owned = owned_within st.format is in
+    let count = total_is (λ i. cond (is_sample i) 1 0) is in
+    omega (arith, few, within, turned, owned, count)
+
+few_left : (rs qs : List Reading) → AreSomeOf IsThinnerReading rs qs → length qs ≤ length rs
+few_left [] [] s = omega arith
+few_left [] (q ∷ qs) s = absurd s
+few_left (r ∷ rs) [] s = omega arith
+few_left (r ∷ rs) (q ∷ qs) (inl s) = let rest = few_left rs qs s.1 in omega (arith, rest)
+few_left (r ∷ rs) (q ∷ qs) (inr s) = let rest = few_left rs (q ∷ qs) s in omega (arith, rest)
+
+thinner_few : (fs gs : List Family) → AreThinnerFamilies fs gs → length (flat_map (λ (f : Family). f.readings) gs) ≤ length (flat_map (λ (f : Family). f.readings) fs)
+thinner_few [] [] t = omega arith
+thinner_few [] (g ∷ gs) t = absurd t
+thinner_few (f ∷ fs) [] t = absurd t
+thinner_few (f ∷ fs) (g ∷ gs) t =
+    let whole = length-append f.readings (flat_map (λ (h : Family). h.readings) fs) in
+    let thin = length-append g.readings (flat_map (λ (h : Family). h.readings) gs) in
+    let here = few_left f.readings g.readings t.0.readings in
+    let rest = thinner_few fs gs t.1 in
+    omega (arith, whole, thin, here, rest)
+
+pub few_readings : ReadsFewReadings
+few_readings st page read =
+    let thin = thinner_few read.whole.families page.families read.families in
+    let few = subst (λ (p : Page). length (all_readings p) ≤ p.samples) (sym read.read.page_is) (page_few st (items_of st.format read.read.lines)) in
+    let same = read.samples in
+    omega (arith, thin, few, same)

@@ -1,5 +1,5 @@
 -- What other crates may use of this crate's proofs.
-pub use Rattle.writing_laws.proofs.FewLines.{total, total_is, total-le, total-append, total-twice, total-map, at_most_one, same_bytes, few_lines}
+pub use Rattle.writing_laws.proofs.FewLines.{total, total_is, total-le, total-append, total-twice, total-map, at_most_one, same_bytes, few_lines, few_readings}
 pub use Rattle.writing_laws.proofs.ShortLines.{total_filtered, total_inserted}
 pub use Rattle.writing_laws.proofs.ReadItems.{kind_in_open}
 pub use Rattle.writing_laws.proofs.ReadLabels.{written_own}

@@ -1,11 +1,12 @@
 -- Laws of writing. Each is proved, and a call of the crate stands for it.
 -- OpenMetrics 1.0, "Text Format". The statements are the bridge's own.
-use Rattle.std.specs.Prelude.{◌≡◌, ℕ, ◌≤◌, ◌+◌, List}
+use Rattle.std.specs.Prelude.{◌≡◌, ℕ, ◌≤◌, ◌+◌, List, length}
 use Rattle.page_model.specs.declared.format.Treatment.TheVariants.{Written, Scraped}
 use Rattle.page_model.specs.declared.page.Family.{Family}
 use Rattle.page_model.specs.declared.page.Page.{Page}
 use Rattle.page_model.specs.Written.{Setting, open_setting}
 use Rattle.page_model.specs.Pages.{IsPageOf, IsPageRead, AreThinnerFamilies, AreSomeOf}
+use Rattle.page_model.specs.Presence.{all_readings}
 use Rattle.open_writing.specs.Writing.{written_text, page_with, sample_lines}
 use Rattle.open_writing.specs.Forms.{AreFormed}
 use Rattle.open_writing.specs.OpenForms.{HaveShortLines, IsOpenForm, AreWritable}
@@ -43,6 +44,10 @@ FewerAreWritable = (whole fewer : List Family) → AreWritable whole → AreSome
 -- a page that was read has at most twice as many written sample lines as it was read from
 abbrev pub WritesFewLines : Type 0
 WritesFewLines = (st : Setting) (page : Page) → IsPageRead st page → sample_lines page.families ≤ page.samples + page.samples
+
+-- and at most as many readings
+abbrev pub ReadsFewReadings : Type 0
+ReadsFewReadings = (st : Setting) (page : Page) → IsPageRead st page → length (all_readings page) ≤ page.samples
 
 -- the most bytes of a line that is written of a page of a target: twice those of its own lines, and 2,048 more
 abbrev pub most_scraped_line : ℕ

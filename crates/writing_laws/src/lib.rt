@@ -10,6 +10,7 @@ ghost use Rattle.writing_laws.specs.WritingLaws.{
   ThinnerAreWritable,
   FewerAreWritable,
   WritesFewLines,
+  ReadsFewReadings,
   WritesShortLines,
 };
 
@@ -42,9 +43,11 @@ pub fn thinner_pages()
     ensures families { FewerAreWritable }
 {}
 
-/// A page that was read has at most twice as many written sample lines as it was read from, and the lines of a
-/// page of a target are at most twice as long as those that were read, and 2,048 bytes more.
+/// A page that was read has at most twice as many written sample lines as it was read from, and at most as many
+/// readings, and the lines of a page of a target are at most twice as long as those that were read, and 2,048 bytes
+/// more.
 pub fn written_sizes()
     ensures lines { WritesFewLines }
+    ensures readings { ReadsFewReadings }
     ensures bytes { WritesShortLines }
 {}

@@ -1,4 +1,4 @@
-use Rattle.writing_laws.proofs.FewLines.{few_lines}
+use Rattle.writing_laws.proofs.FewLines.{few_lines, few_readings}
 use Rattle.writing_laws.proofs.ShortFamilies.{writes_short_lines}
 use Rattle.writing_laws.proofs.written_sizes.Goals as goal
 
@@ -7,3 +7,6 @@ returns-clause-lines c = few_lines
 
 pub returns-clause-bytes : goal.returns-clause-bytes
 returns-clause-bytes c = writes_short_lines
+
+pub returns-clause-readings : goal.returns-clause-readings
+returns-clause-readings c = few_readings

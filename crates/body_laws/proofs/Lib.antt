@@ -1,0 +1,2 @@
+mod RightEvents
+mod Tries

@@ -1,6 +1,0 @@
-use Rattle.scraper_pool.proofs.Served.{served_on}
-use Rattle.scraper_pool.proofs.pool.Pool.serve_door.Goals as goal
-
-pub loop-preserved : goal.loop-preserved
-loop-preserved g c =
-    served_on (g.E.Door.door c.args.door) (g.E.Door.door c.loop.door) (g.E.Door.door c.serve_next.new.door) c.loop.counter 1 c.loop.served c.in-Ok.count c.loop.invariant c.in-Ok.ensures.served
