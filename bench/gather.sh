@@ -19,14 +19,16 @@ ghost use Rattle.page_feeding.specs.PageFeeding.{Answers};
 ghost use Rattle.federation_page.specs.Gathering.{AreShowable, IsShowable};
 
 mod asked;
+mod told;
 
-use crate::asked::{input, number};
+use crate::asked::{input, number, words};
+use crate::told::tell;
 use federation_page::{gather, text};
 use label_sets::Text;
 use page_model::page_laws::right_pages;
 use page_model::{Page, PageFault, Shown, Treatment};
 use std::alloc::{AllocError, Global};
-use std::{env, io};
+use std::io;
 use text_grammar::TextPage;
 
 /// The page that these bytes say.
@@ -108,26 +110,18 @@ fn written(alloc: Global, page: &Page, turns: u32) -> Result<u64, AllocError> {
 }
 
 fn main(rt: HostRuntime) -> io::Result<()> {
-    let alloc = rt.alloc();
-    let mut words = env::args(&rt)?.into_iter();
-    let _program = words.next();
-    let form = words.next();
-    let turns = number(words.next(), 0);
     let bytes = input(&rt)?;
     if bytes.len() > 1_000_000_000 {
         println!(rt; "too long")?;
         return Ok(());
     }
+    let mut words = words(&rt)?;
+    let form = words.next();
+    let turns = number(words.next(), 0);
+    let alloc = rt.alloc();
     let shown = match all_shown(alloc, bytes.as_slice()) {
         Ok(shown) => shown,
-        Err(PageFault::Refused { line, rule }) => {
-            println!(rt; "line {line} {}", rule.name())?;
-            return Ok(());
-        }
-        Err(PageFault::Memory) => {
-            println!(rt; "memory")?;
-            return Ok(());
-        }
+        Err(fault) => return tell(&rt, fault),
     };
     if form.is_some_and(|word| word.as_str() == "gather") {
         println!(rt; "{}", gathered(alloc, shown.as_slice(), turns)?)?;
@@ -262,7 +256,7 @@ loop-place-preserved c = (
 pub returns : goal.returns
 returns c = lettered c.loop-place.all.items (omega (arith, c.loop-place.invariant.0, c.loop-place.all.ok.0)) c.loop-place.invariant.1
 END
-add_parts time_gather asked
+add_parts time_gather asked told
 build_program time_gather gather 0
 node_page "$samples" >"$work/page"
 

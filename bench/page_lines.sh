@@ -20,6 +20,9 @@ add_program lines_bench page_lines <<'END'
 //! Goes over the lines of a page on standard input in pieces of 64 KiB, and prints the time.
 #![tactic(auto)]
 
+mod sums;
+
+use crate::sums::Sums;
 use page_lines::{Last, Lines, Step};
 use std::alloc::{AllocError, Global};
 use std::io;
@@ -29,29 +32,10 @@ const PIECE: usize = 65_536;
 
 const TURNS: usize = 5;
 
-#[derive(Drop)]
-struct Sums {
-    lines: u64,
-    bytes: u64,
-    mix: u64,
-}
-
-impl Sums {
-    fn add(&mut self, line: &[u8]) {
-        self.lines = self.lines.wrapping_add(1);
-        self.bytes = self.bytes.wrapping_add(line.len() as u64);
-        self.mix ^= u64::from(line.first().copied().unwrap_or(0)).wrapping_mul(self.lines);
-    }
-}
-
 #[inline(never)]
 fn count(alloc: Global, page: &[u8]) -> Result<Sums, AllocError> {
     let mut lines = Lines::new(alloc, 65_536)?;
-    let mut sums = Sums {
-        lines: 0,
-        bytes: 0,
-        mix: 0,
-    };
+    let mut sums = Sums::NONE;
     for piece in page.chunks(PIECE) {
         let mut rest = piece;
         for _ in 0..PIECE {
@@ -85,6 +69,7 @@ fn main(rt: HostRuntime) -> io::Result<()> {
     Ok(())
 }
 END
+cp "$here/page_lines/sums.rs" "$work/crates/lines_bench/src/sums.rt"
 build_program lines_bench
 rustc --edition 2021 -C opt-level=3 -C target-cpu=x86-64-v2 -o "$work/plain" "$here/page_lines/lines.rs"
 

@@ -11,228 +11,32 @@ turns=${1:-5}
 node_page 20000 >"$work/page"
 node_page 10 >"$work/small"
 
-take_crates scraper_pool
+take_crates scraper_pool gated_wires
 cp "$here/../HANDLES" "$work/"
-proofs=$work/crates/time_pool/proofs
-tests=$here/../crates/pool_tests/proofs
-add_program time_pool "scraper_pool series_table target_table bridge_ports label_sets" <<'MAIN'
+add_program time_pool "gated_wires scraper_pool series_table target_table bridge_ports label_sets" <<'MAIN'
 //! Reads a page on standard input, and visits eight targets that answer it: as many workers as the first word says,
 //! as many rounds as the second, and in each read a pause of as many milliseconds as the third. Prints the nanoseconds
 //! that the run took, a sum over all that was posted, and how many bodies were taken.
 #![tactic(auto)]
 
-ghost use Rattle.std.specs.Prelude.{◌≡◌, ℕ, ◌+◌, ◌<◌, ◌≤◌, ◌∷◌, [], true, false, IfOk, IsUtf8, length};
-ghost use Rattle.bridge_ports.specs.Plans.{seen_of};
-ghost use Rattle.bridge_ports.specs.Targets.{IsScraped};
-ghost use Rattle.series_table.specs.HttpTalks.{talking};
-ghost use Rattle.series_table.specs.Records.{IsFresh, IsTrack, most_visits};
-ghost use Rattle.target_table.specs.Runs.{IsRightRun};
-ghost use Rattle.target_table.specs.Tables.{AreTracks, AreUnvisited};
-ghost use Rattle.scraper_pool.specs.Turns.{run_of};
+ghost use Rattle.std.specs.Prelude.{◌≤◌};
+ghost use Rattle.series_table.specs.Records.{most_visits};
 
 mod asked;
+mod tracks;
 
-use crate::asked::number;
-use bridge_ports::{
-    Address, End, Failed, MemoryReply, MemoryWire, Notice, Place, Settings, Target, Wire,
-};
-use label_sets::{Bytes, List, Memory, Text};
+use crate::asked::{number, words};
+use crate::tracks::{Plan, close, new_tracks};
+use bridge_ports::MemoryWire;
+use gated_wires::{GatedWire, Waits};
 use scraper_pool::{TableFault, Track, run_targets};
-use series_table::TrackFault;
-use std::alloc::{AllocError, Global};
+use std::alloc::Global;
+use std::io;
 use std::sync::Wait;
-use std::thread::{self, Threads};
+use std::thread::Threads;
 use std::time::{Clock, Duration, Instant};
-use std::{env, io};
 
 const TARGETS: u32 = 8;
-
-const TAKEN: &[u8] = b"HTTP/1.1 200 OK\r\n\r\n";
-
-const SETTINGS: Settings = Settings {
-    keep: 2,
-    tries: 1,
-    limit: 200_000,
-    max_page: 67_108_864,
-    interval: 10,
-};
-
-/// A wire in memory whose reads may pause.
-#[derive(Drop)]
-struct SlowWire<'a, R> {
-    wire: MemoryWire,
-    rt: &'a R,
-    pause: Duration,
-}
-
-impl<R: Clock + Sync> Wire for SlowWire<'_, R> {
-    ghost state = { λ w. seen_of w.wire };
-
-    fn ready(&mut self, alloc: Global, count: u32, room: u64) -> Result<(), Memory> {
-        self.wire.ready(alloc, count, room)
-    }
-
-    fn begin(&mut self, due: u64) -> u64 {
-        self.wire.begin(due)
-    }
-
-    fn connect(&mut self) -> Result<(), Failed> {
-        self.wire.connect()
-    }
-
-    fn write(&mut self, piece: &[u8]) -> Result<u32, Failed> {
-        self.wire.write(piece)
-    }
-
-    fn read(&mut self, into: &mut [u8]) -> Result<u32, Failed> {
-        if !self.pause.is_zero() {
-            thread::sleep(self.rt, self.pause);
-        }
-        self.wire.read(into)
-    }
-
-    fn leave(&mut self) {
-        self.wire.leave()
-    }
-
-    fn notice(&mut self, notice: Notice) {
-        self.wire.notice(notice)
-    }
-}
-
-/// A wire that answers each talk with these bytes.
-fn memory_wire(alloc: Global, place: Place, got: &[u8]) -> Result<MemoryWire, AllocError>
-    ensures fresh { IfOk result (λ wire. IsFresh (seen_of wire)) }
-    ensures place { IfOk result (λ wire. (seen_of wire).place ≡ place) }
-{
-    let reply = MemoryReply {
-        at: 7,
-        got: Bytes::from_slice(alloc, got)?,
-        end: End::Ended,
-    };
-    let none = List::new(alloc);
-    Ok(MemoryWire::new(alloc, place, List::new(alloc), Some(reply), 65_536, none))
-}
-
-fn address(alloc: Global) -> Result<Address, Memory>
-    ensures { IfOk result (λ address. IsUtf8 address.host) }
-{
-    Ok(Address {
-        host: Bytes::from_slice(alloc, "h".as_bytes())?,
-        port: 1,
-        path: Bytes::from_slice(alloc, b"/p")?,
-    })
-}
-
-/// A target whose job is a letter, from `j` on.
-fn target(alloc: Global, place: u32) -> Result<Target, Memory>
-    requires { place < 8 }
-    ensures scraped { IfOk result (λ target. IsScraped target) }
-    ensures job { IfOk result (λ target. target.job ≡ (106 + place) ∷ []) }
-{
-    let Some(job) = Text::from_bytes(alloc, &[b'j' + place as u8])? else {
-        return Err(AllocError);
-    };
-    let instance = Text::from_str(alloc, "h:1")?;
-    let target = Target::new(job, instance, address(alloc)?, false);
-    let (_job, _instance, _address) = (target.job(), target.instance(), target.address());
-    Ok(target)
-}
-
-/// A track over these wires.
-fn track_over<'a, R: Clock + Sync>(
-    alloc: Global,
-    target: Target,
-    scrape: SlowWire<'a, R>,
-    post: SlowWire<'a, R>,
-) -> Result<Track<SlowWire<'a, R>>, AllocError>
-    requires scrape { IsFresh (seen_of scrape.wire) }
-    requires post { IsFresh (seen_of post.wire) }
-    ensures target { IfOk result (λ k. k.followed.target ≡ target) }
-    ensures wires { IfOk result (λ k. (k.scrape ≡ seen_of scrape.entry.wire) × (k.post ≡ seen_of post.entry.wire)) }
-    ensures unvisited { IfOk result (λ k. (k.counts.visits ≡ 0) × (k.halted ≡ false)) }
-    ensures track { IfOk result (λ k. IsTrack talking k) }
-{
-    let to = address(alloc)?;
-    match Track::new(alloc, target, to, SETTINGS, scrape, post) {
-        Ok(track) => {
-            track.facts();
-            Ok(track)
-        }
-        Err(TrackFault::Memory(_scrape, _post)) => Err(AllocError),
-    }
-}
-
-/// The track of the target at a place, whose scrapes are answered by a reply.
-fn new_track<'a, R: Clock + Sync>(
-    rt: &'a R,
-    alloc: Global,
-    reply: &[u8],
-    pause: Duration,
-    place: u32,
-) -> Result<Track<SlowWire<'a, R>>, AllocError>
-    requires { place < 8 }
-    ensures scrape { IfOk result (λ k. k.scrape.place ≡ record { number = place + 1; post = false }) }
-    ensures post { IfOk result (λ k. k.post.place ≡ record { number = place + 1; post = true }) }
-    ensures unvisited { IfOk result (λ k. (k.counts.visits ≡ 0) × (k.halted ≡ false)) }
-    ensures scraped { IfOk result (λ k. IsScraped k.followed.target) }
-    ensures job { IfOk result (λ k. k.followed.target.job ≡ (106 + place) ∷ []) }
-    ensures track { IfOk result (λ k. IsTrack talking k) }
-{
-    let number = place + 1;
-    let target = target(alloc, place)?;
-    let scrapes = Place {
-        number,
-        post: false,
-    };
-    let posts = Place { number, post: true };
-    let scrape = SlowWire {
-        wire: memory_wire(alloc, scrapes, reply)?,
-        rt,
-        pause,
-    };
-    let post = SlowWire {
-        wire: memory_wire(alloc, posts, TAKEN)?,
-        rt,
-        pause: Duration::ZERO,
-    };
-    track_over(alloc, target, scrape, post)
-}
-
-/// Lets tracks go.
-fn close<R: Clock + Sync>(tracks: Vec<Track<SlowWire<'_, R>>>) {
-    let mut tracks = tracks;
-    for _ in 0..tracks.len() {
-        let (_scrape, _post) = tracks.take_last().into_wires();
-    }
-    tracks.destroy_empty();
-}
-
-/// The tracks of the targets.
-fn new_tracks<'a, R: Clock + Sync>(
-    rt: &'a R,
-    alloc: Global,
-    reply: &[u8],
-    pause: Duration,
-    rounds: u32,
-) -> Result<Vec<Track<SlowWire<'a, R>>>, AllocError>
-    requires { (1 ≤ rounds) × (rounds ≤ most_visits) }
-    ensures run { IfOk result (λ tracks. IsRightRun (run_of rounds tracks.items)) }
-    ensures tracks { IfOk result (λ tracks. AreTracks talking 0 (run_of rounds tracks.items).targets tracks.items) }
-    ensures unvisited { IfOk result (λ tracks. AreUnvisited tracks.items) }
-{
-    let mut tracks = Vec::with_capacity(alloc, TARGETS as usize)?;
-    for place in 0..TARGETS {
-        match new_track(rt, alloc, reply, pause, place) {
-            Ok(track) => tracks.push_reserved(track),
-            Err(AllocError) => {
-                close(tracks);
-                return Err(AllocError);
-            }
-        }
-    }
-    Ok(tracks)
-}
 
 /// A sum that also counts these bytes.
 fn mixed(sum: u64, bytes: &[u8]) -> u64 {
@@ -255,7 +59,7 @@ fn sent_on(sum: u64, wire: &MemoryWire) -> u64 {
 }
 
 /// A sum over what was posted, and how many bodies were taken. The tracks are let go.
-fn posted<R: Clock + Sync>(tracks: Vec<Track<SlowWire<'_, R>>>) -> (u64, u64) {
+fn posted<R: Clock + Sync>(tracks: Vec<Track<GatedWire<'_, R>>>) -> (u64, u64) {
     let mut tracks = tracks;
     let mut sum = 0;
     let mut taken = 0u64;
@@ -263,10 +67,18 @@ fn posted<R: Clock + Sync>(tracks: Vec<Track<SlowWire<'_, R>>>) -> (u64, u64) {
         let track = tracks.take_last();
         taken = taken.saturating_add(track.counts().accepted);
         let (_scrape, post) = track.into_wires();
-        sum = sent_on(sum, &post.wire);
+        sum = sent_on(sum, &post.into_wire());
     }
     tracks.destroy_empty();
     (sum, taken)
+}
+
+/// What each read waits for.
+fn waits(pause: Duration) -> Waits<'static> {
+    if pause.is_zero() {
+        return Waits::Nothing;
+    }
+    Waits::Pause(pause)
 }
 
 /// Makes a run: the nanoseconds that it took, a sum over what was posted, and how many bodies were taken.
@@ -280,7 +92,13 @@ fn timed<R: Threads + Wait + Clock + Sync>(
 ) -> io::Result<(u128, u64, u64)>
     requires { (1 ≤ rounds) × (rounds ≤ most_visits) }
 {
-    let tracks = new_tracks(rt, alloc, reply, pause, rounds)?;
+    let plan = Plan {
+        targets: TARGETS,
+        rounds,
+        scrapers,
+        lean: 0,
+    };
+    let tracks = new_tracks(rt, alloc, reply, waits(pause), plan)?;
     let start = match Instant::now(rt) {
         Ok(start) => start,
         Err(error) => {
@@ -305,8 +123,7 @@ fn main(rt: HostRuntime) -> io::Result<()> {
     let mut reply = Vec::from_slice(rt.alloc(), b"HTTP/1.1 200 OK\r\n\r\n")?;
     let mut input = rt.stdin();
     io::Read::read_to_end(&mut input, &mut reply)?;
-    let mut words = env::args(&rt)?.into_iter();
-    let _program = words.next();
+    let mut words = words(&rt)?;
     let scrapers = number(words.next(), 1);
     let rounds = number(words.next(), 1).clamp(1, 1_000);
     let pause = Duration::from_millis(u64::from(number(words.next(), 1)));
@@ -315,20 +132,14 @@ fn main(rt: HostRuntime) -> io::Result<()> {
 }
 MAIN
 
-# The tracks are made as the tests of the pool make theirs, so what is proved of those serves here.
-mkdir -p "$proofs"
-echo 'mod Lettered' >"$proofs/Lib.antt"
-sed 's/Rattle\.pool_tests\.proofs\./Rattle.time_pool.proofs./' "$tests/Lettered.antt" >"$proofs/Lettered.antt"
-for name in close new_tracks; do
-    mkdir -p "$proofs/$name"
-    sed -e 's/Rattle\.pool_tests\.proofs\.tracks\./Rattle.time_pool.proofs./' -e 's/Rattle\.pool_tests\.proofs\./Rattle.time_pool.proofs./' \
-        -e 's/l\.plan\.targets/8/' "$tests/tracks/$name/Invariants.antt" >"$proofs/$name/Invariants.antt"
-done
-sed -e 's/Rattle\.pool_tests\.proofs\.tracks\./Rattle.time_pool.proofs./' -e 's/Rattle\.pool_tests\.proofs\./Rattle.time_pool.proofs./' \
-    -e 's/c\.args\.plan\.rounds/c.args.rounds/' -e 's/, c\.requires\.some\.[01]//g' -e 's/c\.requires\.rounds/c.requires/' \
-    "$tests/tracks/new_tracks/Answers.antt" >"$proofs/new_tracks/Answers.antt"
+# The tracks are made by the file by which the tests of the pool make theirs, and by what is proved of it.
+tests=$here/../crates/pool_tests
+proofs=$work/crates/time_pool/proofs
+cp "$tests/src/calls/tracks.rt" "$work/crates/time_pool/src/"
 mkdir -p "$proofs/posted"
-sed 's/proofs\.close\./proofs.posted./' "$proofs/close/Invariants.antt" >"$proofs/posted/Invariants.antt"
+cp -R "$tests/proofs/Lib.antt" "$tests/proofs/Lettered.antt" "$tests/proofs/calls/tracks" "$proofs/"
+find "$proofs" -type f -exec sed -i 's/Rattle\.pool_tests\.proofs\.\(calls\.\)*/Rattle.time_pool.proofs./' {} +
+sed 's/proofs\.tracks\.close\./proofs.posted./' "$proofs/tracks/close/Invariants.antt" >"$proofs/posted/Invariants.antt"
 
 add_parts time_pool asked
 build_program time_pool 1 1 0

@@ -23,15 +23,15 @@ ghost use Rattle.std.specs.Prelude.{◌≤◌};
 mod asked;
 mod one_target;
 
-use crate::asked::{input, number};
+use crate::asked::{input, number, words};
 use crate::one_target::target;
 use bridge_ports::{End, MemoryReply, MemoryWire, Place, Target};
 use label_sets::{Bytes, List};
 use page_model::{Outcome, PageFault, Treatment};
 use scrape_client::scrape;
 use std::alloc::{AllocError, Global};
+use std::io;
 use std::time::Instant;
-use std::{env, io};
 use text_grammar::TextPage;
 
 const CHUNK: usize = 4_096;
@@ -120,8 +120,7 @@ fn compare(rt: &HostRuntime, page: &[u8], most: u32, chunked: bool) -> io::Resul
 
 fn main(rt: HostRuntime) -> io::Result<()> {
     let page = input(&rt)?;
-    let mut words = env::args(&rt)?.into_iter();
-    let _program = words.next();
+    let mut words = words(&rt)?;
     for _ in 0..number(words.next(), 3) {
         compare(&rt, page.as_slice(), 4_096, false)?;
         compare(&rt, page.as_slice(), 4_096, true)?;

@@ -30,15 +30,15 @@ ghost use Rattle.series_table.specs.Records.{IsFresh};
 mod asked;
 mod one_target;
 
-use crate::asked::{input, number};
+use crate::asked::{input, number, words};
 use crate::one_target::target;
 use bridge_ports::{Address, End, MemoryReply, MemoryWire, Place, Settings};
 use label_sets::{Bytes, List};
 use page_model::{Event, Outcome, PageFault, Treatment};
 use series_table::{Track, TrackFault};
 use std::alloc::{AllocError, Global};
+use std::io;
 use std::time::Instant;
-use std::{env, io};
 use target_core::TargetState;
 use text_grammar::TextPage;
 
@@ -220,8 +220,7 @@ fn run(rt: &HostRuntime, page: &[u8], count: u32, alone: bool) -> io::Result<()>
 
 fn main(rt: HostRuntime) -> io::Result<()> {
     let page = input(&rt)?;
-    let mut words = env::args(&rt)?.into_iter();
-    let _program = words.next();
+    let mut words = words(&rt)?;
     let count = number(words.next(), 3);
     let alone = words.next().is_some();
     run(&rt, page.as_slice(), count, alone)

@@ -30,7 +30,15 @@ add_program() {
 asked() {
     cat <<'PART'
 //! What the program of a benchmark is asked: its words and its input.
-use std::io;
+use std::vec::IntoIter;
+use std::{env, io};
+
+/// The words behind the program's own.
+pub fn words(rt: &HostRuntime) -> io::Result<IntoIter<String>> {
+    let mut words = env::args(rt)?.into_iter();
+    let _program = words.next();
+    Ok(words)
+}
 
 /// The number that a word writes, or this one where it writes none.
 pub fn number(word: Option<String>, otherwise: u32) -> u32 {
@@ -48,24 +56,22 @@ pub fn input(rt: &HostRuntime) -> io::Result<Vec<u8>> {
 PART
 }
 
-# A module of the target that a program scrapes.
-one_target() {
-    cat <<'PART'
-//! The target that a benchmark scrapes: `h:1` of the job `j`.
-use bridge_ports::{Address, Target};
-use label_sets::{Bytes, Text};
-use std::alloc::{AllocError, Global};
+# A module of the target that a program scrapes, which is that of the tests.
+one_target() { cat "$here/../crates/wire_tests/src/calls/one_target.rt"; }
 
-/// The target.
-pub fn target(alloc: Global) -> Result<Target, AllocError> {
-    let job = Text::from_str(alloc, "j")?;
-    let instance = Text::from_str(alloc, "h:1")?;
-    let address = Address {
-        host: Bytes::from_slice(alloc, "h".as_bytes())?,
-        port: 1,
-        path: Bytes::from_slice(alloc, b"/metrics")?,
-    };
-    Ok(Target::new(job, instance, address, false))
+# A module of what is said of a page that has a fault.
+told() {
+    cat <<'PART'
+//! What is said of a page that has a fault.
+use page_model::PageFault;
+use std::io;
+
+/// Says the fault.
+pub fn tell(rt: &HostRuntime, fault: PageFault) -> io::Result<()> {
+    match fault {
+        PageFault::Refused { line, rule } => println!(rt; "line {line} {}", rule.name()),
+        PageFault::Memory => println!(rt; "memory"),
+    }
 }
 PART
 }

@@ -12,13 +12,14 @@ add_program time_writing "open_writing openmetrics_grammar target_core bridge_po
 #![tactic(auto)]
 mod asked;
 mod one_target;
+mod told;
 
-use crate::asked::{input, number};
+use crate::asked::{input, number, words};
 use crate::one_target::target;
+use crate::told::tell;
 use openmetrics_grammar::OpenPage;
 use page_model::{Event, Outcome, Page, PageFault, Treatment};
 use std::alloc::{AllocError, Global};
-use std::env;
 use std::io;
 use std::io::Write;
 use target_core::TargetState;
@@ -66,22 +67,14 @@ fn converted(alloc: Global, page: Page, turns: u32) -> Result<u64, AllocError> {
 }
 
 fn main(rt: HostRuntime) -> io::Result<()> {
-    let alloc = rt.alloc();
-    let mut words = env::args(&rt)?.into_iter();
-    let _program = words.next();
+    let mut words = words(&rt)?;
     let form = words.next();
     let turns = number(words.next(), 0);
     let bytes = input(&rt)?;
+    let alloc = rt.alloc();
     let page = match read_page(alloc, bytes.as_slice()) {
         Ok(page) => page,
-        Err(PageFault::Refused { line, rule }) => {
-            println!(rt; "line {line} {}", rule.name())?;
-            return Ok(());
-        }
-        Err(PageFault::Memory) => {
-            println!(rt; "memory")?;
-            return Ok(());
-        }
+        Err(fault) => return tell(&rt, fault),
     };
     let json = form.is_some_and(|word| word.as_str() == "json");
     if json {
@@ -98,7 +91,7 @@ fn main(rt: HostRuntime) -> io::Result<()> {
     println!(rt; "{}", written(alloc, &page, turns)?)
 }
 END
-add_parts time_writing asked one_target
+add_parts time_writing asked one_target told
 build_program time_writing open 1
 (cd "$here" && python3 -c "
 import sys

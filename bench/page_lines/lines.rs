@@ -1,26 +1,15 @@
 //! The lines of a page in pieces of 64 KiB, by the standard library alone, in two forms: the one by
 //! `read_until`, which searches with the C library's `memchr` and copies each line, and the one by
 //! `position`, which copies only the lines that are cut between two pieces.
+mod sums;
+
 use std::io::{BufRead, Read};
 use std::time::Instant;
+use sums::Sums;
 
 const PIECE: usize = 65_536;
 const MOST: usize = 65_536;
 const TURNS: usize = 5;
-
-struct Sums {
-    lines: u64,
-    bytes: u64,
-    mix: u64,
-}
-
-impl Sums {
-    fn add(&mut self, line: &[u8]) {
-        self.lines += 1;
-        self.bytes += line.len() as u64;
-        self.mix ^= u64::from(line.first().copied().unwrap_or(0)).wrapping_mul(self.lines);
-    }
-}
 
 enum Step<'a> {
     Line(&'a [u8]),
@@ -65,7 +54,7 @@ impl Lines {
 #[inline(never)]
 fn by_position(page: &[u8]) -> Sums {
     let mut lines = Lines { line: Vec::with_capacity(MOST), number: 1, is_behind: false, is_passing: false };
-    let mut sums = Sums { lines: 0, bytes: 0, mix: 0 };
+    let mut sums = Sums::NONE;
     for piece in page.chunks(PIECE) {
         let mut rest = piece;
         while !rest.is_empty() {
@@ -86,7 +75,7 @@ fn by_position(page: &[u8]) -> Sums {
 fn by_read_until(page: &[u8]) -> Sums {
     let mut reader = std::io::BufReader::with_capacity(PIECE, page);
     let mut line = Vec::with_capacity(MOST + 1);
-    let mut sums = Sums { lines: 0, bytes: 0, mix: 0 };
+    let mut sums = Sums::NONE;
     while reader.read_until(b'\n', &mut line).expect("a slice gives no error") > 0 {
         sums.add(line.strip_suffix(b"\n").unwrap_or(&line));
         line.clear();

@@ -25,9 +25,6 @@ enum Kind {
     Counter,
     Gauge,
     Histogram,
-    GaugeHistogram,
-    StateSet,
-    Info,
     Summary,
     Unknown,
 }
@@ -107,15 +104,18 @@ struct Page {
 
 #[derive(Clone, Copy, Debug, PartialEq, Eq)]
 enum Rule {
+    // of the bytes
+    NoNewline,
     TooLong,
     Utf8,
-    NoNewline,
-    Syntax,
-    Range,
+    // of a line
     Labels,
+    Range,
+    Syntax,
+    // of lines together
     Descriptor,
-    Split,
     Duplicate,
+    Split,
     TooMany,
     /// A kind with buckets or quantiles, which this program doesn't read.
     Unread,

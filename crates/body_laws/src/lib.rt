@@ -4,18 +4,14 @@
 
 ghost use Rattle.body_laws.specs.BodyLaws.{BodiesMarkTheGone, TracksMarkTheGone, TriesComeOfTexts};
 
-use page_model::page_laws;
-use point_laws::events_mark_the_gone;
-
 /// What is posted for a target is, in order, the texts of trees whose points without a recorded value are those of the
 /// series that the scrape before had and this one lacks, one for each.
+///
+/// So where two scrapes find the page `x 1` and then none, the second body has one such point, that of `x`.
 pub fn bodies_mark_the_gone()
     ensures bodies { BodiesMarkTheGone }
     ensures tracks { TracksMarkTheGone }
-{
-    page_laws::right_pages();
-    events_mark_the_gone();
-}
+{}
 
 /// Talks come of texts just where they are the tries of these, in order.
 pub fn tries_come_of_texts()

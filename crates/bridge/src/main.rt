@@ -5,7 +5,7 @@
 mod ending;
 
 use crate::ending::Ending;
-use bridge_ports::std_edge::{StdSink, StdSource};
+use bridge_ports::std_edge::StdStream;
 use bridge_program::bridge;
 use program_words::Status;
 use std::alloc::{AllocError, Global};
@@ -35,8 +35,8 @@ fn main(rt: HostRuntime) -> ExitCode {
         return ExitCode::from(Status::WantOfMemory.code());
     };
     let mut world = StdWorld::new(rt, rt.alloc());
-    let mut input = StdSource::new(rt.stdin());
-    let mut output = StdSink::new(rt.stdout());
+    let mut input = StdStream::new(rt.stdin());
+    let mut output = StdStream::new(rt.stdout());
     let status = bridge(
         &rt,
         rt.alloc(),

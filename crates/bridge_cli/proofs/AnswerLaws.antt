@@ -3,7 +3,7 @@ use Rattle.std.proofs.Common.{◌≡◌, ℕ, List, [], ◌∷◌, ◌++◌, Opt
 use Rattle.std.specs.Io.KnownBytes.{Appends}
 use Rattle.program_words.specs.declared.status.Status.TheVariants as statuses
 use Rattle.program_words.specs.declared.stop.Stop.{Stop}
-use Rattle.program_words.specs.declared.stop.Stop.TheVariants.{NoForm, Read, Memory}
+use Rattle.program_words.specs.declared.stop.Stop.TheVariants.{Read, Memory}
 use Rattle.program_words.specs.declared.words.Command.{Command}
 use Rattle.program_words.specs.Statuses.{code_of}
 use Rattle.program_words.specs.CommandWords.{IsCommand, FitNoForm}

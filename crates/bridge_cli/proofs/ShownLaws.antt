@@ -14,11 +14,11 @@ use Rattle.page_model.specs.declared.event.Outcome.TheVariants as outcomes
 use Rattle.page_model.specs.declared.event.Shown.{Shown}
 use Rattle.page_model.specs.declared.format.Format.{Format}
 use Rattle.page_model.specs.declared.format.Treatment.TheVariants.{Scraped as OfTarget}
-use Rattle.page_model.specs.Laws.{TextsAreRight, NothingIsRight}
+use Rattle.page_model.proofs.Laws.{text_is_right, nothing_is_right}
 use Rattle.page_model.specs.Presence.{page_of_outcome, empty_page}
 use Rattle.page_model.specs.Written.{text_setting}
 use Rattle.bridge_ports.proofs.Laws.{appends_twice, front_behind}
-use Rattle.bridge_ports.specs.Targets.{Scraped, IsTextUpTo}
+use Rattle.bridge_ports.specs.Targets.{Scraped, IsTextUpTo, have_same_names}
 use Rattle.bridge_ports.specs.declared.talk.MemoryReply.{MemoryReply}
 use Rattle.http_talk.specs.Replies.{scraped_setting, IsPageOutcome, HasOutcome}
 use Rattle.start_times.specs.Scrapes.{scrape_after}
@@ -30,7 +30,6 @@ use Rattle.target_table.specs.Paging.{federated_text}
 use Rattle.replay_script.specs.declared.header.Header.{Header}
 use Rattle.replay_script.specs.declared.script.ScriptTarget.{ScriptTarget}
 use Rattle.replay_script.specs.declared.script.Script.{Script}
-use Rattle.replay_script.specs.ScriptRules.{same_names}
 use Rattle.replay_script.specs.RightScripts.{IsRightHeader, IsRightTarget, IsRightScript}
 use Rattle.plain_words.proofs.Laws.{in_range}
 use Rattle.bridge_cli.specs.declared.replaying.Cut.{Cut}
@@ -66,26 +65,26 @@ replay_with_once true s a b x y =
 -- ---- what is shown may be gathered
 
 -- the page without families is within every limit
-nothing_within : (limit : ℕ) → NothingIsRight → IsScrapedWithin limit empty_page
-nothing_within limit nothing = record { scraped = (text_setting OfTarget limit, refl, nothing OfTarget limit); few = omega arith }
+nothing_within : (limit : ℕ) → IsScrapedWithin limit empty_page
+nothing_within limit = record { scraped = (text_setting OfTarget limit, refl, nothing_is_right OfTarget limit); few = omega arith }
 
 -- what a body comes to is within the limit
-body_within : TextsAreRight → NothingIsRight → (limit : ℕ) (f : Format) (body : List ℕ) (o : Outcome) → IsPageOutcome limit f body o → IsScrapedWithin limit (page_of_outcome o)
-body_within texts nothing limit f body (outcomes.Page page) is =
+body_within : (limit : ℕ) (f : Format) (body : List ℕ) (o : Outcome) → IsPageOutcome limit f body o → IsScrapedWithin limit (page_of_outcome o)
+body_within limit f body (outcomes.Page page) is =
     let st = scraped_setting f limit in
-    record { scraped = (st, refl, texts st body page is); few = few_samples st body page is }
-body_within texts nothing limit f body (outcomes.Failed cause) is = nothing_within limit nothing
+    record { scraped = (st, refl, text_is_right st body page is); few = few_samples st body page is }
+body_within limit f body (outcomes.Failed cause) is = nothing_within limit
 
 -- so is what a reply comes to
-reply_within : TextsAreRight → NothingIsRight → (h : Header) (r : MemoryReply) (o : Outcome) → HasOutcome h.limit h.max_page (reply_talk r) o → IsScrapedWithin h.limit (page_of_outcome o)
-reply_within texts nothing h r o has = outcome_holds (λ x. IsScrapedWithin h.limit (page_of_outcome x)) h r o (λ cause. nothing_within h.limit nothing) (body_within texts nothing h.limit) has
+reply_within : (h : Header) (r : MemoryReply) (o : Outcome) → HasOutcome h.limit h.max_page (reply_talk r) o → IsScrapedWithin h.limit (page_of_outcome o)
+reply_within h r o has = outcome_holds (λ x. IsScrapedWithin h.limit (page_of_outcome x)) h r o (λ cause. nothing_within h.limit) (body_within h.limit) has
 
 -- and what a target shows behind its events
-shown_within : TextsAreRight → NothingIsRight → (h : Header) (replies : List MemoryReply) (target : Scraped) (events : List Event) → AreEvents h replies events
+shown_within : (h : Header) (replies : List MemoryReply) (target : Scraped) (events : List Event) → AreEvents h replies events
     → IsScrapedWithin h.limit (latest_shown target events).page
 unfolding latest_shown scrape_after
-shown_within texts nothing h replies target [] are = nothing_within h.limit nothing
-shown_within texts nothing h replies target (e ∷ earlier) are = reply_within texts nothing h are.0.reply e.outcome are.0.is.comes_to
+shown_within h replies target [] are = nothing_within h.limit
+shown_within h replies target (e ∷ earlier) are = reply_within h are.0.reply e.outcome are.0.is.comes_to
 
 -- what is shown is of this job and instance
 record IsNamedAs (target : Scraped) (s : Shown) : Type 0 where
@@ -103,9 +102,9 @@ target_name : (most : ℕ) (name : List ℕ) → IsTextUpTo most name → IsTarg
 target_name most name t = record { text = is_utf8-from_IsUtf8 name (IsUtf8-had name t.text); some = t.some; short = t.short }
 
 -- what a target of a right script shows
-may_show : TextsAreRight → NothingIsRight → (h : Header) (t : ScriptTarget) (s : Shown) → IsRightHeader h → IsRightTarget h t → IsLastShown h t s → IsShowable s
-may_show texts nothing h t s header right is =
-    let page : IsScrapedWithin h.limit s.page = subst (λ (x : Shown). IsScrapedWithin h.limit x.page) (sym is.shows) (shown_within texts nothing h t.scrapes t.target is.events is.are) in
+may_show : (h : Header) (t : ScriptTarget) (s : Shown) → IsRightHeader h → IsRightTarget h t → IsLastShown h t s → IsShowable s
+may_show h t s header right is =
+    let page : IsScrapedWithin h.limit s.page = subst (λ (x : Shown). IsScrapedWithin h.limit x.page) (sym is.shows) (shown_within h t.scrapes t.target is.events is.are) in
     let named = last_named h t s is in
     record {
       job = subst (IsTargetName 256) (sym named.job) (target_name 256 t.target.job right.scraped.job);
@@ -114,24 +113,24 @@ may_show texts nothing h t s header right is =
       samples = omega (arith, page.few, (in_range 1 200000 h.limit header.limit).1);
     }
 
-all_may_show : TextsAreRight → NothingIsRight → (h : Header) (ts : List ScriptTarget) (seen : List Shown) → IsRightHeader h → AllByRecursion (IsRightTarget h) ts → AreLastShown h ts seen → AllByRecursion IsShowable seen
-all_may_show texts nothing h [] [] header right are = tt
-all_may_show texts nothing h [] (s ∷ seen) header right are = absurd are
-all_may_show texts nothing h (t ∷ ts) [] header right are = absurd are
-all_may_show texts nothing h (t ∷ ts) (s ∷ seen) header right are = (may_show texts nothing h t s header right.0 are.0, all_may_show texts nothing h ts seen header right.1 are.1)
+all_may_show : (h : Header) (ts : List ScriptTarget) (seen : List Shown) → IsRightHeader h → AllByRecursion (IsRightTarget h) ts → AreLastShown h ts seen → AllByRecursion IsShowable seen
+all_may_show h [] [] header right are = tt
+all_may_show h [] (s ∷ seen) header right are = absurd are
+all_may_show h (t ∷ ts) [] header right are = absurd are
+all_may_show h (t ∷ ts) (s ∷ seen) header right are = (may_show h t s header right.0 are.0, all_may_show h ts seen header right.1 are.1)
 
 -- no two are of one job and instance
-one_target : (t u : Scraped) (a b : Shown) → IsNamedAs t a → IsNamedAs u b → is_one_target a b ≡ same_names t u
+one_target : (t u : Scraped) (a b : Shown) → IsNamedAs t a → IsNamedAs u b → is_one_target a b ≡ have_same_names t u
 one_target t u a b x y = λ i. bytes_eq (x.job i) (y.job i) && bytes_eq (x.instance i) (y.instance i)
 
 apart_shown : (h : Header) (t : Scraped) (s : Shown) (ts : List ScriptTarget) (seen : List Shown) → IsNamedAs t s → AreLastShown h ts seen
-    → AllByRecursion (λ y. same_names t y ≡ false) (map (λ (u : ScriptTarget). u.target) ts) → AllByRecursion (λ y. is_one_target s y ≡ false) seen
+    → AllByRecursion (λ y. have_same_names t y ≡ false) (map (λ (u : ScriptTarget). u.target) ts) → AllByRecursion (λ y. is_one_target s y ≡ false) seen
 apart_shown h t s [] [] named are apart = tt
 apart_shown h t s [] (y ∷ seen) named are apart = absurd are
 apart_shown h t s (u ∷ ts) [] named are apart = absurd are
 apart_shown h t s (u ∷ ts) (y ∷ seen) named are apart = (one_target t u.target s y named (last_named h u y are.0) ∙ apart.0, apart_shown h t s ts seen named are.1 apart.1)
 
-distinct_shown : (h : Header) (ts : List ScriptTarget) (seen : List Shown) → AreLastShown h ts seen → IsDistinct same_names (map (λ (u : ScriptTarget). u.target) ts) → IsDistinct is_one_target seen
+distinct_shown : (h : Header) (ts : List ScriptTarget) (seen : List Shown) → AreLastShown h ts seen → IsDistinct have_same_names (map (λ (u : ScriptTarget). u.target) ts) → IsDistinct is_one_target seen
 unfolding IsDistinct
 distinct_shown h [] [] are apart = tt
 distinct_shown h [] (s ∷ seen) are apart = absurd are
@@ -139,11 +138,11 @@ distinct_shown h (t ∷ ts) [] are apart = absurd are
 distinct_shown h (t ∷ ts) (s ∷ seen) are apart = (apart_shown h t.target s ts seen (last_named h t s are.0) are.1 apart.0, distinct_shown h ts seen are.1 apart.1)
 
 -- what the targets of a right script show may be gathered
-pub showable : TextsAreRight → NothingIsRight → (s : Script) (shown : List Shown) → IsRightScript s → AreLastShown s.header s.targets shown → AreShowable shown
-showable texts nothing s shown right are = record {
+pub showable : (s : Script) (shown : List Shown) → IsRightScript s → AreLastShown s.header s.targets shown → AreShowable shown
+showable s shown right are = record {
   few = omega (arith, right.few_targets, AllZip-long (IsLastShown s.header) s.targets shown are);
   distinct = distinct_shown s.header s.targets shown are right.names;
-  each = All-from_recursion IsShowable shown (all_may_show texts nothing s.header s.targets shown right.header right.targets are);
+  each = All-from_recursion IsShowable shown (all_may_show s.header s.targets shown right.header right.targets are);
 }
 
 -- ---- one target more

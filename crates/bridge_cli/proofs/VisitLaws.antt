@@ -6,11 +6,10 @@ use Rattle.std.proofs.lemmas.Grind.{get_or_default_zero}
 use Rattle.std.proofs.lemmas.List.{map-append, length-map, reverse-append, take_more, length-take-le}
 use Rattle.std.proofs.lemmas.List.Elements.{All-append}
 use Rattle.plain_words.proofs.Laws.{in_range}
-use Rattle.bridge_ports.specs.Targets.{IsScraped}
+use Rattle.bridge_ports.specs.Targets.{IsScraped, have_same_names}
 use Rattle.replay_script.specs.declared.header.Header.{Header}
 use Rattle.replay_script.specs.declared.script.ScriptTarget.{ScriptTarget}
 use Rattle.replay_script.specs.declared.script.Script.{Script}
-use Rattle.replay_script.specs.ScriptRules.{same_names}
 use Rattle.replay_script.specs.WirePlans.{script_settings}
 use Rattle.replay_script.specs.RightScripts.{IsRightHeader, IsRightTarget, IsRightScript}
 use Rattle.series_table.specs.HttpTalks.{talking}
@@ -51,12 +50,12 @@ followed_length keeps h [] = refl
 followed_length keeps h (t ∷ ts) = ap suc (followed_length keeps h ts)
 
 -- no name again
-other_followed : (keeps : Bool) (h : Header) (t : ScriptTarget) (ts : List ScriptTarget) → AllByRecursion (λ y. same_names t.target y ≡ false) (map (λ (u : ScriptTarget). u.target) ts)
+other_followed : (keeps : Bool) (h : Header) (t : ScriptTarget) (ts : List ScriptTarget) → AllByRecursion (λ y. have_same_names t.target y ≡ false) (map (λ (u : ScriptTarget). u.target) ts)
     → AllByRecursion (λ y. is_same_target (script_followed keeps h t) y ≡ false) (script_targets keeps h ts)
 other_followed keeps h t [] all = tt
 other_followed keeps h t (u ∷ us) all = (all.0, other_followed keeps h t us all.1)
 
-distinct_followed : (keeps : Bool) (h : Header) (ts : List ScriptTarget) → IsDistinct same_names (map (λ (u : ScriptTarget). u.target) ts) → IsDistinct is_same_target (script_targets keeps h ts)
+distinct_followed : (keeps : Bool) (h : Header) (ts : List ScriptTarget) → IsDistinct have_same_names (map (λ (u : ScriptTarget). u.target) ts) → IsDistinct is_same_target (script_targets keeps h ts)
 unfolding IsDistinct
 distinct_followed keeps h [] all = tt
 distinct_followed keeps h (t ∷ ts) all = (other_followed keeps h t ts all.0, distinct_followed keeps h ts all.1)

@@ -1,6 +1,6 @@
 -- What is to be printed, and what was.
 -- The bridge's own.
-use Rattle.std.specs.Prelude.{◌≡◌, ◌⊎◌, ℕ, ◌≤◌, Bool, true, false, ◌∷◌, ◌++◌, codes, List, [], length, Option, Result, Ok, Err, ⊤}
+use Rattle.std.specs.Prelude.{◌≡◌, ◌⊎◌, ℕ, ◌≤◌, Bool, true, false, ◌∷◌, ◌++◌, codes, List, [], length, slice_get, Option, Some, Result, Ok, Err, ⊤}
 use Rattle.std.specs.Cow.{cow_slice_items}
 use Rattle.std.specs.Io.KnownBytes.{Appends}
 use Rattle.page_model.specs.declared.event.Event.{Event}
@@ -16,7 +16,8 @@ use Rattle.otlp_json.specs.Texts.{request_text}
 use Rattle.replay_script.specs.declared.header.Header.{Header}
 use Rattle.replay_script.specs.declared.script.ScriptTarget.{ScriptTarget}
 use Rattle.replay_script.specs.declared.script.Script.{Script}
-use Rattle.replay_script.specs.RightScripts.{IsRightScript}
+use Rattle.replay_script.specs.RightScripts.{IsRightTarget, IsRightScript}
+use Rattle.series_table.specs.Records.{Kept}
 use Rattle.bridge_cli.specs.declared.answer.Printed.{Printed}
 use Rattle.bridge_cli.specs.declared.answer.Printed.TheVariants.{Whole, Tree, Bodies, Report}
 use Rattle.bridge_cli.specs.declared.replaying.Cut.{Cut}
@@ -25,6 +26,7 @@ use Rattle.program_words.specs.declared.status.Status.{Status}
 use Rattle.program_words.specs.declared.status.Status.TheVariants.{Done, WriteFailed, WantOfMemory}
 use Rattle.program_words.specs.Statuses.{code_of, IsTold}
 use Rattle.bridge_cli.specs.Replays.{script_tracking, IsReplyEvent, AreEvents, body_after, bodies_of, IsTextOfSome, IsTextOf, AreTexts, joined_texts, IsLastShown, IsReplay, IsReplayOfSome, IsReplayWith, MayBeCut}
+use Rattle.bridge_cli.specs.Rounds.{IsAtRound}
 use Rattle.program_words.specs.declared.stop.Stop.{Stop}
 use Rattle.program_words.specs.declared.words.Command.{Command}
 use Rattle.program_words.specs.CommandWords.{IsCommand, AskForNo, prints_pieces}
@@ -99,6 +101,16 @@ PrintsNext h target r earlier new before after (Ok done) =
     (e : Event) × IsReplyEvent h r e × StandsFor target (script_tracking h) new (e ∷ earlier) × Appends before after (body_after h target earlier e)
 PrintsNext h target r earlier new before after (Err Write) = (e : Event) × IsReplyEvent h r e × WroteFront before after (body_after h target earlier e)
 PrintsNext h target r earlier new before after (Err Memory) = Appends before after []
+
+-- what printing the body of a reply over the state of a target came to, whatever events of that target the state stands for
+abbrev pub PrintsReply : Header → MemoryReply → Following → Following → Option (List ℕ) → Option (List ℕ) → Result ⊤ Cut → Type 0
+PrintsReply h r old new before after result = (target : Scraped) (earlier : List Event) → StandsFor target (script_tracking h) old earlier → PrintsNext h target r earlier new before after result
+
+-- what printing the body of a visit came to: that of the reply to the round at which the track of a script's target stands, whatever events of the rounds before its state stands for
+abbrev pub PrintsRound : Kept → Kept → Option (List ℕ) → Option (List ℕ) → Result ⊤ Cut → Type 0
+PrintsRound old new before after result =
+    (keeps : Bool) (h : Header) (t : ScriptTarget) (place at : ℕ) (r : MemoryReply) (earlier : List Event) → IsRightTarget h t → IsAtRound keeps h t place at old → slice_get t.scrapes at ≡ Some r
+    → StandsFor t.target (script_tracking h) old.following earlier → PrintsNext h t.target r earlier new.following before after result
 
 -- so much of the texts of a target was printed
 pub record PrintedSome (h : Header) (t : ScriptTarget) (at : ℕ) (state : Following) (before after : Option (List ℕ)) : Type 0 where

@@ -1,6 +1,6 @@
 -- The run of a script: the tracks of its targets, how they are made, and what is left of them.
 -- The bridge's own.
-use Rattle.std.specs.Prelude.{◌≡◌, ℕ, ◌+◌, ◌≤◌, Bool, true, false, List, [], length, map, Some}
+use Rattle.std.specs.Prelude.{◌≡◌, ℕ, ◌+◌, ◌≤◌, Bool, true, false, List, [], length, map, Some, Result, OnOk}
 use Rattle.std.specs.List.{AllZip, AllByRecursion}
 use Rattle.bridge_ports.specs.declared.talk.Place.{Place}
 use Rattle.bridge_ports.specs.declared.talk.Talk.{Talk}
@@ -59,6 +59,10 @@ pub record IsAtRound (keeps : Bool) (h : Header) (t : ScriptTarget) (place at : 
   pub talks : List Talk
   pub told : talks_of k.scrape ≡ Some talks
   pub many : length talks ≡ at
+
+-- a visit that succeeds takes the track of a script's target, so many of whose rounds were made, to the next round
+abbrev pub ComesToNextRound : {T E : Type 0} → Kept → Kept → Result T E → Type 0
+ComesToNextRound old new result = (keeps : Bool) (h : Header) (t : ScriptTarget) (place at : ℕ) → IsAtRound keeps h t place at old → OnOk result (IsAtRound keeps h t place (at + 1) new)
 
 -- the wires of a track are these, which are in memory, and whose talks follow their plans
 pub record AreWiresOf (k : Kept) (w : Shelved) : Type 0 where

@@ -85,10 +85,10 @@ abbrev pub with_shelved : List Shelved → WorldState → WorldState
 with_shelved [] w = w
 with_shelved (pair ∷ pairs) w = with_shelved pairs (with_shelved_pair pair.scrape pair.post w)
 
--- of a world, with its files, its pairs at home, the addresses to which they were handed out and what is to come at its doors, nothing but its shelf changed
-pub record KeepsAllButShelf {F H G C : Type 0} (before after : WorldState) (files files_now : F) (home home_now : H) (given given_now : G) (coming coming_now : C) : Type 0 where
-  pub rest : after ≡ record before { shelf = after.shelf }
-  pub files_kept : files_now ≡ files
-  pub home_kept : home_now ≡ home
-  pub given_kept : given_now ≡ given
-  pub coming_kept : coming_now ≡ coming
+-- of a world, with its files, its pairs at home, the addresses to which they were handed out and what is to come at its doors, as its members tell these, nothing but its shelf changed
+pub record KeepsAllButShelf {W F H G C : Type 0} (world : W → WorldState) (files : W → F) (home : W → H) (given : W → G) (coming : W → C) (before after : W) : Type 0 where
+  pub rest : world after ≡ record (world before) { shelf = (world after).shelf }
+  pub files_kept : files after ≡ files before
+  pub home_kept : home after ≡ home before
+  pub given_kept : given after ≡ given before
+  pub coming_kept : coming after ≡ coming before

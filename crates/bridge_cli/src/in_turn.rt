@@ -1,17 +1,12 @@
 //! One scraper: each target is visited for all rounds before the next one, and each body is printed from where it was
 //! written for its post.
-ghost use Rattle.std.specs.Prelude.{◌≡◌, ◌<◌, ◌+◌, ◌∷◌, ◌++◌, [], ℕ, Bool, List as Seq, Some, true, codes, slice_get, IfOk, OnOk};
-ghost use Rattle.page_model.specs.declared.event.Event.{Event as AnyEvent};
-ghost use Rattle.bridge_ports.specs.declared.talk.MemoryReply.{MemoryReply as AnyReply};
-ghost use Rattle.replay_script.specs.declared.header.Header.{Header as AnyHeader};
-ghost use Rattle.replay_script.specs.declared.script.ScriptTarget.{ScriptTarget as AnyTarget};
-ghost use Rattle.target_core.specs.States.{StandsFor};
+ghost use Rattle.std.specs.Prelude.{◌≡◌, ◌<◌, ◌∷◌, ◌++◌, [], true, codes, IfOk, OnOk};
 ghost use Rattle.replay_script.specs.RightScripts.{IsRightHeader, IsRightTarget, IsRightScript};
-ghost use Rattle.replay_script.specs.ScriptRules.{most_targets};
+ghost use Rattle.bridge_ports.specs.Targets.{most_targets};
 ghost use Rattle.series_table.specs.Records.{most_visits};
-ghost use Rattle.bridge_cli.specs.Replays.{script_tracking, AreLastShown};
-ghost use Rattle.bridge_cli.specs.Rounds.{script_followed, IsUnvisited, IsAtRound, IsVisitedAt, AreVisitedWires};
-ghost use Rattle.bridge_cli.specs.Printed.{CutCause, PrintsText, PrintsNext, PrintsTarget, PrintsBodies, ShowsOneMore};
+ghost use Rattle.bridge_cli.specs.Replays.{AreLastShown};
+ghost use Rattle.bridge_cli.specs.Rounds.{script_followed, IsUnvisited, IsAtRound, ComesToNextRound, IsVisitedAt, AreVisitedWires};
+ghost use Rattle.bridge_cli.specs.Printed.{CutCause, PrintsText, PrintsRound, PrintsTarget, PrintsBodies, ShowsOneMore};
 
 use crate::replaying::Cut;
 use crate::visiting::{Turn, new_track, track_wires};
@@ -60,12 +55,8 @@ fn print_visit<O: Sink>(
     output: &mut O,
 ) -> Result<(), Cut>
     requires { track.old.counts.visits < most_visits }
-    ensures goes_on { (keeps : Bool) (h : AnyHeader) (t : AnyTarget) (place at : ℕ) → IsAtRound keeps h t place at track.old
-        → OnOk result (IsAtRound keeps h t place (at + 1) track.new) }
-    ensures printed { (keeps : Bool) (h : AnyHeader) (t : AnyTarget) (place at : ℕ) (reply : AnyReply) (earlier : Seq AnyEvent) → IsRightTarget h t
-        → IsAtRound keeps h t place at track.old → slice_get t.scrapes at ≡ Some reply
-        → StandsFor t.target (script_tracking h) track.old.following earlier
-        → PrintsNext h t.target reply earlier track.new.following (O.held output.old) (O.held output.new) result }
+    ensures goes_on { ComesToNextRound track.old track.new result }
+    ensures printed { PrintsRound track.old track.new (O.held output.old) (O.held output.new) result }
     ensures cause { CutCause (O.write_faults output.old) (O.write_faults output.new) result }
 {
     match track.next_body(alloc) {

@@ -61,8 +61,7 @@ pub(crate) fn print_report<R: Threads + Wait + Sync, W: World, O: Sink>(
     ensures printed { PrintsReport script.now (O.held output.old) (O.held output.new) result }
     ensures cause { CutCause (O.write_faults output.old) (O.write_faults output.new) result }
     ensures shelf { OnOk result (IsShelfOf script.now (W.world world.old).shelf (W.world world.new).shelf) }
-    ensures kept { KeepsAllButShelf (W.world world.old) (W.world world.new) (W.files world.old) (W.files world.new)
-        (W.home world.old) (W.home world.new) (W.given world.old) (W.given world.new) (W.coming world.old) (W.coming world.new) }
+    ensures kept { KeepsAllButShelf W.world W.files W.home W.given W.coming world.old world.new }
 {
     let keeps = world.has_shelf();
     let over = match run_script(rt, alloc, script, SCRAPERS, keeps) {

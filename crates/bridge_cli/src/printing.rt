@@ -15,7 +15,6 @@ use crate::turns::run_script;
 use bridge_ports::{Failed, Shelved, Sink, World, write_all};
 use label_sets::Memory;
 use page_model::Shown;
-use page_model::page_laws::right_pages;
 use replay_script::Script;
 use run_report::TargetEnd;
 use std::alloc::{AllocError, Global};
@@ -121,7 +120,6 @@ fn print_visits<R: Threads + Wait + Sync, O: Sink>(
     ensures cause { CutCause (O.write_faults output.old) (O.write_faults output.new) result }
     ensures wires { IfOk result (λ wires. AreVisitedWires wanted.keeps script.now wires.items) }
 {
-    right_pages();
     let Over { wires, shown } = match print_bodies(rt, alloc, script, scrapers, wanted, output) {
         Ok(over) => over,
         Err(cut) => return Err(cut),
@@ -150,8 +148,7 @@ pub(crate) fn print_script<R: Threads + Wait + Sync, W: World, O: Sink>(
     ensures printed { PrintsScript page script.now (O.held output.old) (O.held output.new) result }
     ensures cause { CutCause (O.write_faults output.old) (O.write_faults output.new) result }
     ensures shelf { OnOk result (IsShelfOf script.now (W.world world.old).shelf (W.world world.new).shelf) }
-    ensures kept { KeepsAllButShelf (W.world world.old) (W.world world.new) (W.files world.old) (W.files world.new)
-        (W.home world.old) (W.home world.new) (W.given world.old) (W.given world.new) (W.coming world.old) (W.coming world.new) }
+    ensures kept { KeepsAllButShelf W.world W.files W.home W.given W.coming world.old world.new }
 {
     let wanted = Wanted {
         page,

@@ -1,13 +1,12 @@
 //! The program over any input and output.
-ghost use Rattle.std.specs.Prelude.{◌≡◌, ◌≢◌, ◌⊎◌, true, map, string_bytes, IfOk, IfErr};
-ghost use Rattle.program_words.specs.declared.words.Command.{Command as AnyCommand};
-ghost use Rattle.program_words.specs.declared.status.Status.TheVariants.{Done, NoForm, ReadFailed, WriteFailed, WantOfMemory, TooLong};
+ghost use Rattle.std.specs.Prelude.{◌≡◌, ◌≢◌, map, string_bytes, IfOk, IfErr};
+ghost use Rattle.program_words.specs.declared.status.Status.TheVariants.{Done, ReadFailed, WriteFailed, WantOfMemory, TooLong};
 ghost use Rattle.bridge_cli.specs.Answers.{IsAnswer};
-ghost use Rattle.program_words.specs.CommandWords.{IsCommand, FitNoForm, AskForNo, WhereRead, reads_input, prints_pieces, takes_memory};
+ghost use Rattle.program_words.specs.CommandWords.{AskForNo, WhereRead, reads_input, prints_pieces, takes_memory};
 ghost use Rattle.bridge_ports.specs.Inputs.{TookAtMost, IsReadThrough};
 ghost use Rattle.program_words.specs.StopInputs.{Leaves};
 ghost use Rattle.bridge_cli.specs.Printed.{IsPrintedFor, IsPrintable, IsNothing, IsWhole, IsShelved, Ended};
-ghost use Rattle.bridge_cli.specs.ProgramOutputs.{Answered, AnsweredInPart, AnsweredInPieces, IsOnlyAnswer, ShelvesVisits};
+ghost use Rattle.bridge_cli.specs.ProgramOutputs.{WritesAnswer, HasOneAnswer, ReadsAsAsked, ShelvesWires};
 ghost use Rattle.program_words.specs.Statuses.{TellsFault, code_of, IsStatus, IsTold, IsUntold};
 ghost use Rattle.bridge_cli.specs.Shelves.{KeepsAllButShelf};
 ghost use Rattle.program_words.specs.StopAnswers.{StopsAs};
@@ -78,8 +77,7 @@ fn print<R: Threads + Wait + Sync, W: World, O: Sink>(
     ensures empty { IsNothing answer.now.printed → output.new ≡ output.old }
     ensures faults { TellsFault (code_of WriteFailed) result (O.write_faults output.old) (O.write_faults output.new) }
     ensures shelf { result ≡ code_of Done → IsShelved answer.now.printed (W.world world.old).shelf (W.world world.new).shelf }
-    ensures kept { KeepsAllButShelf (W.world world.old) (W.world world.new) (W.files world.old) (W.files world.new)
-        (W.home world.old) (W.home world.new) (W.given world.old) (W.given world.new) (W.coming world.old) (W.coming world.new) }
+    ensures kept { KeepsAllButShelf W.world W.files W.home W.given W.coming world.old world.new }
     ensures unused { IsWhole answer.now.printed → world.new ≡ world.old }
 {
     match &answer.printed {
@@ -123,6 +121,16 @@ fn print<R: Threads + Wait + Sync, W: World, O: Sink>(
 /// page of what the targets show behind their last scrapes follows the bodies. At status 0 the wires of the targets,
 /// which are in memory, are on the shelf of the world, where it has one, targets in order: their talks tell what was
 /// scraped, and that the bodies were posted.
+///
+/// # Example
+///
+/// ```rust
+/// let words = [String::from_str(alloc, "check")?, String::from_str(alloc, "text")?];
+/// let mut input = SureSource::new(Bytes::from_slice(alloc, b"# TYPE x counter\ny 1\nx 2\n")?);
+/// let mut output = MemorySink::new(alloc, 1_000, List::new(alloc))?;
+/// let status = bridge(&rt, alloc, &words, &mut world, &mut input, &mut output);
+/// assert_eq!(rt; (status, output.held()), (1, b"refused line 3 rule 11 Split\n".as_slice()));
+/// ```
 pub fn bridge<R: Threads + Wait + Sync, W: World, I: Source, O: Sink>(
     rt: &R,
     alloc: Global,
@@ -133,33 +141,13 @@ pub fn bridge<R: Threads + Wait + Sync, W: World, I: Source, O: Sink>(
 ) -> u8
     ensures statuses { IsStatus result }
 
-    // What was written: the whole answer, a front of it, or nothing.
-    ensures answered { IsTold result → Answered (map string_bytes words.now) (I.left input.old) result
-        (O.held output.old) (O.held output.new) }
-    ensures cut_off { result ≡ code_of WriteFailed → AnsweredInPart (map string_bytes words.now) (I.left input.old)
-        (O.held output.old) (O.held output.new) }
-    ensures silent { result ≡ code_of ReadFailed → output.new ≡ output.old }
-    ensures memory { result ≡ code_of WantOfMemory → AskForNo prints_pieces (map string_bytes words.now) → output.new ≡ output.old }
-    ensures memory_in_pieces { result ≡ code_of WantOfMemory → (output.new ≡ output.old)
-        ⊎ AnsweredInPieces (map string_bytes words.now) (I.left input.old) (O.held output.old) (O.held output.new) }
+    // What was written: the whole answer, a front of it, or nothing. There is no other answer to the words and the bytes.
+    ensures written { WritesAnswer (map string_bytes words.now) (I.left input.old) O.held output.old output.new result }
+    ensures one_answer { HasOneAnswer (map string_bytes words.now) (I.left input.old) (O.held output.old) (O.held output.new) result }
 
-    // There is no other answer to the words and the bytes.
-    ensures only_answer { IsTold result → IsOnlyAnswer (map string_bytes words.now) (I.left input.old) result
-        (O.held output.old) (O.held output.new) }
-    ensures no_form { result ≡ code_of NoForm → FitNoForm (map string_bytes words.now) }
-    ensures only_no_form { FitNoForm (map string_bytes words.now)
-        → (result ≡ code_of NoForm) ⊎ (result ≡ code_of WriteFailed) }
-
-    // Only the commands that read the input read, and only those that take memory can find none.
-    ensures unread { AskForNo reads_input (map string_bytes words.now)
-        → (input.new ≡ input.old) × (result ≢ code_of ReadFailed) }
+    // Only the commands that read the input read, to its end or past their limit; only those that take memory can find none.
+    ensures input { ReadsAsAsked (map string_bytes words.now) I.left input.old input.new result }
     ensures ready { AskForNo takes_memory (map string_bytes words.now) → result ≢ code_of WantOfMemory }
-
-    // An input is read to its end or past its limit, and where a read failed or memory was wanted not past it.
-    ensures read_through { WhereRead (map string_bytes words.now) (λ most. ¬ IsUntold result
-        → IsReadThrough most (I.left input.old) (I.left input.new)) }
-    ensures read_in_part { WhereRead (map string_bytes words.now) (λ most. IsUntold result
-        → TookAtMost most (I.left input.old) (I.left input.new)) }
 
     // The counts of faults: each rose exactly where the status says so.
     ensures read_faults { TellsFault (code_of ReadFailed) result (I.read_faults input.old) (I.read_faults input.new) }
@@ -167,11 +155,10 @@ pub fn bridge<R: Threads + Wait + Sync, W: World, I: Source, O: Sink>(
 
     // The commands that visit targets put the wires of these on the shelf, once all was written; nothing else is done to
     // the world.
-    ensures shelf { result ≡ code_of Done → (command : AnyCommand) → IsCommand (map string_bytes words.now) command → prints_pieces command ≡ true
-        → ShelvesVisits command (I.left input.old) (O.held output.old) (O.held output.new) (W.world world.old).shelf (W.world world.new).shelf }
+    ensures shelf { ShelvesWires (map string_bytes words.now) (I.left input.old) O.held output.old output.new
+        W.world world.old world.new result }
     ensures world_kept { AskForNo prints_pieces (map string_bytes words.now) → world.new ≡ world.old }
-    ensures all_but_shelf { KeepsAllButShelf (W.world world.old) (W.world world.new) (W.files world.old) (W.files world.new)
-        (W.home world.old) (W.home world.new) (W.given world.old) (W.given world.new) (W.coming world.old) (W.coming world.new) }
+    ensures all_but_shelf { KeepsAllButShelf W.world W.files W.home W.given W.coming world.old world.new }
 {
     let answer = answer(alloc, words, input);
     print(rt, alloc, world, output, &answer)

@@ -6,7 +6,7 @@ ghost use Rattle.page_model.specs.declared.event.Event.{Event as AnyEvent};
 ghost use Rattle.target_core.specs.States.{StandsFor, HasNextMoment};
 ghost use Rattle.replay_script.specs.RightScripts.{IsOver, IsRightHeader, IsRightTarget, IsRightScript};
 ghost use Rattle.bridge_cli.specs.Replays.{script_tracking, AreLastShown};
-ghost use Rattle.bridge_cli.specs.Printed.{cut_status, CutCause, MakesTree, PrintsNext, PrintsTarget, PrintsBodies, StandsForAll, ShowsLast};
+ghost use Rattle.bridge_cli.specs.Printed.{cut_status, CutCause, MakesTree, PrintsReply, PrintsTarget, PrintsBodies, StandsForAll, ShowsLast};
 
 use bridge_ports::{Failed, MemoryReply, Sink};
 use otlp_tree::Request;
@@ -76,8 +76,7 @@ fn print_next<O: Sink>(
     requires right { IsRightHeader header.now }
     requires ended { IsOver reply.now }
     requires next { HasNextMoment state.old.moment }
-    ensures printed { (target : Scraped) (earlier : Seq AnyEvent) → StandsFor target (script_tracking header.now) state.old earlier
-        → PrintsNext header.now target reply.now earlier state.new (O.held output.old) (O.held output.new) result }
+    ensures printed { PrintsReply header.now reply.now state.old state.new (O.held output.old) (O.held output.new) result }
     ensures cause { CutCause (O.write_faults output.old) (O.write_faults output.new) result }
 {
     let request = match next_tree(alloc, header, reply, state) {

@@ -7,16 +7,13 @@ ghost use Rattle.bridge_cli.specs.Printed.{HoldsBytes, HoldsScript};
 ghost use Rattle.bridge_cli.specs.Replays.{IsReplayWith};
 ghost use Rattle.program_words.specs.StopAnswers.{StopsAs};
 
-use bridge_ports::Source;
+use bridge_ports::{BLOCK_BYTES, Source};
 use program_words::Stop;
 use replay_script::{Script, read};
 use std::alloc::Global;
 
 /// The most bytes of a script: 256 MiB.
 const MOST_SCRIPT_BYTES: usize = 1 << 28;
-
-/// The most bytes that one read takes.
-const BLOCK_BYTES: usize = 1 << 16;
 
 /// The bytes of a script on an input.
 fn script_bytes<I: Source>(alloc: Global, input: &mut I) -> Result<Vec<u8>, Stop>

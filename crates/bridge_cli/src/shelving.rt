@@ -15,8 +15,7 @@ pub(crate) fn shelve<W: World>(
 ) -> Result<(), Memory>
     requires { AllByRecursion IsFreePair wires.items }
     ensures done { OnOk result (W.world world.new ≡ with_shelved wires.items (W.world world.old)) }
-    ensures kept { KeepsAllButShelf (W.world world.old) (W.world world.new) (W.files world.old) (W.files world.new)
-        (W.home world.old) (W.home world.new) (W.given world.old) (W.given world.new) (W.coming world.old) (W.coming world.new) }
+    ensures kept { KeepsAllButShelf W.world W.files W.home W.given W.coming world.old world.new }
 {
     let mut left = wires;
     left.reverse();

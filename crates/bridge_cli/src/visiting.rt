@@ -2,7 +2,7 @@
 ghost use Rattle.std.specs.Prelude.{◌≡◌, ◌+◌, ◌<◌, IfOk};
 ghost use Rattle.std.specs.List.{AllZip};
 ghost use Rattle.replay_script.specs.RightScripts.{IsRightHeader, IsRightScript};
-ghost use Rattle.replay_script.specs.ScriptRules.{most_targets};
+ghost use Rattle.bridge_ports.specs.Targets.{most_targets};
 ghost use Rattle.series_table.specs.HttpTalks.{talking};
 ghost use Rattle.series_table.specs.Records.{IsTrack};
 ghost use Rattle.target_table.specs.Tables.{AreTracks, AreUnvisited};

@@ -14,7 +14,7 @@ use Rattle.plain_words.specs.Places.{place_in, is_port, is_visible_word}
 use Rattle.plain_words.proofs.Laws.{bind_some, when_some}
 use Rattle.plain_words.proofs.Laws.{place_spelled}
 use Rattle.bridge_ports.specs.declared.talk.Address as Addresses
-use Rattle.bridge_ports.specs.Targets.{Scraped}
+use Rattle.bridge_ports.specs.Targets.{Scraped, have_same_names}
 use Rattle.toml.specs.Data.{Data, Members, get_member, as_str, as_integer}
 use Rattle.url.specs.Parts.{Parts}
 use Rattle.url.specs.Parser.{parse_url}
@@ -25,7 +25,7 @@ use Rattle.bridge_config.specs.ConfigKeys.{collector_key, pages_key, listen_key,
 use Rattle.bridge_config.specs.Addresses.{url_host, port_of, is_host, is_bare, is_url_address, url_in, right_url, address_of, is_pathless, collector_of}
 use Rattle.bridge_config.specs.Configurations.{key_number, text_at, target_tables, no_address, collector_in, table_target, place_address, door_in, config_of}
 use Rattle.bridge_config.specs.KeyFaults.{is_not_zero, is_faulty, is_job, key_fault}
-use Rattle.bridge_config.specs.ConfigFaults.{wrong_address, wrong_target, address_fault, have_same_names, is_named_in, first_repeated, twice_fault, too_large, product_fault, limits_fault, config_fault}
+use Rattle.bridge_config.specs.ConfigFaults.{wrong_address, wrong_target, address_fault, is_named_in, first_repeated, twice_fault, too_large, product_fault, limits_fault, config_fault}
 use Rattle.bridge_config.specs.RightConfigs.{IsRightAddress, IsRightConfigTarget, AreRightProducts, AreRightNumbers, IsRightConfig, NumbersAreRight, ConfigsAreRight}
 use Rattle.bridge_config.specs.Makings.{HaveJobs}
 use Rattle.bridge_config.proofs.NoneLaws.{first_none}

@@ -7,6 +7,7 @@ use Rattle.std.specs.Option.{option_or}
 use Rattle.label_sets.specs.Lists.{when_true}
 use Rattle.plain_words.specs.Places.{is_port}
 use Rattle.bridge_ports.specs.declared.talk.Address.{Address}
+use Rattle.bridge_ports.specs.Targets.{most_host_bytes}
 use Rattle.url.specs.Parts.{Parts, nonempty_host}
 use Rattle.url.specs.Host.{host_text}
 use Rattle.url.specs.Scheme.{default_port}
@@ -26,7 +27,7 @@ asked_of u = u.path ++ unwrap_or (option_map (λ query. codes "?" ++ query) u.qu
 
 -- a host of 1 to 256 bytes
 abbrev pub is_host : List ℕ → Bool
-is_host host = is_in_range 1 256 (length host)
+is_host host = is_in_range 1 most_host_bytes (length host)
 
 -- no user, no password and no fragment
 abbrev pub is_bare : Parts → Bool

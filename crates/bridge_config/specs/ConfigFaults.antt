@@ -1,10 +1,10 @@
 -- The first fault of a configuration: after those in its keys come its addresses, its names and its products.
 -- The bridge's own.
-use Rattle.std.specs.Prelude.{◌≡◌, ℕ, ◌+◌, ◌*◌, ◌^◌, ◌⊎◌, Bool, ◌&&◌, List, [], ◌∷◌, ◌++◌, length, bytes_eq, Option, Some, None, is_none, option_map, Result, MatchResult, nat_lt}
+use Rattle.std.specs.Prelude.{◌≡◌, ℕ, ◌+◌, ◌*◌, ◌^◌, ◌⊎◌, Bool, List, [], ◌∷◌, ◌++◌, length, Option, Some, None, is_none, option_map, Result, MatchResult, nat_lt}
 use Rattle.std.specs.List.{list_any}
 use Rattle.std.specs.Option.{option_or}
 use Rattle.label_sets.specs.Lists.{when_true, first_some}
-use Rattle.bridge_ports.specs.Targets.{Scraped}
+use Rattle.bridge_ports.specs.Targets.{Scraped, have_same_names}
 use Rattle.toml.specs.Data.{Members}
 use Rattle.bridge_config.specs.declared.config.Config.{Config}
 use Rattle.bridge_config.specs.declared.fault.ConfigFault.{ConfigFault}
@@ -31,10 +31,6 @@ unfoldable pub address_fault : Members → Option ConfigFault
 address_fault document = option_map Address (option_or (wrong_address (0, text_at document collector_key.word)) (first_some wrong_target (target_tables document)))
 
 -- ---- names
-
--- two targets have one job and one instance
-abbrev pub have_same_names : Scraped → Scraped → Bool
-have_same_names a b = bytes_eq a.job b.job && bytes_eq a.instance b.instance
 
 -- a target has the names of an earlier one
 abbrev pub is_named_in : List Scraped → Scraped → Bool

@@ -5,6 +5,7 @@ use Rattle.std.specs.List.{list_any}
 use Rattle.std.specs.Int.{is_in_range}
 use Rattle.label_sets.specs.Lists.{◌>>=◌, some_passes}
 use Rattle.plain_words.specs.Places.{place_in}
+use Rattle.bridge_ports.specs.Targets.{most_targets}
 use Rattle.toml.specs.Data.{Data, Items, no_items, item, Members, no_members, member, as_str, as_integer, as_array, as_table}
 use Rattle.bridge_config.specs.declared.key.Key.{Key}
 use Rattle.bridge_config.specs.declared.key.Key.TheVariants.{Collector, Rounds, Scrapers, Keep, Tries, MaxPage, SampleLimit, Interval, Listen, Pages, Target}
@@ -139,13 +140,17 @@ has_form Tables d = some_passes are_tables (as_array d)
 abbrev pub is_whole_in : (least most : ℕ) → Data → Bool
 is_whole_in least most d = some_passes (is_in_range least most) (natural_in d)
 
+-- the most bytes of the host of the door
+abbrev pub most_door_host : ℕ
+most_door_host = 255
+
 -- a host, a colon and a port
 abbrev pub is_place : Data → Bool
-is_place d = some_passes (λ text. is_some (place_in 255 text)) (as_str d)
+is_place d = some_passes (λ text. is_some (place_in most_door_host text)) (as_str d)
 
 -- 1 to 256 elements
 abbrev pub are_few : Data → Bool
-are_few d = some_passes (λ items. is_in_range 1 256 (item_count items)) (as_array d)
+are_few d = some_passes (λ items. is_in_range 1 most_targets (item_count items)) (as_array d)
 
 -- the value of the key's form is in the key's range; a URL is judged apart
 abbrev pub is_in_form : Form → Data → Bool

@@ -11,7 +11,7 @@ use Rattle.toml.specs.Parse.{parse_document}
 use Rattle.bridge_config.specs.declared.config.Config.{Config}
 use Rattle.bridge_config.specs.declared.key.Form.{Form}
 use Rattle.bridge_config.specs.declared.key.Form.TheVariants.{Whole}
-use Rattle.bridge_config.specs.ConfigKeys.{KeyRow, collector_key, rounds_key, scrapers_key, keep_key, tries_key, max_page_key, sample_limit_key, interval_key, listen_key, pages_key, target_key, job_word, url_word, natural_in}
+use Rattle.bridge_config.specs.ConfigKeys.{KeyRow, collector_key, rounds_key, scrapers_key, keep_key, tries_key, max_page_key, sample_limit_key, interval_key, listen_key, pages_key, target_key, job_word, url_word, natural_in, most_door_host}
 use Rattle.bridge_config.specs.Addresses.{right_url, address_of, collector_of}
 
 -- the bytes are this TOML document
@@ -88,7 +88,7 @@ place_address found = record { host = found.0; port = found.1; path = [] }
 
 -- the address at which the federation page is served, where there is one
 unfoldable pub door_in : Members → Option Address
-door_in document = option_map place_address (get_member listen_key.word document >>= as_str >>= place_in 255)
+door_in document = option_map place_address (get_member listen_key.word document >>= as_str >>= place_in most_door_host)
 
 -- the configuration of a document
 unfoldable pub config_of : Members → Config

@@ -5,6 +5,7 @@ use Rattle.std.specs.Prelude.{ℕ, ◌==◌, Bool, true, false, not, ◌&&◌, L
 use Rattle.std.specs.Fmt.{decimal}
 use Rattle.std.specs.Option.{option_or}
 use Rattle.label_sets.specs.Lists.{when_true, first_some, some_passes}
+use Rattle.bridge_ports.specs.Targets.{most_job_bytes}
 use Rattle.toml.specs.Data.{Data, Members, get_member, as_integer}
 use Rattle.bridge_config.specs.declared.key.Key as Keys
 use Rattle.bridge_config.specs.declared.key.Key.TheVariants.{Collector, Rounds, Listen, Target}
@@ -74,7 +75,7 @@ absent found word = when_true (is_none (get_member word found)) word
 
 -- a job of 1 to 256 bytes
 abbrev pub is_job : List ℕ → Bool
-is_job job = nat_le 1 (length job) && nat_le (length job) 256
+is_job job = nat_le 1 (length job) && nat_le (length job) most_job_bytes
 
 -- the first key of a target's table with a fault of this class
 unfoldable pub key_within : KeyClass → Members → Option (List ℕ)

@@ -5,18 +5,18 @@ use Rattle.std.specs.List.{AllByRecursion, IsDistinct}
 use Rattle.std.specs.Int.{is_in_range}
 use Rattle.plain_words.specs.Places.{is_visible_word, is_port}
 use Rattle.bridge_ports.specs.declared.talk.Address.{Address}
-use Rattle.bridge_ports.specs.Targets.{Scraped}
+use Rattle.bridge_ports.specs.Targets.{Scraped, have_same_names, most_host_bytes, most_targets}
 use Rattle.bridge_ports.specs.declared.settings.Settings.{Settings}
 use Rattle.bridge_config.specs.declared.config.Config.{Config}
 use Rattle.toml.specs.Data.{Members}
-use Rattle.bridge_config.specs.ConfigKeys.{rounds_key, scrapers_key, keep_key, tries_key, max_page_key, sample_limit_key, interval_key, pages_key}
+use Rattle.bridge_config.specs.ConfigKeys.{rounds_key, scrapers_key, keep_key, tries_key, max_page_key, sample_limit_key, interval_key, pages_key, most_door_host}
 use Rattle.bridge_config.specs.Configurations.{key_number, instance_of}
 use Rattle.bridge_config.specs.KeyFaults.{is_job}
-use Rattle.bridge_config.specs.ConfigFaults.{have_same_names, IsConfiguration}
+use Rattle.bridge_config.specs.ConfigFaults.{IsConfiguration}
 
 -- an address of a URL
 pub record IsRightAddress (a : Address) : Type 0 where
-  pub host : IsTrue (is_in_range 1 256 (length a.host))
+  pub host : IsTrue (is_in_range 1 most_host_bytes (length a.host))
   pub port : IsTrue (is_port a.port)
 
 -- a target of a configuration: a job within its length, and an instance that is the host and the port of its address
@@ -62,10 +62,10 @@ pub record IsRightConfig (c : Config) : Type 0 where
   pub numbers : AreRightNumbers c
   pub products : AreRightProducts c
   pub collector : IsRightAddress c.collector
-  pub door : IfSome c.door (λ a. IsTrue (is_visible_word 255 a.host) × IsTrue (is_port a.port))
+  pub door : IfSome c.door (λ a. IsTrue (is_visible_word most_door_host a.host) × IsTrue (is_port a.port))
   pub some_door : 1 ≤ c.pages → c.door ≢ None
   pub some_target : 1 ≤ length c.targets
-  pub few_targets : length c.targets ≤ 256
+  pub few_targets : length c.targets ≤ most_targets
   pub targets : AllByRecursion IsRightConfigTarget c.targets
   pub names : IsDistinct have_same_names c.targets
 

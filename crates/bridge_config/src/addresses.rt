@@ -5,13 +5,10 @@ ghost use Rattle.url.specs.Parser.{IsOutOfRoom};
 ghost use Rattle.bridge_config.specs.Addresses as spec;
 ghost use Rattle.bridge_config.specs.Configurations.{instance_of};
 
-use bridge_ports::Address;
+use bridge_ports::{Address, MOST_HOST_BYTES};
 use label_sets::{Bytes, Memory};
 use std::alloc::{AllocError, Global};
 use url::{ParseError, Url};
-
-/// The most bytes of a host.
-const MOST_HOST_BYTES: usize = 256;
 
 /// The path of OTLP over HTTP (OpenTelemetry Protocol, "OTLP/HTTP Request").
 const METRICS_PATH: &[u8] = b"/v1/metrics";

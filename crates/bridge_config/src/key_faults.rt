@@ -15,12 +15,10 @@ use crate::key::{JOB, KEYS, Key, Level, URL};
 use crate::key_class::{CLASSES, KeyClass};
 use crate::tables::TargetTable;
 use crate::values::{has_form, is_in_form, is_not_zero, text_at, value_at};
+use bridge_ports::MOST_JOB_BYTES;
 use label_sets::{Memory, Text};
 use std::alloc::Global;
 use toml::Table;
-
-/// The most bytes of a job.
-const MOST_JOB_BYTES: usize = 256;
 
 /// A key, as a fault names it.
 #[derive(Clone, Copy)]

@@ -16,15 +16,12 @@ use crate::config::Config;
 use crate::fault::ConfigFault;
 use crate::key::{JOB, Key, URL};
 use crate::tables::TargetTable;
-use crate::values::{MOST_HOST_BYTES, key_number, text_at, value_at};
-use bridge_ports::{Address, Settings, Target};
+use crate::values::{MOST_DOOR_HOST_BYTES, key_number, text_at, value_at};
+use bridge_ports::{Address, MILLISECOND, Settings, Target};
 use label_sets::{Bytes, List, Memory, Text};
 use plain_words::host_and_port;
 use std::alloc::Global;
 use toml::Table;
-
-/// Nanoseconds of a millisecond.
-const NANOS: u64 = 1_000_000;
 
 /// How targets are visited.
 fn settings_of(document: &Table) -> Settings
@@ -36,7 +33,7 @@ fn settings_of(document: &Table) -> Settings
         tries: key_number(document, Key::Tries) as u32,
         limit: key_number(document, Key::SampleLimit) as u32,
         max_page: key_number(document, Key::MaxPage) as u32,
-        interval: key_number(document, Key::Interval) * NANOS,
+        interval: key_number(document, Key::Interval) * MILLISECOND,
     }
 }
 
@@ -52,7 +49,7 @@ fn door_in(alloc: Global, document: &Table) -> Result<Option<Address>, Memory>
         },
         None => return Ok(None),
     };
-    let place = match host_and_port(MOST_HOST_BYTES, text.as_bytes()) {
+    let place = match host_and_port(MOST_DOOR_HOST_BYTES, text.as_bytes()) {
         Some(place) => place,
         None => return Ok(None),
     };

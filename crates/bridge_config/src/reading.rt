@@ -49,6 +49,20 @@ fn judge(alloc: Global, document: &Table) -> Result<Config, ConfigFault>
 /// # Errors
 ///
 /// The first fault of the configuration, each a variant of [`ConfigFault`]; want of memory is one.
+///
+/// # Example
+///
+/// ```rust
+/// let text = r#"collector = "http://127.0.0.1:4318"
+/// rounds = 10
+/// listen = "127.0.0.1:9464"
+/// [[target]]
+/// job = "node"
+/// url = "http://127.0.0.1:9100/metrics?x=1"
+/// "#;
+/// let config = read(alloc, text.as_bytes())?;
+/// assert_eq!(rt; (config.rounds, config.targets.len()), (10, 1));
+/// ```
 pub fn read(alloc: Global, bytes: &[u8]) -> Result<Config, ConfigFault>
     ensures config { IfOk result (IsConfiguration bytes.now) }
     ensures fault { IfErr result (λ fault. (fault ≡ WantOfMemory) ⊎ HasConfigFault bytes.now fault) }

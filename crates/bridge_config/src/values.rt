@@ -3,19 +3,18 @@ ghost use Rattle.std.specs.Prelude.{◌≡◌, option_map, option_copied};
 ghost use Rattle.std.specs.Int.{is_in_range};
 ghost use Rattle.toml.specs.Data.{Data, get_member, as_str};
 ghost use Rattle.toml.specs.View.{view, table_view, items_view};
+ghost use Rattle.bridge_ports.specs.Targets.{most_targets};
 ghost use Rattle.bridge_config.specs.ConfigKeys as keys;
 ghost use Rattle.bridge_config.specs.Configurations as spec;
 ghost use Rattle.bridge_config.specs.KeyFaults.{is_not_zero};
 
 use crate::key::{Form, Key};
+use bridge_ports::MOST_TARGETS;
 use plain_words::host_and_port;
 use toml::{Table, Value};
 
-/// The most bytes of the host that is served at.
-pub(crate) const MOST_HOST_BYTES: usize = 255;
-
-/// The most targets.
-const MOST_TARGETS: usize = 256;
+/// The most bytes of the host of the door.
+pub(crate) const MOST_DOOR_HOST_BYTES: usize = 255;
 
 /// The value of a key.
 pub(crate) fn value_at<'a>(table: &'a Table, word: &str) -> Option<&'a Value>
@@ -106,7 +105,7 @@ fn is_place(value: &Value) -> bool
     ensures { result ≡ keys.is_place (view value.now) }
 {
     match value.as_str() {
-        Some(text) => host_and_port(MOST_HOST_BYTES, text.as_bytes()).is_some(),
+        Some(text) => host_and_port(MOST_DOOR_HOST_BYTES, text.as_bytes()).is_some(),
         None => false,
     }
 }
@@ -120,7 +119,7 @@ fn count_of(items: &[Value]) -> usize
 
 /// Whether a number of targets is from 1 to 256.
 fn is_few(count: usize) -> bool
-    ensures { result ≡ is_in_range 1 256 count }
+    ensures { result ≡ is_in_range 1 most_targets count }
 {
     1 <= count && count <= MOST_TARGETS
 }

@@ -66,6 +66,11 @@ abbrev pub out_count : Bool → ℕ
 out_count true = 1
 out_count false = 0
 
+-- a door with these parts
+abbrev pub door_state : List ConnState → (faults handed : ℕ) → Bool → (broken_reads broken_writes : ℕ) → MemoryDoorState
+door_state conns faults handed out broken_reads broken_writes =
+    record { conns = conns; faults = faults; handed = handed; out = out; broken_reads = broken_reads; broken_writes = broken_writes }
+
 -- what the type of a door in memory keeps: none of the connections to come was used, and no more came back broken than were handed out
 pub record IsMemoryDoor (d : MemoryDoorState) : Type 0 where
   pub fresh : All IsFreshConn d.conns

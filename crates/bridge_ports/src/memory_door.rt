@@ -87,27 +87,14 @@ pub struct MemoryDoor {
 
 impl Model for MemoryDoor {
     ghost use Rattle.std.specs.Vec.Iter.{into_iter_items};
-    ghost use Rattle.bridge_ports.specs.InMemory.{MemoryDoorState, IsMemoryDoor};
+    ghost use Rattle.bridge_ports.specs.InMemory.{MemoryDoorState, IsMemoryDoor, door_state};
 
     ghost Value = { MemoryDoorState };
 
-    ghost view = { λ d. record {
-      conns = into_iter_items d.conns;
-      faults = d.faults;
-      handed = d.handed;
-      out = d.out;
-      broken_reads = d.broken_reads;
-      broken_writes = d.broken_writes;
-    } };
+    ghost view = { λ d. door_state (into_iter_items d.conns) d.faults d.handed d.out d.broken_reads d.broken_writes };
 
-    ghost invariant = { λ d. IsMemoryDoor (record {
-      conns = into_iter_items d.conns;
-      faults = d.faults;
-      handed = d.handed;
-      out = d.out;
-      broken_reads = d.broken_reads;
-      broken_writes = d.broken_writes;
-    }) };
+    ghost invariant = { λ d. IsMemoryDoor
+        (door_state (into_iter_items d.conns) d.faults d.handed d.out d.broken_reads d.broken_writes) };
 }
 
 impl MemoryDoor {

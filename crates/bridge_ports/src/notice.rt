@@ -13,8 +13,6 @@ pub enum TalkFault {
     Read,
     /// The reply has no head that is taken.
     Head,
-    /// The reply has this status.
-    Status(u16),
     /// The reply has a content encoding.
     Encoding,
     /// The reply has a media type that is no page's.
@@ -25,6 +23,8 @@ pub enum TalkFault {
     Chunk,
     /// The reply ended before its body did.
     Truncated,
+    /// The reply has this status.
+    Status(u16),
     /// The page breaks a rule, first in this line: its number and its name.
     Page {
         line: u32,
@@ -70,12 +70,12 @@ impl fmt::Display for TalkFault {
             TalkFault::Write => f.write_str("a write failed"),
             TalkFault::Read => f.write_str("a read failed"),
             TalkFault::Head => f.write_str("no head of HTTP/1"),
-            TalkFault::Status(status) => write!(f, "status {status}"),
             TalkFault::Encoding => f.write_str("a content encoding"),
             TalkFault::MediaType => f.write_str("another media type"),
             TalkFault::TooLong => f.write_str("too long"),
             TalkFault::Chunk => f.write_str("a faulty chunk"),
             TalkFault::Truncated => f.write_str("cut short"),
+            TalkFault::Status(status) => write!(f, "status {status}"),
             TalkFault::Page { line, rule, name } => {
                 write!(f, "refused line {line} rule {rule} {name}")
             }

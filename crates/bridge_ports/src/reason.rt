@@ -1,21 +1,35 @@
 //! Why a call on the machine failed.
 use std::io::ErrorKind;
 
-/// Why a call on the machine failed, as far as it helps whoever looks after a run.
+/// Why a call on the machine failed, as far as it helps whoever looks after a run. In brackets stand the error numbers
+/// of POSIX.1, section 2.3, that come to it.
 #[derive(Clone, Copy, Debug, PartialEq, Eq)]
 pub enum Reason {
+    /// There is no file of this path (ENOENT).
     NotFound,
+    /// It is not permitted to whom the process belongs (EACCES, EPERM).
     Denied,
+    /// The path is that of a directory (EISDIR).
     Directory,
+    /// No address of the host is found.
     Unresolved,
+    /// Nobody listens at the address (ECONNREFUSED).
     Refused,
+    /// No way leads to the host (EHOSTUNREACH, ENETUNREACH, ENETDOWN).
     Unreachable,
+    /// It took longer than the call, or the talk, may take (ETIMEDOUT, EAGAIN).
     TimedOut,
+    /// The peer broke the connection off (ECONNRESET, ECONNABORTED).
     Reset,
+    /// The other end of a pipe or of a connection takes no more (EPIPE).
     Closed,
+    /// Another one listens at the address (EADDRINUSE).
     InUse,
+    /// The address is none of this machine (EADDRNOTAVAIL).
     NotHere,
+    /// No space is left where it is written to (ENOSPC).
     Full,
+    /// Any other cause; and before a call has failed.
     Other,
 }
 

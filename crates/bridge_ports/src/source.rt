@@ -16,6 +16,15 @@ pub trait Source {
 
     /// Reads at least one byte into the front of `into` and answers how many; 0 exactly at the end.
     /// [`Failed`] only where the count of faults rose.
+    ///
+    /// # Example
+    ///
+    /// ```rust
+    /// let mut source = SureSource::new(Bytes::from_slice(alloc, b"ab")?);
+    /// let mut into = [0u8; 3];
+    /// assert_eq!(rt; source.read(&mut into), Ok(2));
+    /// assert_eq!(rt; source.read(&mut into), Ok(0));
+    /// ```
     fn read(&mut self, into: &mut [u8]) -> Result<u32, Failed>
         requires { 0 < length into.old }
         ensures bound { ReadsAtMost result into.new }

@@ -1,9 +1,9 @@
 //! Adapters over the standard library's readers and writers. They tell no bytes, and count each
 //! call that fails.
-ghost use Rattle.std.specs.Prelude.{◌≡◌, ℕ, ◌<◌, [], Option, is_some, IfOk, OnErr, length};
+ghost use Rattle.std.specs.Prelude.{◌≡◌, ℕ, ◌<◌, ◌≤◌, [], Option, is_some, IfOk, OnErr, length};
 ghost use Rattle.std.specs.Io.{ReadsAtMost, WritesAtMost};
 ghost use Rattle.std.specs.Io.KnownBytes.{ReadConsumes, WriteAppends};
-ghost use Rattle.bridge_ports.specs.Causes.{HasCause};
+ghost use Rattle.bridge_ports.specs.Causes.{HasCause, Rose};
 ghost use Rattle.bridge_ports.specs.Edges.{untold};
 ghost use Rattle.bridge_ports.specs.InMemory.{one_more};
 
@@ -14,41 +14,57 @@ use std::marker::Model;
 /// How often a call that a signal interrupted is made anew, before it counts as failed.
 pub const MOST_TRIES: u32 = 100;
 
-/// A source over a reader, as standard input.
+/// Whether a call that failed so is made anew, since a signal interrupted it. Why it failed is kept.
+fn is_made_anew(reason: &mut Reason, kind: ErrorKind) -> bool {
+    *reason = Reason::of(kind);
+    kind == ErrorKind::Interrupted
+}
+
+/// A stream of the machine: a source over a reader, as standard input, and a sink over a writer, as standard output.
 #[derive(Drop)]
-pub struct StdSource<R> {
-    reader: R,
+pub struct StdStream<S> {
+    stream: S,
     faults: u64,
     reason: Reason,
 }
 
-impl<R> Model for StdSource<R> {
+impl<S> Model for StdStream<S> {
     ghost use Rattle.bridge_ports.specs.Edges.{Edge};
 
-    ghost Value = { Edge R };
+    ghost Value = { Edge S };
 
-    ghost view = { λ s. record { stream = s.reader; faults = s.faults } };
+    ghost view = { λ s. record { stream = s.stream; faults = s.faults } };
 }
 
-impl<R> StdSource<R> {
-    /// A source that reads from `reader`.
-    pub fn new(reader: R) -> StdSource<R>
-        ensures { result ≡ record { stream = reader; faults = 0 } }
+impl<S> StdStream<S> {
+    /// One that reads from `stream` or writes to it. It flushes nothing, so a writer is to have no buffer of its own.
+    pub fn new(stream: S) -> StdStream<S>
+        ensures { result ≡ record { stream = stream; faults = 0 } }
     {
-        StdSource {
-            reader,
+        StdStream {
+            stream,
             faults: 0,
             reason: Reason::Other,
         }
     }
 
-    /// Why its last read failed that did.
+    /// Why its last call failed that did.
     pub fn reason(&self) -> Reason {
         self.reason
     }
+
+    // Counts a call that failed.
+    fn fail(&mut self) -> Failed
+        ensures counted { self.new ≡ record self.old { faults = one_more self.old.faults } }
+        ensures later { self.old.faults ≤ self.new.faults }
+        ensures rose { Rose self.old.faults self.new.faults }
+    {
+        self.faults = self.faults.saturating_add(1);
+        Failed
+    }
 }
 
-impl<R: Read> Source for StdSource<R> {
+impl<R: Read> Source for StdStream<R> {
     ghost left = { λ _. untold };
 
     ghost read_faults = { λ s. s.faults };
@@ -70,57 +86,17 @@ impl<R: Read> Source for StdSource<R> {
     {
         let most = into.len().min(u32::MAX as usize);
         for _ in 0..MOST_TRIES {
-            match self.reader.read(&mut into[..most]) {
+            match self.stream.read(&mut into[..most]) {
                 Ok(count) => return Ok(count as u32),
-                Err(error) => {
-                    self.reason = Reason::of(error.kind());
-                    if error.kind() != ErrorKind::Interrupted {
-                        break;
-                    }
-                }
+                Err(error) if is_made_anew(&mut self.reason, error.kind()) => {}
+                Err(_) => break,
             }
         }
-        self.faults = self.faults.saturating_add(1);
-        Err(Failed)
+        Err(self.fail())
     }
 }
 
-/// A sink over a writer, as standard output.
-#[derive(Drop)]
-pub struct StdSink<W> {
-    writer: W,
-    faults: u64,
-    reason: Reason,
-}
-
-impl<W> Model for StdSink<W> {
-    ghost use Rattle.bridge_ports.specs.Edges.{Edge};
-
-    ghost Value = { Edge W };
-
-    ghost view = { λ s. record { stream = s.writer; faults = s.faults } };
-}
-
-impl<W> StdSink<W> {
-    /// A sink that writes to `writer`. It flushes nothing, so the writer is to have no buffer of
-    /// its own.
-    pub fn new(writer: W) -> StdSink<W>
-        ensures { result ≡ record { stream = writer; faults = 0 } }
-    {
-        StdSink {
-            writer,
-            faults: 0,
-            reason: Reason::Other,
-        }
-    }
-
-    /// Why its last write failed that did.
-    pub fn reason(&self) -> Reason {
-        self.reason
-    }
-}
-
-impl<W: Write> Sink for StdSink<W> {
+impl<W: Write> Sink for StdStream<W> {
     ghost held = { λ _. untold };
 
     ghost write_faults = { λ s. s.faults };
@@ -143,18 +119,12 @@ impl<W: Write> Sink for StdSink<W> {
     {
         let most = piece.len().min(u32::MAX as usize);
         for _ in 0..MOST_TRIES {
-            match self.writer.write(&piece[..most]) {
-                Ok(0) if most > 0 => break,
-                Ok(count) => return Ok(count as u32),
-                Err(error) => {
-                    self.reason = Reason::of(error.kind());
-                    if error.kind() != ErrorKind::Interrupted {
-                        break;
-                    }
-                }
+            match self.stream.write(&piece[..most]) {
+                Err(error) if is_made_anew(&mut self.reason, error.kind()) => {}
+                Ok(count) if count > 0 || most == 0 => return Ok(count as u32),
+                _ => break,
             }
         }
-        self.faults = self.faults.saturating_add(1);
-        Err(Failed)
+        Err(self.fail())
     }
 }

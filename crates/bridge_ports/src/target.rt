@@ -1,6 +1,6 @@
 //! What is scraped, and for whom.
 ghost use Rattle.std.specs.Prelude.{◌≡◌, IfOk, IsUtf8};
-ghost use Rattle.bridge_ports.specs.Targets.{IsTextUpTo, most_job_bytes, most_instance_bytes};
+ghost use Rattle.bridge_ports.specs.Targets.{IsTextUpTo, have_same_names, most_job_bytes, most_instance_bytes};
 
 use crate::talk::Address;
 use label_sets::{Memory, Text};
@@ -72,6 +72,14 @@ impl Target {
         ensures { result ≡ self.now.honor }
     {
         self.honor
+    }
+
+    /// Whether it has the job and the instance of another.
+    pub fn has_names_of(&self, other: &Target) -> bool
+        ensures { result ≡ have_same_names self.now other.now }
+    {
+        self.job().as_bytes() == other.job().as_bytes()
+            && self.instance().as_bytes() == other.instance().as_bytes()
     }
 
     /// An equal target.

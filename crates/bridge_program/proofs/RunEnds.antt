@@ -1,5 +1,5 @@
 -- What a run ends with, and what becomes of it once it is written.
-use Rattle.std.proofs.Common.{◌≡◌, ◌≢◌, ◌⊎◌, inl, inr, ℕ, true, false, List, [], ◌∷◌, ◌++◌, Option, refl, sym, subst, ◌∙◌, arith}
+use Rattle.std.proofs.Common.{◌≡◌, ◌≢◌, ◌⊎◌, inl, inr, ℕ, true, false, List, [], ◌∷◌, ◌++◌, get_or, Option, refl, sym, ap, subst, ◌∙◌, arith}
 use Rattle.std.specs.Io.KnownBytes.{Appends}
 use Rattle.bridge_ports.specs.Causes.{Rose}
 use Rattle.bridge_ports.specs.Worlds.{WorldState}
@@ -8,11 +8,12 @@ use Rattle.config_file.specs.declared.file_stop.FileStop.TheVariants.{Read}
 use Rattle.config_file.specs.ConfigFiles.{StopsAtFile, StopsReadingFile}
 use Rattle.world_run.specs.Outside.{Outside}
 use Rattle.world_run.specs.Serving.{Coming}
-use Rattle.run_command.specs.RunReports.{LeavesPairs}
+use Rattle.run_command.specs.RunReports.{LeavesPairs, MayKeepComing}
 use Rattle.program_words.specs.declared.status.Status.TheVariants.{Done, ReadFailed, WantOfMemory, TooLong, WriteFailed}
 use Rattle.program_words.specs.Statuses.{code_of, IsStatus, TellsFault}
 use Rattle.bridge_ports.specs.Writing.{WroteFront}
-use Rattle.bridge_program.specs.RunAnswers.{config_refused, IsRunAnswer, run_over, run_refused, run_too_long, run_unread, run_wanting, IsStopEnd, end_refused, end_unsaid, end_too_long, end_unread, end_wanting, IsWritten, written_whole, written_part}
+use Rattle.bridge_program.specs.RunWords.{AskToRun}
+use Rattle.bridge_program.specs.RunAnswers.{config_refused, IsRunAnswer, run_over, run_refused, run_too_long, run_unread, run_wanting, RunComesTo, IsStopEnd, end_refused, end_unsaid, end_too_long, end_unread, end_wanting, IsWritten, written_whole, written_part, RunAnswered, AsksAtMost, RunLeaves}
 
 -- ---- what is written
 
@@ -86,6 +87,25 @@ read_told path coming before after status code text held written old new answer 
       kept = λ no. told.kept some;
     }
 
+-- ---- the path
+
+-- words ask for the run of one file
+one_path : (words : List (List ℕ)) (path other : List ℕ) → AskToRun words path → AskToRun words other → path ≡ other
+one_path words path other found asks = let second : List (List ℕ) → List ℕ = λ ws. get_or ws 1 [] in ap second (sym found ∙ asks)
+
+-- what was written of the run of the file that words ask for
+pub run_written : {W O : Type 0} (coming : W → Coming) (seen : W → Outside) (before after : W) (held : O → Option (List ℕ)) (old new : O) (code status : ℕ) (text : List ℕ) (words : List (List ℕ)) (path other : List ℕ) → AskToRun words path → AskToRun words other
+    → RunComesTo path coming seen before after status text → IsWritten status text (held old) (held new) code → RunAnswered coming seen before after held old new code other
+run_written coming seen before after held old new code status text words path other found asks answer written =
+    subst (RunAnswered coming seen before after held old new code) (one_path words path other found asks) (record { status = status; text = text; answer = answer; printed = written })
+
+-- what it left
+pub run_left : {I W : Type 0} (input : I) (world : W → WorldState) (files : W → List ℕ → Option (List ℕ)) (coming : W → Coming) (before after : W) (code : ℕ) (words : List (List ℕ)) (path other : List ℕ) → AskToRun words path → AskToRun words other
+    → TellsFault (code_of ReadFailed) code (world before).file_faults (world after).file_faults → AsksAtMost path (world before) (world after) → MayKeepComing (files before path) (coming before) (coming after)
+    → RunLeaves input input world files coming before after code other
+run_left input world files coming before after code words path other found asks told asked kept =
+    subst (RunLeaves input input world files coming before after code) (one_path words path other found asks) (record { unread = refl; file_faults = told; file_asked = asked; coming_kept = kept })
+
 -- ---- stops
 
 -- a read failed, so the count of faults rose
@@ -101,10 +121,10 @@ stop_tells told old new stop status text end_unread leaves = record { rose = λ 
 stop_tells told old new stop status text end_wanting leaves = none_failed_as (code_of ReadFailed) (code_of WantOfMemory) old.file_faults new.file_faults (λ e. absurd cc) leaves.1
 
 -- where no report comes of a file, this is what `run` answers
-pub stop_answers : (path : List ℕ) (coming : Coming) (before after : Outside) (stop : FileStop) (status : ℕ) (text : List ℕ) → IsStopEnd stop status text → StopsAtFile (before.files path) stop → LeavesPairs path coming before after stop
-    → (stop ≡ Read → Rose before.world.file_faults after.world.file_faults) → IsRunAnswer path coming before after status text
-stop_answers path coming before after stop status text (end_refused fault) stops pairs rose = run_refused fault stops pairs
-stop_answers path coming before after stop status text (end_unsaid fault) stops pairs rose = run_wanting (inl pairs)
-stop_answers path coming before after stop status text end_too_long stops pairs rose = run_too_long stops pairs
-stop_answers path coming before after stop status text end_unread stops pairs rose = run_unread (rose refl) pairs
-stop_answers path coming before after stop status text end_wanting stops pairs rose = run_wanting pairs
+pub stop_answers : {W : Type 0} (path : List ℕ) (coming : W → Coming) (seen : W → Outside) (before after : W) (stop : FileStop) (status : ℕ) (text : List ℕ) → IsStopEnd stop status text → StopsAtFile ((seen before).files path) stop → LeavesPairs path coming seen before after stop
+    → (stop ≡ Read → Rose (seen before).world.file_faults (seen after).world.file_faults) → RunComesTo path coming seen before after status text
+stop_answers path coming seen before after stop status text (end_refused fault) stops pairs rose = run_refused fault stops pairs
+stop_answers path coming seen before after stop status text (end_unsaid fault) stops pairs rose = run_wanting (inl pairs)
+stop_answers path coming seen before after stop status text end_too_long stops pairs rose = run_too_long stops pairs
+stop_answers path coming seen before after stop status text end_unread stops pairs rose = run_unread (rose refl) pairs
+stop_answers path coming seen before after stop status text end_wanting stops pairs rose = run_wanting pairs

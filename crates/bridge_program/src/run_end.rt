@@ -3,10 +3,10 @@ ghost use Rattle.std.specs.Prelude.{◌≡◌, None, IfOk};
 ghost use Rattle.std.specs.Cow.{cow_slice_items};
 ghost use Rattle.bridge_config.specs.ConfigLines.{config_line};
 ghost use Rattle.run_command.specs.RunReports.{MayKeepComing};
-ghost use Rattle.world_run.specs.Outside.{seen_home, outside_of, AreUnused};
+ghost use Rattle.world_run.specs.Outside.{seen_home, seen_world, AreUnused};
 ghost use Rattle.program_words.specs.declared.status.Status.TheVariants.{ReadFailed};
 ghost use Rattle.program_words.specs.Statuses.{TellsFault, code_of};
-ghost use Rattle.bridge_program.specs.RunAnswers.{IsRunAnswer, IsStopEnd, AsksAtMost, run_status};
+ghost use Rattle.bridge_program.specs.RunAnswers.{RunComesTo, IsStopEnd, AsksAtMost, run_status};
 
 use bridge_cli::Status;
 use bridge_config::{ConfigFault, push_line};
@@ -94,10 +94,8 @@ pub(crate) fn run_end<R: Threads + Wait + Sync, K: Conn, E: Door<Conn = K>, W: W
     requires asked { (W.world world.old).asked ≡ None }
     requires no_door { (W.world world.old).door_at ≡ None }
     requires unused { AreUnused (seen_home W.Wire.state (W.home world.old)) }
-    ensures answer { IsRunAnswer path.now (W.coming world.old)
-        (outside_of W.Wire.state (W.world world.old) (W.files world.old) (W.home world.old) (W.given world.old))
-        (outside_of W.Wire.state (W.world world.new) (W.files world.new) (W.home world.new) (W.given world.new))
-        result.status (cow_slice_items result.text) }
+    ensures answer { RunComesTo path.now W.coming
+        (seen_world W.Wire.state W.world W.files W.home W.given) world.old world.new result.status (cow_slice_items result.text) }
     ensures faults { TellsFault (code_of ReadFailed) result.status (W.world world.old).file_faults (W.world world.new).file_faults }
     ensures asked { AsksAtMost path.now (W.world world.old) (W.world world.new) }
     ensures files { W.files world.new ≡ W.files world.old }

@@ -80,6 +80,16 @@ impl ByteTable {
     }
 
     /// The number of a string, where it was added.
+    ///
+    /// # Example
+    ///
+    /// ```rust
+    /// let mut table = ByteTable::new(alloc);
+    /// table.insert(b"one")?;
+    /// table.insert(b"")?;
+    /// assert_eq!(rt; table.find(b""), Some(1));
+    /// assert_eq!(rt; table.find(b"two"), None);
+    /// ```
     pub fn find(&self, string: &[u8]) -> Option<usize>
         ensures { MatchOption result (list_any (bytes_eq string.now) self.now ≡ false) (λ at. slice_get self.now at ≡ Some string.now) }
     {

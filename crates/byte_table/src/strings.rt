@@ -8,7 +8,7 @@ use std::alloc::{AllocError, Global};
 use std::marker::Model;
 
 /// The most bytes and the most strings that lie together.
-const MOST: usize = 4_294_967_295;
+const MOST_TOGETHER: usize = 4_294_967_295;
 
 /// Where a byte string lies, and its hash.
 #[derive(Clone, Copy)]
@@ -107,7 +107,7 @@ impl Strings {
     {
         let start = self.bytes.len();
         let count = self.entries.len();
-        if count >= MOST || start > MOST || string.len() > MOST - start {
+        if count >= MOST_TOGETHER || start > MOST_TOGETHER || string.len() > MOST_TOGETHER - start {
             return Err(AllocError);
         }
         let end = start + string.len();

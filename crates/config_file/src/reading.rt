@@ -5,18 +5,12 @@ ghost use Rattle.config_file.specs.ConfigFiles.{HoldsWhole, HoldsConfig, StopsAt
 
 use crate::file_stop::FileStop;
 use bridge_config::{Config, ConfigFault, broken_at, read};
-use bridge_ports::{RunNotice, World};
+use bridge_ports::{BLOCK_BYTES, MILLISECOND, RunNotice, World};
 use label_sets::Text;
 use std::alloc::Global;
 
 /// The most bytes of a configuration: 1 MiB.
 const MOST_CONFIG_BYTES: usize = 1 << 20;
-
-/// The nanoseconds of a millisecond.
-const NANOS: u64 = 1_000_000;
-
-/// The most bytes that one read takes.
-const BLOCK_BYTES: usize = 1 << 16;
 
 /// The bytes of the file that is open.
 fn file_bytes<W: World>(alloc: Global, world: &mut W) -> Result<Vec<u8>, FileStop>
@@ -51,10 +45,8 @@ fn bytes_in<W: World>(alloc: Global, path: Text, world: &mut W) -> Result<Vec<u8
     ensures stop { IfErr result (StopsAtFile (W.files world.old path)) }
     ensures leaves { LeavesFile (W.files world.old path) (W.world world.old) (W.world world.new) result }
     ensures asked { IsFileAsked path (W.world world.old) (W.world world.new) }
-    ensures files { W.files world.new ≡ W.files world.old }
-    ensures home { W.home world.new ≡ W.home world.old }
-    ensures given { W.given world.new ≡ W.given world.old }
-    ensures coming { W.coming world.new ≡ W.coming world.old }
+    ensures rest { (W.files world.new ≡ W.files world.old) × (W.home world.new ≡ W.home world.old)
+        × (W.given world.new ≡ W.given world.old) × (W.coming world.new ≡ W.coming world.old) }
 {
     match world.open_file(path) {
         Ok(()) => file_bytes(alloc, world),
@@ -67,7 +59,7 @@ fn told(alloc: Global, bytes: &[u8], config: &Result<Config, ConfigFault>) -> Ru
     match config {
         Ok(config) => RunNotice::Begun {
             targets: config.targets.len().min(u32::MAX as usize) as u32,
-            interval_ms: config.settings.interval / NANOS,
+            interval_ms: config.settings.interval / MILLISECOND,
         },
         Err(ConfigFault::Toml) => RunNotice::Faulty {
             broken_at: broken_at(alloc, bytes),
@@ -83,6 +75,15 @@ fn told(alloc: Global, bytes: &[u8], config: &Result<Config, ConfigFault>) -> Ru
 /// # Errors
 ///
 /// Each way in which the file gives no configuration, as [`FileStop`] tells it; want of memory is one.
+///
+/// # Example
+///
+/// ```rust
+/// // The file of the world asks for two rounds of two targets.
+/// let path = Text::from_str(alloc, "bridge.toml")?;
+/// let config = config_in(alloc, path, &mut world)?;
+/// assert_eq!(rt; (config.rounds, config.targets.len()), (2, 2));
+/// ```
 pub fn config_in<W: World>(alloc: Global, path: Text, world: &mut W) -> Result<Config, FileStop>
     requires { (W.world world.old).asked ≡ None }
     ensures config { IfOk result (HoldsConfig (W.files world.old path)) }

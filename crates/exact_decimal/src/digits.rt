@@ -1,8 +1,8 @@
 //! Digits without the zeros at both ends.
 
-ghost use Rattle.std.specs.Prelude.{◌≡◌, ◌≢◌, ℕ, List, ◌+◌, ◌-◌, ◌*◌, ◌^◌, ◌%◌, ◌<◌, ◌≤◌, ◌++◌, ◌∷◌, [], true, length, MatchOption, IfSome};
+ghost use Rattle.std.specs.Prelude.{◌≡◌, ◌≢◌, ℕ, List, ◌+◌, ◌-◌, ◌*◌, ◌^◌, ◌%◌, ◌<◌, ◌≤◌, ◌++◌, ◌∷◌, [], true, length, IfSome};
 ghost use Rattle.std.specs.Char.{is_ascii_digit};
-ghost use Rattle.exact_decimal.specs.Tokens.{significant_digits, most_bytes};
+ghost use Rattle.exact_decimal.specs.Tokens.{most_bytes};
 ghost use Rattle.exact_decimal.specs.Scans.{AreDigits, Keeps};
 
 /// The most significant digits that a number may have.
@@ -24,13 +24,14 @@ pub(crate) struct Kept {
 }
 
 impl Kept {
+    ghost use Rattle.exact_decimal.specs.KeptDigits.{AreKeptUnlessMany};
+
     /// One digit more; nothing where more than 38 would be kept.
     fn push(self, digit: u8) -> Option<Kept>
         requires digit { is_ascii_digit digit ≡ true }
         requires room { self.zeros < most_bytes }
         ensures keeps { (ds : List ℕ) → Keeps ds self.digits self.zeros self.places →
-            MatchOption result (38 < length (significant_digits (ds ++ digit ∷ [])))
-            (λ k. Keeps (ds ++ digit ∷ []) k.digits k.zeros k.places) }
+            AreKeptUnlessMany (ds ++ digit ∷ []) result }
         ensures room { IfSome result (λ k. k.zeros ≤ self.zeros + 1) }
     {
         if digit == b'0' {
@@ -60,8 +61,7 @@ impl Kept {
         requires digits { AreDigits digits.now }
         requires room { self.zeros + length digits.now ≤ most_bytes }
         ensures keeps { (ds : List ℕ) → AreDigits ds → Keeps ds self.digits self.zeros self.places →
-            MatchOption result (38 < length (significant_digits (ds ++ digits.now)))
-            (λ k. Keeps (ds ++ digits.now) k.digits k.zeros k.places) }
+            AreKeptUnlessMany (ds ++ digits.now) result }
         ensures room { IfSome result (λ k. k.zeros ≤ self.zeros + length digits.now) }
     {
         let mut kept = self;
@@ -78,8 +78,7 @@ impl Kept {
     pub(crate) fn of(whole: &[u8], fraction: &[u8]) -> Option<Kept>
         requires digits { AreDigits (whole.now ++ fraction.now) }
         requires room { length whole.now + length fraction.now ≤ most_bytes }
-        ensures keeps { MatchOption result (38 < length (significant_digits (whole.now ++ fraction.now)))
-            (λ k. Keeps (whole.now ++ fraction.now) k.digits k.zeros k.places) }
+        ensures keeps { AreKeptUnlessMany (whole.now ++ fraction.now) result }
         ensures room { IfSome result (λ k. k.zeros ≤ most_bytes) }
     {
         let none = Kept {

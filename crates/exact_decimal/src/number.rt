@@ -117,6 +117,17 @@ fn read_word(token: &[u8]) -> Result<Number, NumberFault>
 ///
 /// [`NumberFault::NotANumber`] where the token is not in the grammar, [`NumberFault::OutOfRange`] where it is and
 /// breaks a limit. It takes no memory.
+///
+/// # Example
+///
+/// ```rust
+/// if let Number::Finite(decimal) = read(b"-1.50e3")? {
+///     assert_eq!(rt; (decimal.negative(), decimal.digits(), decimal.power()), (true, 15, 2));
+/// }
+/// assert_eq!(rt; read(b"+Inf"), Ok(Number::Up));
+/// assert_eq!(rt; read(b"0x1p3"), Err(NumberFault::NotANumber));
+/// assert_eq!(rt; read(b"1e309"), Err(NumberFault::OutOfRange));
+/// ```
 pub fn read(token: &[u8]) -> Result<Number, NumberFault>
     ensures { result ≡ number_read token.now }
 {

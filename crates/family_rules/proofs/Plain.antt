@@ -1,5 +1,5 @@
 -- Kinds without groups: each sample is a reading of its own, and its name has one suffix.
-use Rattle.std.proofs.Common.{◌≡◌, ℕ, Bool, true, false, cond, not, ◌&&◌, ◌||◌, List, [], ◌∷◌, ◌++◌, drop, length, codes, Option, Some, None, Result, Ok, Err, refl, sym, ap, ◌∙◌}
+use Rattle.std.proofs.Common.{◌≡◌, ℕ, Bool, true, false, cond, not, ◌&&◌, ◌||◌, List, [], ◌∷◌, ◌++◌, drop, length, codes, Option, Some, None, Ok, Err, refl, sym, ap, ◌∙◌}
 use Rattle.std.specs.Str.{bytes_eq}
 use Rattle.std.specs.Cmp.Lexicographic.{bytes_decides}
 use Rattle.std.proofs.lemmas.Bool.{not-false}
@@ -18,6 +18,7 @@ use Rattle.page_model.specs.Suffixes.{is_sample_name}
 use Rattle.page_model.specs.Rules.{is_open_metrics, has_suffix, has_wrong_suffix, has_forbidden_value, has_bad_value, has_bad_threshold, is_out_of_order}
 use Rattle.sample_groups.specs.declared.part.Part.{Part}
 use Rattle.sample_groups.specs.Parts.{is_grouped, part_of}
+use Rattle.sample_groups.specs.Finding.{grouped_part}
 use Rattle.family_rules.specs.declared.family.Current.{Current}
 use Rattle.family_rules.specs.declared.family.FamilySoFar.{FamilySoFar}
 use Rattle.family_rules.specs.Samples.{is_bad_plain_value, told_part}
@@ -122,10 +123,7 @@ module _ (st : Setting) (k : Kind) (F : List ℕ) (s : Sample) (named : has_wron
   told_none plain good = sym (plain_told st k F s named plain ∙ ap (λ b. cond b (Err rules.Value) (Ok None)) good)
 
   -- of one with a group
-  abbrev grouped : Result Part Rule
-  grouped = cond (has_bad_value st.format k F s) (Err rules.Value) (cond (has_bad_threshold k F s) (Err rules.Threshold) (Ok (part_of F s)))
-
-  pub told_some : (part : Part) → is_grouped st.format k ≡ true → Ok part ≡ grouped → Ok (Some part) ≡ told_part st k F s
+  pub told_some : (part : Part) → is_grouped st.format k ≡ true → Ok part ≡ grouped_part st.format k F s → Ok (Some part) ≡ told_part st k F s
   told_some part h told = by (has_bad_value st.format k F s) (has_bad_threshold k F s) told
     where
       by : (v t : Bool) → Ok part ≡ cond v (Err rules.Value) (cond t (Err rules.Threshold) (Ok (part_of F s)))
@@ -134,7 +132,7 @@ module _ (st : Setting) (k : Kind) (F : List ℕ) (s : Sample) (named : has_wron
       by false true e = absurd cc
       by false false e = let same : part ≡ part_of F s = cc in λ i. Ok (cond (sym h i) (Some (same i)) None)
 
-  pub told_refused : (rule : Rule) → Err rule ≡ grouped → Err rule ≡ told_part st k F s
+  pub told_refused : (rule : Rule) → Err rule ≡ grouped_part st.format k F s → Err rule ≡ told_part st k F s
   told_refused rule told = by (has_bad_value st.format k F s) (has_bad_threshold k F s) told
     where
       by : (v t : Bool) → Err rule ≡ cond v (Err rules.Value) (cond t (Err rules.Threshold) (Ok (part_of F s)))

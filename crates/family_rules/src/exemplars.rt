@@ -9,7 +9,7 @@ use label_sets::{Kind, Name};
 use page_model::{Exemplar, Sample};
 
 /// The most characters of an exemplar's names and values.
-const MOST: usize = 128;
+const MOST_EXEMPLAR_CHARACTERS: usize = 128;
 
 /// Whether the byte continues no character of UTF-8.
 fn begins_character(byte: u8) -> bool
@@ -37,7 +37,7 @@ fn is_long(exemplar: &Exemplar) -> bool
         ));
         count = count.saturating_add(own);
     }
-    count > MOST
+    count > MOST_EXEMPLAR_CHARACTERS
 }
 
 /// Whether a name has these bytes behind as many as the family's has.

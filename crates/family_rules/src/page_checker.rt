@@ -77,6 +77,17 @@ impl Checker {
     ///
     /// [`PageFault::Refused`] with the line and the least rule that it breaks, or that an earlier item broke; and want
     /// of memory.
+    ///
+    /// # Example
+    ///
+    /// ```rust
+    /// // The page says twice that `x` is a counter.
+    /// let (kind, rule) = (Kind::Counter, Rule::Descriptor);
+    /// let mut checker = Checker::new(alloc, Format::Text, Treatment::Scraped, 2)?;
+    /// checker.item(1, Item::KindOf { name: Name::from_str(alloc, "x")?, kind })?;
+    /// let second = checker.item(2, Item::KindOf { name: Name::from_str(alloc, "x")?, kind });
+    /// assert_eq!(rt; second, Err(PageFault::Refused { line: 2, rule }));
+    /// ```
     pub fn item(&mut self, line: u32, item: Item) -> Result<(), PageFault>
         requires { MayTake self.old item }
         ensures answer { (st : Setting) (earlier : List Item) → Stands st self.old earlier → Answers line (item_fault st earlier item) result }

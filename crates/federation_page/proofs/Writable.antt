@@ -26,12 +26,12 @@ use Rattle.open_writing.specs.Writing.{reading_samples, family_samples, item_unl
 use Rattle.open_writing.specs.FamilyKeys.{family_key, clash, is_one_family}
 use Rattle.open_writing.specs.Forms.{IsFormedReading, IsFormedFamily, AreFormed, label_sets_of, stand_together}
 use Rattle.open_writing.specs.OpenForms.{IsBareReading, AreWritable}
-use Rattle.writing_laws.specs.WritingLaws.{ReadPagesAreFormed, WritesShortLines, most_scraped_line}
-use Rattle.writing_laws.proofs.Laws.{kind_in_open}
+use Rattle.writing_laws.specs.WritingLaws.{most_scraped_line}
+use Rattle.writing_laws.proofs.Laws.{read_pages, reads_back, writables_are_open_forms, kind_in_open, writes_short_lines}
 use Rattle.federation_page.specs.Candidates.{with_target, candidates_of, stays}
 use Rattle.federation_page.specs.Conflicts.{founders, placed_by_name, sorted_by_name, gathered_by}
 use Rattle.federation_page.specs.Gathering.{with_readings_of, gathered_families, federated_page, is_one_target, IsTargetName, IsShowable}
-use Rattle.federation_page.specs.Laws.{GatheredAreWritable}
+use Rattle.federation_page.specs.Laws.{GatheredAreWritable, GatheredAreOpenForms, GatheredReadBack}
 use Rattle.federation_page.proofs.Founders.{gathered_apart, names_apart}
 use Rattle.federation_page.proofs.FederatedReadings.{most_target_bytes}
 use Rattle.federation_page.proofs.Groups.{together_joined, distinct_joined, targets_differ}
@@ -272,38 +272,47 @@ thinner_left [] (g ∷ gs) h = absurd h
 thinner_left (f ∷ fs) [] h = absurd h
 thinner_left (f ∷ fs) (g ∷ gs) h = (record { name = h.0.name; kind = h.0.kind; help = h.0.help; unit = h.0.unit; readings = some_left (stays g.kind) f.readings g.readings h.0.readings }, thinner_left fs gs h.1)
 
-module _ (formed : ReadPagesAreFormed) (short : WritesShortLines) where
-  sources_of : (form : Format) (fs : List Family) → AllByRecursion (IsFormedFamily form Scraped) (map kept_family fs) → AllByRecursion (IsShort most_scraped_line) (flat_map family_items (map kept_family fs)) → AllByRecursion (IsSource form) fs
-  sources_of form [] h k = tt
-  sources_of form (f ∷ fs) h k = (
-    record { formed = h.0; lines = all-front (IsShort most_scraped_line) (family_items (kept_family f)) (flat_map family_items (map kept_family fs)) k },
-    sources_of form fs h.1 (all-behind (IsShort most_scraped_line) (family_items (kept_family f)) (flat_map family_items (map kept_family fs)) k),
-  )
+sources_of : (form : Format) (fs : List Family) → AllByRecursion (IsFormedFamily form Scraped) (map kept_family fs) → AllByRecursion (IsShort most_scraped_line) (flat_map family_items (map kept_family fs)) → AllByRecursion (IsSource form) fs
+sources_of form [] h k = tt
+sources_of form (f ∷ fs) h k = (
+  record { formed = h.0; lines = all-front (IsShort most_scraped_line) (family_items (kept_family f)) (flat_map family_items (map kept_family fs)) k },
+  sources_of form fs h.1 (all-behind (IsShort most_scraped_line) (family_items (kept_family f)) (flat_map family_items (map kept_family fs)) k),
+)
 
-  lines_of : (fs : List Family) → All (IsShort most_scraped_line) (page_items fs) → AllByRecursion (IsShort most_scraped_line) (flat_map family_items fs)
-  unfolding page_items
-  lines_of fs h = all-front (IsShort most_scraped_line) (flat_map family_items fs) (items.Eof ∷ []) (recursion_from_All (IsShort most_scraped_line) (flat_map family_items fs ++ items.Eof ∷ []) h)
+lines_of : (fs : List Family) → All (IsShort most_scraped_line) (page_items fs) → AllByRecursion (IsShort most_scraped_line) (flat_map family_items fs)
+unfolding page_items
+lines_of fs h = all-front (IsShort most_scraped_line) (flat_map family_items fs) (items.Eof ∷ []) (recursion_from_All (IsShort most_scraped_line) (flat_map family_items fs ++ items.Eof ∷ []) h)
 
-  good_target : (s : Shown) → IsShowable s → IsGoodTarget s
-  good_target s able =
-      let st : Setting = able.page.0 in
-      let scraped : st.treatment ≡ Scraped = able.page.1 in
-      let read : IsPageRead st s.page = able.page.2 in
-      let left : PageValue = record { families = map kept_family s.page.families; samples = s.page.samples } in
-      let read_left : IsPageRead st left = record { text = read.text; whole = read.whole; read = read.read; families = thinner_left read.whole.families s.page.families read.families; samples = read.samples } in
-      let forms : AreFormed st.format Scraped left.families = subst (λ t. AreFormed st.format t left.families) scraped (formed st left read_left) in
-      record {
-        job = able.job;
-        instance = able.instance;
-        form = st.format;
-        sources = sources_of st.format s.page.families (recursion_from_All (IsFormedFamily st.format Scraped) left.families forms.each) (lines_of left.families (short st left scraped read_left));
-        names = (formed st s.page read).names;
-      }
+good_target : (s : Shown) → IsShowable s → IsGoodTarget s
+good_target s able =
+    let st : Setting = able.page.0 in
+    let scraped : st.treatment ≡ Scraped = able.page.1 in
+    let read : IsPageRead st s.page = able.page.2 in
+    let left : PageValue = record { families = map kept_family s.page.families; samples = s.page.samples } in
+    let read_left : IsPageRead st left = record { text = read.text; whole = read.whole; read = read.read; families = thinner_left read.whole.families s.page.families read.families; samples = read.samples } in
+    let forms : AreFormed st.format Scraped left.families = subst (λ t. AreFormed st.format t left.families) scraped (read_pages st left read_left) in
+    record {
+      job = able.job;
+      instance = able.instance;
+      form = st.format;
+      sources = sources_of st.format s.page.families (recursion_from_All (IsFormedFamily st.format Scraped) left.families forms.each) (lines_of left.families (writes_short_lines st left scraped read_left));
+      names = (read_pages st s.page read).names;
+    }
 
-  good_targets : (shown : List Shown) → AllByRecursion IsShowable shown → AllByRecursion IsGoodTarget shown
-  good_targets [] h = tt
-  good_targets (s ∷ shown) h = (good_target s h.0, good_targets shown h.1)
+good_targets : (shown : List Shown) → AllByRecursion IsShowable shown → AllByRecursion IsGoodTarget shown
+good_targets [] h = tt
+good_targets (s ∷ shown) h = (good_target s h.0, good_targets shown h.1)
 
-  pub gathered_writable : GatheredAreWritable
-  unfolding federated_page
-  gathered_writable shown able = writable_families shown able.distinct (good_targets shown (recursion_from_All IsShowable shown able.each))
+pub gathered_writable : GatheredAreWritable
+unfolding federated_page
+gathered_writable shown able = writable_families shown able.distinct (good_targets shown (recursion_from_All IsShowable shown able.each))
+
+-- so some text says it
+pub gathered_forms : GatheredAreOpenForms
+unfolding federated_page
+gathered_forms shown able = writables_are_open_forms (federated_page shown).families (gathered_writable shown able)
+
+-- and its own text reads back as the page
+pub gathered_back : GatheredReadBack
+unfolding federated_page
+gathered_back shown limit able few = reads_back (federated_page shown).families limit (gathered_writable shown able) few

@@ -33,12 +33,21 @@ use std::alloc::Global;
 /// # Errors
 ///
 /// Want of memory.
+///
+/// # Example
+///
+/// ```rust
+/// // The target `h1:80` of the job `a` shows `# TYPE x_total counter` and `x_total 2`, and two others nothing.
+/// let page = gather(alloc, &[first, second, third])?;
+/// let mut out = Vec::new(alloc);
+/// text(&page, &mut out)?;
+/// let wanted = "# TYPE x counter\nx_total{instance=\"h1:80\",job=\"a\"} 2\n# EOF\n";
+/// assert_eq!(rt; out.as_slice(), wanted.as_bytes());
+/// ```
 pub fn gather(alloc: Global, shown: &[Shown]) -> Result<Page, Memory>
     requires { AreShowable shown.now }
     ensures { IfOk result (λ page. page ≡ federated_page shown.now) }
 {
-    writing_laws::read_pages_are_formed();
-    gathered_pages();
     let families = gathered_families(alloc, shown)?;
     Ok(open_writing::page_of_families(families))
 }
@@ -71,9 +80,4 @@ pub fn gathered_pages()
     ensures writable { GatheredAreWritable }
     ensures forms { GatheredAreOpenForms }
     ensures back { GatheredReadBack }
-{
-    writing_laws::read_pages_are_formed();
-    writing_laws::written_sizes();
-    writing_laws::open_forms();
-    writing_laws::read_back();
-}
+{}

@@ -4,7 +4,6 @@ ghost use Rattle.federation_page.specs.Candidates.{AreFreeLabels, HasNames, with
 ghost use Rattle.federation_page.specs.SetsMade.{AreMadeFor};
 
 use crate::targets::with_target;
-use label_sets::set_laws::equal_sets;
 use label_sets::{LabelSet, Memory};
 use page_model::Shown;
 use std::alloc::Global;
@@ -60,7 +59,6 @@ impl TargetSets {
     fn find(&self, slot: usize, labels: &LabelSet) -> Option<&TargetSet>
         ensures { IfSome result (λ one. Contains self.now.made.items one.now × (one.now.own ≡ labels.now)) }
     {
-        equal_sets();
         let place = *self.slots.get(slot)?;
         let one = self.made.get(place)?;
         if one.own == *labels { Some(one) } else { None }

@@ -3,4 +3,4 @@
 #![tactic(auto)]
 
 #[cfg(test)]
-mod federation_page_calls;
+mod calls;

@@ -63,6 +63,21 @@ fn finite_part(number: &Number) -> Option<Decimal>
 /// # Errors
 ///
 /// Want of memory.
+///
+/// # Example
+///
+/// ```rust
+/// let buckets = [
+///     Bucket { le: read(b"0.1")?, count: 2 },
+///     Bucket { le: of(1), count: 5 },
+///     Bucket { le: Number::Up, count: 5 },
+/// ];
+/// if is_cumulative(&buckets) {
+///     let layout = layout(alloc, &buckets)?;
+///     assert_eq!(rt; layout.counts.as_slice(), [2, 3, 0].as_slice());
+///     assert_eq!(rt; (layout.bounds.len(), layout.count), (2, 5));
+/// }
+/// ```
 #[tactic(auto, unfolding(crate::specs::Layouts::layout_of))]
 pub fn layout(alloc: Global, buckets: &[Bucket]) -> Result<Layout, Memory>
     requires { spec.are_cumulative buckets.now ≡ true }

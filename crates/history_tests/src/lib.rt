@@ -3,6 +3,4 @@
 #![tactic(auto)]
 
 #[cfg(test)]
-mod histogram_layout_calls;
-#[cfg(test)]
-mod otlp_json_calls;
+mod calls;

@@ -16,11 +16,11 @@ pub(crate) enum Head {
     Found(ResponseSpans),
 }
 
-/// The most bytes of a head.
-pub(crate) const MOST_HEAD: usize = 16_384;
+/// The most bytes of a head, of a request or of a reply.
+pub const HEAD_LIMIT: usize = 16_384;
 
 /// The most fields of a head.
-pub(crate) const MOST_FIELDS: usize = 64;
+pub const FIELD_LIMIT: usize = 64;
 
 /// What these bytes say of a head.
 fn parse_head(bytes: &[u8], spans: &mut [HeaderSpan]) -> Head
@@ -41,7 +41,7 @@ pub(crate) fn head_of(front: &[u8], spans: &mut [HeaderSpan]) -> Head
     ensures within { IsFoundWithin front.now spans.new result }
     ensures head { (got : List ℕ) → front.now ≡ take head_limit got → IsHeadOf got front.now spans.new result }
 {
-    let full = front.len() == MOST_HEAD;
+    let full = front.len() == HEAD_LIMIT;
     match parse_head(front, spans) {
         Head::More => { if full { Head::Bad } else { Head::More } }
         Head::Bad => Head::Bad,
@@ -53,8 +53,8 @@ pub(crate) fn head_of(front: &[u8], spans: &mut [HeaderSpan]) -> Head
 pub fn status_of(head: &[u8]) -> HeadSeen
     ensures { Shows head.now result }
 {
-    let front = &head[..head.len().min(MOST_HEAD)];
-    let mut spans = [EMPTY_HEADER_SPAN; MOST_FIELDS];
+    let front = &head[..head.len().min(HEAD_LIMIT)];
+    let mut spans = [EMPTY_HEADER_SPAN; FIELD_LIMIT];
     match head_of(front, &mut spans) {
         Head::More => HeadSeen::More,
         Head::Bad => HeadSeen::Bad,

@@ -15,7 +15,7 @@ mod texts;
 mod words;
 
 pub use fault::{Body, Progress, ReplyFault};
-pub use head::status_of;
+pub use head::{FIELD_LIMIT, HEAD_LIMIT, status_of};
 pub use reply::Reply;
 pub use seen::HeadSeen;
 pub use texts::{get_text, post_head, post_text};

@@ -10,7 +10,7 @@ ghost use Rattle.http_talk.specs.declared.part.Part.TheVariants.{Head as InHead,
 use crate::chunk_place::ChunkPlace;
 use crate::chunk_reader::ChunkReader;
 use crate::fault::{Body, Progress, ReplyFault};
-use crate::head::{Head, MOST_FIELDS, MOST_HEAD, head_of};
+use crate::head::{FIELD_LIMIT, HEAD_LIMIT, Head, head_of};
 use crate::head_facts::HeadFacts;
 use crate::part::Part;
 use httparse::spans::{EMPTY_HEADER_SPAN, HeaderSpan, ResponseSpans};
@@ -70,7 +70,7 @@ impl Reply {
             most: max_page,
             part: Part::Head,
             format: Format::Text,
-            kept: Vec::with_capacity(alloc, MOST_HEAD)?,
+            kept: Vec::with_capacity(alloc, HEAD_LIMIT)?,
             got: 0,
             stopped: None,
         })
@@ -122,11 +122,11 @@ impl Reply {
         requires { self.old.part ≡ InHead }
         ensures { TakesBytes self.old self.new piece.now result }
     {
-        let count = (MOST_HEAD - self.kept.len()).min(piece.len());
+        let count = (HEAD_LIMIT - self.kept.len()).min(piece.len());
         if self.kept.extend_from_slice(&piece[..count]).is_err() {
             return Err(ReplyFault::Memory);
         }
-        let mut spans = [EMPTY_HEADER_SPAN; MOST_FIELDS];
+        let mut spans = [EMPTY_HEADER_SPAN; FIELD_LIMIT];
         match head_of(self.kept.as_slice(), &mut spans) {
             Head::More => Ok(Progress::More),
             Head::Bad => Err(ReplyFault::Head),

@@ -128,6 +128,16 @@ fn text_bytes<T: Emit>(alloc: Global, value: &T) -> Result<Bytes, Memory>
 /// # Errors
 ///
 /// Want of memory.
+///
+/// # Example
+///
+/// ```rust
+/// let host = Bytes::from_slice(alloc, b"h")?;
+/// let path = Bytes::from_slice(alloc, b"/metrics")?;
+/// let text = get_text(alloc, &Address { host, port: 80, path })?;
+/// assert!(rt; text.as_slice().starts_with(b"GET /metrics HTTP/1.1\r\nHost: h:80\r\nAccept: text/plain;"));
+/// assert!(rt; text.as_slice().ends_with(b"\r\nConnection: close\r\n\r\n"));
+/// ```
 pub fn get_text(alloc: Global, to: &Address) -> Result<Bytes, Memory>
     ensures { IfOk result (λ text. text ≡ get_request to.now) }
 {

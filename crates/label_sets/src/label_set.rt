@@ -77,6 +77,20 @@ impl LabelSet {
     ///
     /// [`LabelFault::TooMany`] above `most` labels; else [`LabelFault::Twice`] where two have one name; and want of
     /// memory.
+    ///
+    /// # Example
+    ///
+    /// ```rust
+    /// let mut pairs = Vec::new(alloc);
+    /// for (name, value) in &[("b", "1"), ("a", "2"), ("c", "")] {
+    ///     let name = Name::from_str(alloc, name)?;
+    ///     let value = Text::from_str(alloc, value)?;
+    ///     pairs.push(Label { name, value })?;
+    /// }
+    /// let set = LabelSet::build(alloc, pairs, 64)?;
+    /// let first = set.labels().first();
+    /// assert!(rt; set.len() == 2 && first.is_some_and(|label| label.name.as_str() == "a"));
+    /// ```
     pub fn build(alloc: Global, pairs: Vec<Label>, most: u32) -> Result<LabelSet, LabelFault>
         ensures ok { IfOk result (λ set. set ≡ label_set pairs.items) }
         ensures faultless { OnOk result ((length pairs.items ≤ most) × (repeated_at [] 0 pairs.items ≡ None)) }

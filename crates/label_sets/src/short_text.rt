@@ -4,7 +4,7 @@ ghost use Rattle.std.specs.Prelude.{◌≡◌, ◌<◌, [], length, MatchOption}
 use std::marker::Model;
 
 /// The most bytes of a short text. With their number and the tag of a text they fill 32 bytes.
-const MOST: usize = 28;
+const MOST_SHORT_BYTES: usize = 28;
 
 /// A text of at most 28 bytes of UTF-8. It takes no memory of its own.
 // With a number of 8 bits and 30 cells a text would take 22 ns more to make, since its bytes would be
@@ -12,7 +12,7 @@ const MOST: usize = 28;
 #[derive(Drop)]
 pub(crate) struct ShortText {
     len: u16,
-    cells: [u8; MOST],
+    cells: [u8; MOST_SHORT_BYTES],
 }
 
 impl Model for ShortText {
@@ -33,19 +33,19 @@ impl ShortText {
     {
         ShortText {
             len: 0,
-            cells: [0; MOST],
+            cells: [0; MOST_SHORT_BYTES],
         }
     }
 
     /// A copy of a text, or `None` where it is too long.
     pub(crate) fn of(text: &str) -> Option<ShortText>
-        ensures { MatchOption result (MOST < length text.now) (λ t. t ≡ text.now) }
+        ensures { MatchOption result (MOST_SHORT_BYTES < length text.now) (λ t. t ≡ text.now) }
     {
         let len = text.len();
-        if len > MOST {
+        if len > MOST_SHORT_BYTES {
             return None;
         }
-        let mut cells = [0; MOST];
+        let mut cells = [0; MOST_SHORT_BYTES];
         cells[..len].copy_from_slice(text.as_bytes());
         Some(ShortText {
             len: len as u16,

@@ -12,7 +12,7 @@ use std::cmp::Ordering;
 use std::collections::BTreeMap;
 
 /// Up to as many labels are sorted by insertion.
-const FEW: usize = 32;
+const FEW_LABELS: usize = 32;
 
 /// Puts labels into byte order of their names, unless two have one name: then the answer is the
 /// place, counted from 0, of the first whose name an earlier one has.
@@ -22,7 +22,7 @@ pub(crate) fn sort_by_name(
 ) -> Result<Option<usize>, AllocError>
     ensures { IfOk result (λ repeat. Sorts labels.old.items repeat labels.new.items) }
 {
-    if labels.len() <= FEW {
+    if labels.len() <= FEW_LABELS {
         return Ok(sort_few(labels.as_mut_slice()));
     }
     match first_repeat(alloc, labels.as_slice())? {

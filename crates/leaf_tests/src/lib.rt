@@ -3,16 +3,4 @@
 #![tactic(auto)]
 
 #[cfg(test)]
-mod byte_table_calls;
-#[cfg(test)]
-mod exact_decimal_calls;
-#[cfg(test)]
-mod label_sets_calls;
-#[cfg(test)]
-mod line_scan_calls;
-#[cfg(test)]
-mod packed_keys_calls;
-#[cfg(test)]
-mod page_lines_calls;
-#[cfg(test)]
-mod text_emitter_calls;
+mod calls;

@@ -40,6 +40,14 @@ pub fn cut_chars<C: CharClass>(bytes: &[u8]) -> Cut<'_>
 }
 
 /// The name at the front and the rest; nothing where no name of that sort is there.
+///
+/// # Example
+///
+/// ```rust
+/// let cut = cut_name::<MetricChar>(b"a:b{c")?;
+/// assert_eq!(rt; (cut.front, cut.rest), (b"a:b".as_slice(), b"{c".as_slice()));
+/// assert!(rt; cut_name::<MetricChar>(b"1a").is_none());
+/// ```
 pub fn cut_name<N: NameClass>(bytes: &[u8]) -> Option<Cut<'_>>
     ensures { MatchOption result (N.is_name (take_while N.test bytes.now) ≡ false) (IsNamed N.is_name N.test bytes.now) }
 {

@@ -10,13 +10,13 @@ use Rattle.std.proofs.lemmas.List.FromFn.{length-map-range_with_len, map-range_w
 use Rattle.std.proofs.lemmas.Slice.Eq.{bytes_eq-Decides}
 use Rattle.std.specs.Prelude.{if◌then◌else◌, OnOk, is_ok}
 use Rattle.page_model.specs.declared.format.Format.TheVariants.{OpenMetrics}
-use Rattle.bridge_ports.specs.Targets.{IsScraped}
+use Rattle.bridge_ports.specs.Targets.{IsScraped, have_same_names}
 use Rattle.bridge_ports.specs.declared.talk.MemoryReply.{MemoryReply}
 use Rattle.replay_script.specs.declared.ending.Ending.TheVariants.{ConnectFails}
 use Rattle.replay_script.specs.ScriptContents.{page_reply, raw_reply}
 use Rattle.plain_words.specs.Places.{is_visible_word, is_port}
 use Rattle.replay_script.specs.declared.script.ScriptTarget.{ScriptTarget}
-use Rattle.replay_script.specs.ScriptRules.{same_names, is_target_line}
+use Rattle.replay_script.specs.ScriptRules.{is_target_line}
 use Rattle.replay_script.specs.RightScripts.{IsRightReply, IsRightHeader, IsRightTarget, IsRightScript}
 use Rattle.replay_script.proofs.Laws.{script_target, page_right, raw_right}
 use Rattle.load_pages.specs.GeneratedPages.{series_text, series_texts, generated_text}
@@ -157,7 +157,7 @@ right_from number rounds a (suc n) few = (right_target number rounds a (omega (a
 -- ---- names
 
 -- two targets have two instances
-apart : (a b : ℕ) → a < b → b ≤ 64 → same_names (generated_scraped a) (generated_scraped b) ≡ false
+apart : (a b : ℕ) → a < b → b ≤ 64 → have_same_names (generated_scraped a) (generated_scraped b) ≡ false
 unfolding generated_line
 apart a b less few = by (bytes_eq (generated_scraped a).instance (generated_scraped b).instance) refl
   where
@@ -170,12 +170,12 @@ apart a b less few = by (bytes_eq (generated_scraped a).instance (generated_scra
         absurd (omega (arith, numbers, less))
 
 -- the targets from this one on have other names
-others : (number rounds a b n : ℕ) → a < b → b + n ≤ 65 → AllByRecursion (λ y. same_names (generated_scraped a) y ≡ false) (map (λ (t : ScriptTarget). t.target) (map (generated_target number rounds) (range_with_len b n)))
+others : (number rounds a b n : ℕ) → a < b → b + n ≤ 65 → AllByRecursion (λ y. have_same_names (generated_scraped a) y ≡ false) (map (λ (t : ScriptTarget). t.target) (map (generated_target number rounds) (range_with_len b n)))
 unfolding generated_target
 others number rounds a b zero less few = tt
 others number rounds a b (suc n) less few = (apart a b less (omega (arith, few)), others number rounds a (b + 1) n (omega (arith, less)) (omega (arith, few)))
 
-distinct_from : (number rounds a n : ℕ) → a + n ≤ 65 → IsDistinct same_names (map (λ (t : ScriptTarget). t.target) (map (generated_target number rounds) (range_with_len a n)))
+distinct_from : (number rounds a n : ℕ) → a + n ≤ 65 → IsDistinct have_same_names (map (λ (t : ScriptTarget). t.target) (map (generated_target number rounds) (range_with_len a n)))
 unfolding IsDistinct generated_target
 distinct_from number rounds a zero few = tt
 distinct_from number rounds a (suc n) few = (others number rounds a (a + 1) n (omega arith) (omega (arith, few)), distinct_from number rounds (a + 1) n (omega (arith, few)))

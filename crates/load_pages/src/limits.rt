@@ -6,7 +6,7 @@ ghost use Rattle.load_pages.specs.GeneratedScripts.{IsLoad};
 pub const MOST_NUMBER: u64 = 1_000_000;
 
 /// The most targets of a load.
-const MOST_TARGETS: u64 = 64;
+const MOST_LOAD_TARGETS: u64 = 64;
 
 /// The most rounds of a load.
 const MOST_ROUNDS: u64 = 1_000;
@@ -25,7 +25,7 @@ pub fn is_load(number: u64, targets: u64, rounds: u64) -> bool
     if targets == 0 {
         return false;
     }
-    if targets > MOST_TARGETS {
+    if targets > MOST_LOAD_TARGETS {
         return false;
     }
     if rounds == 0 {

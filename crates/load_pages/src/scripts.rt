@@ -5,16 +5,13 @@ ghost use Rattle.replay_script.specs.RightScripts.{IsRightScript};
 ghost use Rattle.load_pages.specs.GeneratedScripts as spec;
 
 use crate::pages::page;
-use bridge_ports::{MemoryReply, Target};
+use bridge_ports::{MemoryReply, SECOND, Target};
 use label_sets::{List, Memory};
 use page_model::Format;
 use replay_script::{
     Ending, Header, Script, ScriptTarget, TargetWords, page_reply, raw_reply, target,
 };
 use std::alloc::Global;
-
-/// A second, in nanoseconds.
-const SECOND: u64 = 1_000_000_000;
 
 /// What the wire of a target's scrapes answers in a round.
 #[tactic(auto, unfolding(crate::specs::GeneratedScripts::generated_reply))]
@@ -117,6 +114,15 @@ fn load_targets(
 /// # Errors
 ///
 /// Want of memory.
+///
+/// # Example
+///
+/// ```rust
+/// if is_load(0, 64, 2) {
+///     let script = generated(alloc, 0, 64, 2)?;
+///     assert_eq!(rt; script.targets.len(), 64);
+/// }
+/// ```
 pub fn generated(alloc: Global, number: u32, targets: u32, rounds: u32) -> Result<Script, Memory>
     requires { spec.IsLoad number targets rounds }
     ensures script { IfOk result (λ script. script ≡ spec.generated_script number targets rounds) }

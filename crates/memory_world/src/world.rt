@@ -79,6 +79,18 @@ impl MemoryWorld {
 
     /// A world of these files, pairs and doors. `failing` names, counted from 1, the calls on files and doors
     /// that fail. It takes no memory.
+    ///
+    /// # Example
+    ///
+    /// ```rust
+    /// let (path, bytes) = (Text::from_str(alloc, "a")?, Bytes::from_slice(alloc, b"text")?);
+    /// let files = List::from_vec(Vec::from_array(alloc, [MemoryFile { path, bytes }])?)?;
+    /// let none = List::new(alloc);
+    /// let mut world = MemoryWorld::new(alloc, files, Vec::new(alloc), Vec::new(alloc), none);
+    /// let mut into = [0u8; 3];
+    /// world.open_file(Text::from_str(alloc, "a")?)?;
+    /// assert_eq!(rt; world.read_file(&mut into), Ok(3));
+    /// ```
     pub fn new(
         alloc: Global,
         files: List<MemoryFile>,

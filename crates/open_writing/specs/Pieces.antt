@@ -2,6 +2,8 @@
 -- OpenMetrics 1.0, "ABNF" (exposition, sample, labels); the bridge's own where it splits a text.
 use Rattle.std.specs.Prelude.{◌≡◌, ℕ, ◌+◌, ◌*◌, Bool, ◌||◌, List, ◌∷◌, ◌++◌, length, codes, ◌==◌, Option, Some, None}
 use Rattle.std.specs.List.{flat_map, sum_by}
+use Rattle.exact_decimal.specs.declared.number.Number.{Number}
+use Rattle.exact_decimal.specs.Literals.{number_text}
 use Rattle.label_sets.specs.declared.kind.Kind.{Kind}
 use Rattle.label_sets.specs.declared.label.Label.{Label}
 use Rattle.label_sets.specs.declared.label_set.LabelSet.{LabelSet}
@@ -15,6 +17,9 @@ use Rattle.page_model.specs.declared.page.Quantile.{Quantile}
 use Rattle.page_model.specs.declared.page.Reading.{Reading}
 use Rattle.page_model.specs.declared.page.Value.{Value}
 use Rattle.page_model.specs.declared.page.Value.TheVariants as values
+use Rattle.page_model.specs.SuffixNames.{suffix_bytes}
+use Rattle.open_writing.specs.declared.labels.Gap.{Gap}
+use Rattle.open_writing.specs.declared.samples.SampleName.{SampleName}
 use Rattle.open_writing.specs.Writing.{bucket_sample, escaped, family_items, item_unless_empty, labels_text, line_text, quantile_sample, reading_samples, sample_text, value_samples}
 
 -- a byte that stands in a quoted text by an escape
@@ -44,6 +49,14 @@ labels_then_space labels = labels_text labels ++ codes " "
 -- between these labels a label of this name has its place among all of them
 abbrev pub IsLabelPlace : List Label → List ℕ → List Label → List Label → Type 0
 IsLabelPlace labels name front back = (value : List ℕ) → label_inserted (label_with name value) labels ≡ front ++ label_with name value ∷ back
+
+-- the labels around a gap, with one in it whose value is a number
+abbrev pub filled_gap : Gap → Number → List Label
+filled_gap gap n = gap.front.now ++ label_with gap.name.now (number_text n) ∷ gap.back.now
+
+-- the name of a family's samples: the family's, and a suffix
+abbrev pub sample_name : SampleName → List ℕ
+sample_name name = name.family.now ++ suffix_bytes name.suffix
 
 -- a sample as a line
 unfoldable pub sample_line : Sample → List ℕ

@@ -9,14 +9,14 @@ use std::marker::Model;
 use text_emitter::{Emit, Emitter};
 
 /// The most bytes that are kept.
-const MOST: usize = 4096;
+const MOST_KEPT_BYTES: usize = 4096;
 
 /// Takes the bytes of a text and keeps them, unless they are too many.
 ///
 /// A piece costs less here than in a vector, which may have to grow and is taken up and laid down each time.
 #[derive(Drop)]
 pub(crate) struct Kept {
-    room: [u8; MOST],
+    room: [u8; MOST_KEPT_BYTES],
     /// How many bytes there are, and one more than are kept where they are too many.
     len: usize,
 }
@@ -35,7 +35,7 @@ impl Model for Kept {
 
 /// Copies a piece into a room, behind so many bytes.
 #[inline(always)]
-fn copy_behind(room: &mut [u8; MOST], len: usize, piece: &[u8])
+fn copy_behind(room: &mut [u8; MOST_KEPT_BYTES], len: usize, piece: &[u8])
     requires { len + length piece.now ≤ most_kept }
     ensures { take (len + length piece.now) room.new ≡ take len room.old ++ piece.now }
 {
@@ -48,7 +48,7 @@ impl Kept {
         ensures { result ≡ Some [] }
     {
         Kept {
-            room: [0; MOST],
+            room: [0; MOST_KEPT_BYTES],
             len: 0,
         }
     }
@@ -64,7 +64,7 @@ impl Kept {
     fn bytes(&self) -> Option<&[u8]>
         ensures { option_copied result ≡ self.now }
     {
-        if self.len > MOST {
+        if self.len > MOST_KEPT_BYTES {
             return None;
         }
         Some(&self.room[..self.len])
@@ -77,8 +77,8 @@ impl Emitter for Kept {
     #[inline(always)]
     fn put(&mut self, piece: &[u8]) {
         let end = self.len + piece.len();
-        if end > MOST {
-            self.len = MOST + 1;
+        if end > MOST_KEPT_BYTES {
+            self.len = MOST_KEPT_BYTES + 1;
             return;
         }
         copy_behind(&mut self.room, self.len, piece);

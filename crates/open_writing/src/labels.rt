@@ -1,10 +1,10 @@
 //! Labels in braces (OpenMetrics 1.0, "ABNF", labels).
 
-ghost use Rattle.std.specs.Prelude.{◌≡◌, ◌≤◌, ◌∷◌, ◌++◌, fold, length, not};
+ghost use Rattle.std.specs.Prelude.{◌≡◌, ◌≤◌, fold, length, not};
 ghost use Rattle.std.specs.List.{flat_map, prefix_len};
 ghost use Rattle.label_sets.specs.Labels.{name_before};
 ghost use Rattle.exact_decimal.specs.Literals.{number_text};
-ghost use Rattle.open_writing.specs.Pieces.{IsLabelPlace, label_then_comma, label_with, labels_then_space, next_unclosed, unclosed_label};
+ghost use Rattle.open_writing.specs.Pieces.{IsLabelPlace, filled_gap, label_then_comma, label_with, labels_then_space, next_unclosed, unclosed_label};
 
 use crate::strings::emit_escaped;
 use exact_decimal::{Buffer, Number};
@@ -114,8 +114,7 @@ impl<'a> Gap<'a> {
 
     /// Emits the labels in braces, with one more in its place, whose value is a number, and a space.
     pub(crate) fn emit<E: Emitter>(&self, out: &mut E, number: &Number)
-        ensures { out.new ≡ fold E.push out.old
-            (labels_then_space (self.now.front.now ++ label_with self.now.name.now (number_text number.now) ∷ self.now.back.now)) }
+        ensures { out.new ≡ fold E.push out.old (labels_then_space (filled_gap self.now number.now)) }
     {
         out.put(b"{");
         emit_front(out, self.front);

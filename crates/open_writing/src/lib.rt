@@ -25,6 +25,16 @@ use page_model::{Family, Page};
 /// # Errors
 ///
 /// Want of memory: then `out` holds what it held.
+///
+/// # Example
+///
+/// ```rust
+/// // `page` was read of `# TYPE x unknown`, `x +inf`, `# TYPE e stateset` and `# EOF`.
+/// let mut out = Vec::from_slice(alloc, b"> ")?;
+/// write(&page, &mut out)?;
+/// let text = "> # TYPE x unknown\nx +Inf\n# TYPE e stateset\n# EOF\n";
+/// assert_eq!(rt; out.as_slice(), text.as_bytes());
+/// ```
 #[tactic(auto, unfolding(crate::specs::Writing::written_text))]
 pub fn write(page: &Page, out: &mut Vec<u8>) -> Result<(), Memory>
     ensures ok { OnOk result (out.new.items ≡ out.old.items ++ written_text page.now) }

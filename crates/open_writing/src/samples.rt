@@ -1,9 +1,8 @@
 //! Samples, each on a line of its own (OpenMetrics 1.0, "ABNF", sample).
 
-ghost use Rattle.std.specs.Prelude.{◌≡◌, ◌++◌, ◌∷◌, fold};
-ghost use Rattle.exact_decimal.specs.Literals.{number_text};
+ghost use Rattle.std.specs.Prelude.{◌≡◌, fold};
 ghost use Rattle.page_model.specs.SuffixNames.{suffix_bytes};
-ghost use Rattle.open_writing.specs.Pieces.{label_with, sample_line, samples_text};
+ghost use Rattle.open_writing.specs.Pieces.{filled_gap, sample_line, sample_name, samples_text};
 ghost use Rattle.open_writing.specs.Writing.{bare_sample, number_sample};
 
 use crate::labels::{Gap, emit_labels};
@@ -46,7 +45,7 @@ pub(crate) fn emit_sample<E: Emitter>(
     number: &Number,
 )
     ensures { out.new ≡ fold E.push out.old
-        (sample_line (bare_sample (name.now.family.now ++ suffix_bytes name.now.suffix) labels.now number.now)) }
+        (sample_line (bare_sample (sample_name name.now) labels.now number.now)) }
 {
     out.put(name.family.as_bytes());
     emit_suffix(out, name.suffix);
@@ -64,7 +63,7 @@ pub(crate) fn emit_option<E: Emitter>(
     number: &Option<Number>,
 )
     ensures { out.new ≡ fold E.push out.old
-        (samples_text (number_sample (name.now.family.now ++ suffix_bytes name.now.suffix) labels.now number.now)) }
+        (samples_text (number_sample (sample_name name.now) labels.now number.now)) }
 {
     if let Some(number) = number {
         emit_sample(out, name, labels, number);
@@ -79,8 +78,8 @@ pub(crate) fn emit_placed<E: Emitter>(
     place: &Number,
     number: &Number,
 )
-    ensures { out.new ≡ fold E.push out.old (sample_line (bare_sample (name.now.family.now ++ suffix_bytes name.now.suffix)
-        (gap.now.front.now ++ label_with gap.now.name.now (number_text place.now) ∷ gap.now.back.now) number.now)) }
+    ensures { out.new ≡ fold E.push out.old
+        (sample_line (bare_sample (sample_name name.now) (filled_gap gap.now place.now) number.now)) }
 {
     out.put(name.family.as_bytes());
     emit_suffix(out, name.suffix);

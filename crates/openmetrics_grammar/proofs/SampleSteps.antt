@@ -21,8 +21,11 @@ use Rattle.line_scan.specs.declared.line.LineRead.TheVariants as reads
 use Rattle.line_scan.specs.declared.scan.Cut.{Cut}
 use Rattle.line_scan.specs.Cuts.{IsNamed}
 use Rattle.line_scan.specs.LineReading.{says_fault, Reads}
+use Rattle.page_model.proofs.Laws.{behind_parts, behind-append}
 use Rattle.openmetrics_grammar.specs.declared.exemplar.ExemplarRead.{ExemplarRead}
 use Rattle.openmetrics_grammar.specs.declared.sample.SampleRead.{SampleRead}
+use Rattle.openmetrics_grammar.proofs.LabelSteps.{list-none, list-found}
+use Rattle.openmetrics_grammar.specs.LabelLists.{braced_at}
 use Rattle.openmetrics_grammar.specs.Samples.{IsMaybeExemplarOf, IsMaybeExemplarIn, IsExemplarIn, IsSampleOf, exemplar_behind, maybe_in_range, has_bad_exemplar_labels, exemplar_made, no_exemplar, an_exemplar}
 
 -- ---- an exemplar
@@ -32,7 +35,7 @@ unfolding reading.exemplar_of
 no_exemplar_at [] h = record { written = None; found_is = refl; read = no_exemplar }
 no_exemplar_at (c ∷ cs) h = absurd (omega arith)
 
-pub exemplar-no_mark : (cs : List ℕ) → 0 < length cs → None ≡ behind (codes " # ") cs → reading.exemplar_of cs ≡ None
+exemplar-no_mark : (cs : List ℕ) → 0 < length cs → None ≡ behind (codes " # ") cs → reading.exemplar_of cs ≡ None
 unfolding reading.exemplar_of
 exemplar-no_mark [] some h = absurd (omega arith)
 exemplar-no_mark (c ∷ cs) some h = rw (← h) refl
@@ -79,19 +82,48 @@ marked_list : (o : Option (List Label × List ℕ)) → (o >>= labelled) ≡ (o 
 marked_list None = refl
 marked_list (Some l) = marked_value l.0 (value_at l.1)
 
-exemplar_marked : (cs body : List ℕ) → 0 < length cs → Some body ≡ behind (codes " # ") cs → reading.exemplar_of cs ≡ (exemplar_behind body >>= some_exemplar)
+-- the exemplar behind a mark, whose labels are these, if any
+exemplar_at : (cs body : List ℕ) (labels : Option (List Label × List ℕ)) → 0 < length cs → Some body ≡ behind (codes " # ") cs → list_at body ≡ labels → reading.exemplar_of cs ≡ (labels >>= labelled)
 unfolding reading.exemplar_of
-exemplar_marked [] body some h = absurd (omega arith)
-exemplar_marked (c ∷ cs) body some h = rw (← h) (marked_list (list_at body))
+exemplar_at [] body labels some h l = absurd (omega arith)
+exemplar_at (c ∷ cs) body labels some h l = rw (← h, l) refl
 
-module _ (cs body : List ℕ) (some : 0 < length cs) (mark : Some body ≡ behind (codes " # ") cs) where
-  pub marked-none : exemplar_behind body ≡ None → reading.exemplar_of cs ≡ None
-  marked-none h = exemplar_marked cs body some mark ∙ rw h refl
+-- a mark and an opening brace are a mark, behind which an opening brace stands
+mark_cut : (cs inner : List ℕ) → Some inner ≡ behind (codes " # {") cs → Some (123 ∷ inner) ≡ behind (codes " # ") cs
+mark_cut cs inner h =
+    let e : cs ≡ 32 ∷ 35 ∷ 32 ∷ 123 ∷ inner = behind_parts (codes " # {") cs inner (sym h) in
+    rw e (sym (behind-append (codes " # ") (123 ∷ inner)))
 
-  pub marked-found : (e : ExemplarRead) → IsExemplarIn (exemplar_behind body) e → IsMaybeExemplarIn (reading.exemplar_of cs) (Some e)
+mark_joined : (cs body inner : List ℕ) → behind (codes " # ") cs ≡ Some body → behind (123 ∷ []) body ≡ Some inner → behind (codes " # {") cs ≡ Some inner
+mark_joined cs body inner h g =
+    let e : cs ≡ 32 ∷ 35 ∷ 32 ∷ body = behind_parts (codes " # ") cs body h in
+    let f : body ≡ 123 ∷ inner = behind_parts (123 ∷ []) body inner g in
+    rw (e, f) (behind-append (codes " # {") inner)
+
+exemplar_marked : (cs inner : List ℕ) → 0 < length cs → Some inner ≡ behind (codes " # {") cs → reading.exemplar_of cs ≡ (exemplar_behind inner >>= some_exemplar)
+exemplar_marked cs inner some h =
+    let l : list_at (123 ∷ inner) ≡ braced_at inner = list-found (123 ∷ inner) inner (sym (behind-append (123 ∷ []) inner)) in
+    exemplar_at cs (123 ∷ inner) (braced_at inner) some (mark_cut cs inner h) l ∙ marked_list (braced_at inner)
+
+pub exemplar-no_list : (cs : List ℕ) → 0 < length cs → None ≡ behind (codes " # {") cs → reading.exemplar_of cs ≡ None
+exemplar-no_list cs some h = marked (behind (codes " # ") cs) refl
+  where
+    opened : (body : List ℕ) (o : Option (List ℕ)) → behind (codes " # ") cs ≡ Some body → behind (123 ∷ []) body ≡ o → reading.exemplar_of cs ≡ None
+    opened body None e g = exemplar_at cs body None some (sym e) (list-none body (sym g))
+    opened body (Some inner) e g = absurd (let k : behind (codes " # {") cs ≡ Some inner = mark_joined cs body inner e g in cc)
+
+    marked : (o : Option (List ℕ)) → behind (codes " # ") cs ≡ o → reading.exemplar_of cs ≡ None
+    marked None e = exemplar-no_mark cs some (sym e)
+    marked (Some body) e = opened body (behind (123 ∷ []) body) e refl
+
+module _ (cs inner : List ℕ) (some : 0 < length cs) (mark : Some inner ≡ behind (codes " # {") cs) where
+  pub marked-none : exemplar_behind inner ≡ None → reading.exemplar_of cs ≡ None
+  marked-none h = exemplar_marked cs inner some mark ∙ rw h refl
+
+  pub marked-found : (e : ExemplarRead) → IsExemplarIn (exemplar_behind inner) e → IsMaybeExemplarIn (reading.exemplar_of cs) (Some e)
   marked-found e i = record {
     written = Some i.written;
-    found_is = exemplar_marked cs body some mark ∙ rw i.found_is refl;
+    found_is = exemplar_marked cs inner some mark ∙ rw i.found_is refl;
     read = an_exemplar i.written e i.read;
   }
 

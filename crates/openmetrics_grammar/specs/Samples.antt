@@ -8,7 +8,8 @@ use Rattle.page_model.specs.declared.format.Format.TheVariants.{OpenMetrics}
 use Rattle.page_model.specs.declared.format.Treatment.{Treatment}
 use Rattle.page_model.specs.declared.item.Exemplar.{Exemplar}
 use Rattle.page_model.specs.Written.{Written, WrittenExemplar, WrittenSample, sample, exemplar_of, exemplar_out_of_range, has_out_of_range, is_label_list}
-use Rattle.page_model.specs.OpenReading.{list_at, value_at, stamp_at}
+use Rattle.page_model.specs.OpenReading.{value_at, stamp_at}
+use Rattle.openmetrics_grammar.specs.LabelLists.{braced_at}
 use Rattle.openmetrics_grammar.specs.declared.exemplar.ExemplarRead.{ExemplarRead}
 use Rattle.openmetrics_grammar.specs.declared.sample.SampleRead.{SampleRead}
 
@@ -24,9 +25,9 @@ pub data IsMaybeExemplarOf : Option WrittenExemplar → Option ExemplarRead → 
   no_exemplar : IsMaybeExemplarOf None None
   an_exemplar : (w : WrittenExemplar) (e : ExemplarRead) → IsExemplarOf w e → IsMaybeExemplarOf (Some w) (Some e)
 
--- an exemplar behind its mark that is all that is left
+-- an exemplar behind its mark and the opening brace of its labels that is all that is left
 abbrev pub exemplar_behind : List ℕ → Option WrittenExemplar
-exemplar_behind body = list_at body >>= λ labels. value_at labels.1 >>= λ value. stamp_at value.1 >>= λ stamp.
+exemplar_behind inner = braced_at inner >>= λ labels. value_at labels.1 >>= λ value. stamp_at value.1 >>= λ stamp.
     when_true (bytes_eq stamp.1 []) (record { labels = labels.0; value = value.0; stamp = stamp.0 })
 
 -- this was read of the exemplar that was found

@@ -4,7 +4,7 @@ ghost use Rattle.page_model.specs.OpenReading.{exemplar_of};
 ghost use Rattle.page_model.specs.declared.format.Format.TheVariants.{OpenMetrics};
 ghost use Rattle.openmetrics_grammar.specs.Samples.{IsExemplarIn, IsMaybeExemplarIn, exemplar_behind};
 
-use crate::labels::list_at;
+use crate::labels::braced_at;
 use crate::numbers::{are_in_range, stamp_at, value_at};
 use exact_decimal::Number;
 use label_sets::{Label, Memory};
@@ -20,13 +20,13 @@ pub(crate) struct ExemplarRead {
     pub in_range: bool,
 }
 
-/// The exemplar behind its mark, where it is all that is left of a line.
-fn exemplar_behind(alloc: Global, body: &[u8]) -> Result<Option<ExemplarRead>, Memory>
-    requires { IsUtf8 body.now }
-    ensures { IfOk result (λ read. MatchOption read (exemplar_behind body.now ≡ None) (IsExemplarIn (exemplar_behind body.now))) }
+/// The exemplar behind its mark and the opening brace of its labels, where it is all that is left of a line.
+fn exemplar_behind(alloc: Global, inner: &[u8]) -> Result<Option<ExemplarRead>, Memory>
+    requires { IsUtf8 inner.now }
+    ensures { IfOk result (λ read. MatchOption read (exemplar_behind inner.now ≡ None) (IsExemplarIn (exemplar_behind inner.now))) }
 {
     let mut labels = Vec::new(alloc);
-    let Some(rest) = list_at(alloc, body, &mut labels)? else {
+    let Some(rest) = braced_at(alloc, inner, &mut labels)? else {
         return Ok(None);
     };
     let Some(value) = value_at(rest) else {
@@ -58,10 +58,10 @@ pub(crate) fn exemplar_of(
     if bytes.is_empty() {
         return Ok(Some(None));
     }
-    let Some(body) = behind_text(" # ", bytes) else {
+    let Some(inner) = behind_text(" # {", bytes) else {
         return Ok(None);
     };
-    match exemplar_behind(alloc, body)? {
+    match exemplar_behind(alloc, inner)? {
         Some(exemplar) => Ok(Some(Some(exemplar))),
         None => Ok(None),
     }

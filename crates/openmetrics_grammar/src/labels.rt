@@ -1,7 +1,7 @@
 //! Label lists (OpenMetrics 1.0, "ABNF": labels).
 ghost use Rattle.std.specs.Prelude.{◌≡◌, ◌++◌, ◌∷◌, [], option_map, IfOk, IfSome, IsUtf8, MatchOption, None};
 ghost use Rattle.std.specs.Option.{option_copied};
-ghost use Rattle.page_model.specs.OpenReading.{label_at, more_labels_at, list_at, optional_list_at};
+ghost use Rattle.page_model.specs.OpenReading.{label_at, more_labels_at, optional_list_at};
 ghost use Rattle.line_scan.specs.LabelReading.{IsLabelFound};
 ghost use Rattle.openmetrics_grammar.specs.LabelLists.{IsTaken, IsBehindComma, braced_at};
 
@@ -91,7 +91,7 @@ impl LabelList for LaterLabels {
 }
 
 /// Adds the labels behind an opening brace, and answers what stands behind the closing one.
-fn braced_at<'a>(
+pub(crate) fn braced_at<'a>(
     alloc: Global,
     inner: &'a [u8],
     labels: &mut Vec<Label>,
@@ -110,24 +110,7 @@ fn braced_at<'a>(
     labels_at::<LaterLabels>(alloc, inner.len(), rest, labels)
 }
 
-/// Adds the labels of the list at the front, and answers what stands behind it.
-pub(crate) fn list_at<'a>(
-    alloc: Global,
-    bytes: &'a [u8],
-    labels: &mut Vec<Label>,
-) -> Result<Option<&'a [u8]>, Memory>
-    requires text { IsUtf8 bytes.now }
-    requires none { labels.old.items ≡ [] }
-    ensures labels { IfOk result (λ rest. option_map (λ cs. (labels.new.items, cs)) (option_copied rest) ≡ list_at bytes.now) }
-    ensures utf8 { IfOk result (λ rest. IfSome rest (λ behind. IsUtf8 behind.now)) }
-{
-    match behind(b'{', bytes) {
-        Some(inner) => braced_at(alloc, inner, labels),
-        None => Ok(None),
-    }
-}
-
-/// The same, where a list is there.
+/// The same of the list at the front, where one is there.
 pub(crate) fn optional_list_at<'a>(
     alloc: Global,
     bytes: &'a [u8],

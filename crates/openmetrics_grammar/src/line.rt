@@ -2,7 +2,7 @@
 ghost use Rattle.page_model.specs.declared.format.Format.TheVariants.{OpenMetrics};
 
 use crate::descriptors::descriptor_line;
-use crate::sample::sample_line;
+use crate::sample::{made_sample, sample_of};
 use label_sets::{Label, Memory};
 use line_scan::{LineRead, behind};
 use page_feeding::Grammar;
@@ -30,7 +30,10 @@ impl Grammar for OpenLines {
         }
         match behind(b'#', line) {
             Some(_) => descriptor_line(alloc, line),
-            None => sample_line(alloc, treatment, line, labels),
+            None => match sample_of(alloc, line, labels)? {
+                Some(read) => made_sample(alloc, treatment, read),
+                None => Ok(LineRead::Refused(Rule::Syntax)),
+            },
         }
     }
 }

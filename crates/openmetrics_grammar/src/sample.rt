@@ -17,7 +17,7 @@ use std::alloc::Global;
 
 /// A sample as it is written, its numbers read.
 #[derive(Drop)]
-struct SampleRead<'a> {
+pub(crate) struct SampleRead<'a> {
     name: &'a [u8],
     labels: Vec<Label>,
     value: Number,
@@ -38,7 +38,7 @@ fn line_in_range(value: &ValueAt<'_>, stamp: &StampAt<'_>, exemplar: &Option<Exe
 }
 
 /// The parts of a sample line.
-fn sample_of<'a>(
+pub(crate) fn sample_of<'a>(
     alloc: Global,
     bytes: &'a [u8],
     labels: &mut Vec<Label>,
@@ -98,7 +98,7 @@ fn made_exemplar(
 
 /// The item of a sample. It is refused where a number is out of range, else where the labels or those of the
 /// exemplar break a rule.
-fn made_sample(
+pub(crate) fn made_sample(
     alloc: Global,
     treatment: Treatment,
     read: SampleRead<'_>,
@@ -123,20 +123,4 @@ fn made_sample(
         stamp: read.stamp,
         exemplar,
     })))
-}
-
-/// A sample line.
-pub(crate) fn sample_line(
-    alloc: Global,
-    treatment: Treatment,
-    bytes: &[u8],
-    labels: &mut Vec<Label>,
-) -> Result<LineRead, Memory>
-    requires { IsUtf8 bytes.now }
-    ensures { IfOk result (Reads OpenMetrics treatment (sample_of bytes.now)) }
-{
-    match sample_of(alloc, bytes, labels)? {
-        Some(read) => made_sample(alloc, treatment, read),
-        None => Ok(LineRead::Refused(Rule::Syntax)),
-    }
 }

@@ -39,6 +39,16 @@ pub fn length(request: &Request) -> u64
 /// # Errors
 ///
 /// Want of memory: then `out` holds what it held.
+///
+/// # Example
+///
+/// ```rust
+/// let (resource, scopes) = (List::new(alloc), List::new(alloc));
+/// let mut out = Vec::new(alloc);
+/// write(&Request { resource, scopes }, &mut out)?;
+/// let text = r#"{"resourceMetrics":[{"resource":{"attributes":[]},"scopeMetrics":[]}]}"#;
+/// assert_eq!(rt; out.as_slice(), text.as_bytes());
+/// ```
 pub fn write(request: &Request, out: &mut Vec<u8>) -> Result<(), Memory>
     ensures ok { OnOk result (out.new.items ≡ out.old.items ++ request_text request.now) }
     ensures err { OnErr result (out.new.items ≡ out.old.items) }

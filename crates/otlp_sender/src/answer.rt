@@ -6,10 +6,7 @@ ghost use Rattle.otlp_sender.specs.Sending.{IsHeadTalk};
 
 use crate::posted::Try;
 use bridge_ports::Wire;
-use http_talk::{HeadSeen, status_of};
-
-/// The most bytes of a head.
-const MOST_HEAD: usize = 16_384;
+use http_talk::{HEAD_LIMIT, HeadSeen, status_of};
 
 /// What a settled head comes to.
 fn try_seen(what: HeadSeen) -> Try
@@ -27,7 +24,7 @@ pub(crate) fn read_answer<W: Wire>(wire: &mut W) -> Try
     requires { (W.state wire.old).stage ≡ stages.Connected }
     ensures { IsHeadTalk (W.state wire.old) (W.state wire.new) result }
 {
-    let mut buffer = [0u8; MOST_HEAD];
+    let mut buffer = [0u8; HEAD_LIMIT];
     let mut filled = 0usize;
     'reading: loop {
         let count = match wire.read(&mut buffer[filled..]) {

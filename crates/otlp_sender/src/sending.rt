@@ -7,10 +7,7 @@ ghost use Rattle.otlp_sender.specs.Sending.{BrokeOff, IsConnectedTalk, IsOneTry}
 
 use crate::answer::read_answer;
 use crate::posted::{Posted, Try};
-use bridge_ports::{Failed, Wire};
-
-/// A second, in nanoseconds.
-const SECOND: u64 = 1_000_000_000;
+use bridge_ports::{Failed, SECOND, Wire};
 
 /// Writes all of a text.
 fn send<W: Wire>(wire: &mut W, text: &[u8]) -> Result<(), Failed>
@@ -68,6 +65,15 @@ fn try_once<W: Wire>(wire: &mut W, front: &[u8], rest: &[u8], due: u64) -> (Try,
 
 /// Sends the text until no further try is due, or all tries were made; each begins at least a second after the one
 /// before it began. It takes no memory.
+///
+/// # Example
+///
+/// ```rust
+/// // The first try finds the status 503, the second no connection, and the third the status 200.
+/// wire.ready(alloc, 3, text.len() as u64)?;
+/// assert_eq!(rt; post(&mut wire, text, 3), Posted::Accepted(200));
+/// assert_eq!(rt; wire.finished(), 3);
+/// ```
 pub fn post<W: Wire>(wire: &mut W, text: &[u8], tries: u32) -> Posted
     requires ready { AllowsTalks tries (length text.now) (W.state wire.old) }
     requires few { (1 ≤ tries) × (tries ≤ 8) }

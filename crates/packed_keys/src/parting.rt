@@ -1,7 +1,6 @@
 //! Two lists of keys without those that stand in both at like places.
-ghost use Rattle.std.specs.Prelude.{◌≡◌, ◌≤◌, ◌<◌, ◌++◌, ◌∷◌, [], length, take, drop, IfOk, IfSome, OnOk, Some, List as Seq, slice_get};
-ghost use Rattle.label_sets.specs.declared.series_key.SeriesKey.{SeriesKey as Key};
-ghost use Rattle.packed_keys.specs.Partings.{IsParted, keys_behind};
+ghost use Rattle.std.specs.Prelude.{◌≡◌, ◌≤◌, ◌++◌, [], length, take, IfOk, OnOk};
+ghost use Rattle.packed_keys.specs.Partings.{IsParted, PartsOneMore, keys_behind, parted_to};
 
 use crate::key_row::{KeyRefs, near};
 use label_sets::{List, Memory, SeriesKey};
@@ -37,8 +36,8 @@ fn take_away(
 ) -> Result<usize, Memory>
     requires { next ≤ length keys.now }
     ensures next { IfOk result (λ place. place ≤ length keys.now) }
-    ensures parted { IfOk result (λ place. (asked : Seq Key) → IsParted asked (take next (keys_behind keys.now)) strays.old.items left.old.items
-        → IsParted (asked ++ key.now ∷ []) (take place (keys_behind keys.now)) strays.new.items left.new.items) }
+    ensures parted { IfOk result (λ place. PartsOneMore keys.now key.now
+        (parted_to next strays.old.items left.old.items) (parted_to place strays.new.items left.new.items)) }
 {
     let Some(at) = near(&KeyRefs { keys }, next, key) else {
         strays.push(key.copy()?)?;

@@ -192,6 +192,15 @@ impl SeriesPlaces {
     /// # Errors
     ///
     /// Want of memory.
+    ///
+    /// # Example
+    ///
+    /// ```rust
+    /// // `keys` are those of the counters `a` to `j`, `counter` is that of `f`, and `gauge` that of a gauge `b`.
+    /// let mut places = SeriesPlaces::of(alloc, keys);
+    /// assert_eq!(rt; places.find(alloc, &counter)?, Some(5));
+    /// assert_eq!(rt; places.find(alloc, &gauge)?, None);
+    /// ```
     pub fn find(&mut self, alloc: Global, key: &SeriesKey) -> Result<Option<usize>, Memory>
         ensures place { IfOk result (IsPlace self.old key.now) }
         ensures same { self.new ≡ self.old }

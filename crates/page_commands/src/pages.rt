@@ -10,7 +10,7 @@ ghost use Rattle.page_commands.specs.PageInputs.{IsFed, HasRoomFor, IsFedWhole, 
 ghost use Rattle.program_words.specs.StopInputs.{Leaves};
 ghost use Rattle.program_words.specs.StopAnswers.{StopsAs};
 
-use bridge_ports::{Failed, Source};
+use bridge_ports::{BLOCK_BYTES, Failed, Source};
 use openmetrics_grammar::OpenLines;
 use page_feeding::{Grammar, PageReader};
 use page_model::{Format, Page, PageCounts, PageFault, Rule, Treatment};
@@ -23,9 +23,6 @@ const MOST_PAGE_BYTES: usize = 1 << 26;
 
 /// The most samples of a page.
 const MOST_SAMPLES: u32 = 200_000;
-
-/// The most bytes that one read takes.
-const BLOCK_BYTES: usize = 1 << 16;
 
 /// A page that is fed while it is read.
 pub(crate) enum FedPage<G: Grammar> {

@@ -21,6 +21,16 @@ use std::marker::{Model, PhantomData};
 /// A reader of one page in the format of a grammar: it is fed the bytes of the page in pieces of
 /// any size, and at the end gives the page, or the first fault: the least line that breaks a rule, with the
 /// least rule that it breaks.
+///
+/// # Example
+///
+/// ```rust
+/// let mut reader = PageReader::<TextLines>::new(alloc, Treatment::Scraped, 200_000)?;
+/// reader.feed(b"# TYPE x counter\ny")?;
+/// let fault = PageFault::Refused { line: 3, rule: Rule::Split };
+/// assert_eq!(rt; reader.feed(b" 1\nx 2\n"), Err(fault));
+/// assert_eq!(rt; reader.finish().err(), Some(fault));
+/// ```
 #[derive(Drop)]
 pub struct PageReader<G: Grammar> {
     alloc: Global,

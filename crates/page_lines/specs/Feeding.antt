@@ -1,6 +1,6 @@
 -- A reader of lines, and which bytes it was fed.
 -- The bridge's own.
-use Rattle.std.specs.Prelude.{◌≡◌, ◌≢◌, ℕ, ◌-◌, ◌+◌, ◌^◌, ◌<◌, ◌≤◌, List, [], ◌∷◌, ◌++◌, ◌↔◌, true, length, map, take, slice_get, IsSomeAnd}
+use Rattle.std.specs.Prelude.{◌≡◌, ◌≢◌, ℕ, ◌-◌, ◌+◌, ◌^◌, ◌<◌, ◌≤◌, List, [], ◌∷◌, ◌++◌, ◌↔◌, true, length, map, take, slice_get, Some, IsSomeAnd}
 use Rattle.page_lines.specs.declared.Place.{Place}
 use Rattle.page_lines.specs.declared.Place.TheVariants.{Within, Behind, Passing}
 use Rattle.page_lines.specs.declared.Last.{Last}
@@ -53,6 +53,14 @@ pub record Stands (fed : List ℕ) (at : Feeding) : Type 0 where
   pub within : at.place ≡ Within → IsWithin fed at
   pub behind : at.place ≡ Behind → IsBehind fed at
   pub passing : at.place ≡ Passing → IsPassing fed at
+
+-- the line of the reader's number is the one that the reader has, however the page goes on behind these bytes
+abbrev pub HasLine : List ℕ → Feeding → Type 0
+HasLine fed at = (rest : List ℕ) → slice_get (lines_of (fed ++ rest)) (at.number - 1) ≡ Some at.line
+
+-- the line of the reader's number is too long, and the reader has its front, however the page goes on behind these bytes
+abbrev pub HasLongLine : List ℕ → Feeding → Type 0
+HasLongLine fed at = (rest : List ℕ) → IsSomeAnd (slice_get (lines_of (fed ++ rest)) (at.number - 1)) (λ line. (at.most < length line) × (take at.most line ≡ at.line))
 
 -- what a step tells, with the line that the reader then has
 abbrev pub told_by : Step → List ℕ → List Told

@@ -1,7 +1,7 @@
 //! The lines of a page whose bytes come in pieces of any size.
 #![tactic(auto)]
 
-ghost use Rattle.std.specs.Prelude.{◌≡◌, ◌≢◌, ℕ, ◌+◌, ◌-◌, ◌^◌, ◌<◌, ◌≤◌, ◌↔◌, IsTrue, true, Some, IfOk, IfSome, IfNone, IsSomeAnd, List, [], ◌∷◌, ◌++◌, length, map, take, slice_get};
+ghost use Rattle.std.specs.Prelude.{◌≡◌, ◌≢◌, ℕ, ◌+◌, ◌-◌, ◌^◌, ◌<◌, ◌≤◌, ◌↔◌, IsTrue, true, IfOk, IfSome, IfNone, List, [], ◌∷◌, ◌++◌, length, map, take};
 ghost use Rattle.page_lines.specs.Lines.{Plain};
 
 pub mod line_laws;
@@ -74,9 +74,8 @@ impl Model for Lines {
 impl Lines {
     ghost use Rattle.page_lines.specs.declared.Step.TheVariants.{Line, More, TooLong};
     ghost use Rattle.page_lines.specs.declared.Place.TheVariants.{Within};
-    ghost use Rattle.page_lines.specs.Lines.{lines_of};
     ghost use Rattle.page_lines.specs.Told.{told_of};
-    ghost use Rattle.page_lines.specs.Feeding.{Stands, told_by, IsStep, IsEnd, Reaches};
+    ghost use Rattle.page_lines.specs.Feeding.{Stands, HasLine, HasLongLine, told_by, IsStep, IsEnd, Reaches};
 
     /// A reader that was fed nothing, of lines of at most `most` bytes each. It takes the memory of
     /// one line here, and no later call takes memory.
@@ -125,6 +124,18 @@ impl Lines {
 
     /// Goes on with the page up to the end of the next line, or to the end of the piece. `taken` is
     /// how much of the piece was used; the rest is to be fed again.
+    ///
+    /// # Example
+    ///
+    /// ```rust
+    /// let mut lines = Lines::new(alloc, 4)?;
+    /// let mut taken = 0;
+    /// assert_eq!(rt; lines.feed(b"a\r\nbc", &mut taken), Step::Line);
+    /// assert_eq!(rt; (taken, lines.number(), lines.line()), (3, 1, b"a\r".as_slice()));
+    /// assert_eq!(rt; lines.feed(b"bc", &mut taken), Step::More);
+    /// assert_eq!(rt; lines.finish(), Last::Open);
+    /// assert_eq!(rt; (lines.number(), lines.line()), (2, b"bc".as_slice()));
+    /// ```
     pub fn feed(&mut self, piece: &[u8], taken: &mut u32) -> Step
         requires { self.old.fed + length piece.now < 2 ^ 32 - 1 }
         ensures most { self.new.most ≡ self.old.most }
@@ -146,13 +157,10 @@ impl Lines {
             → self.new.number ≡ length (told_of self.old.most (fed ++ take taken.new piece.now)) }
 
         // In terms of the page alone, however it goes on.
-        ensures line { result ≡ Line → (fed : List ℕ) → Stands fed self.old → (rest : List ℕ)
-            → slice_get (lines_of (fed ++ take taken.new piece.now ++ rest)) (self.new.number - 1)
-            ≡ Some self.new.line }
+        ensures line { result ≡ Line → (fed : List ℕ) → Stands fed self.old
+            → HasLine (fed ++ take taken.new piece.now) self.new }
         ensures too_long { result ≡ TooLong → (fed : List ℕ) → Stands fed self.old
-            → (rest : List ℕ) → IsSomeAnd
-            (slice_get (lines_of (fed ++ take taken.new piece.now ++ rest)) (self.new.number - 1))
-            (λ line. (self.new.most < length line) × (take self.new.most line ≡ self.new.line)) }
+            → HasLongLine (fed ++ take taken.new piece.now) self.new }
     {
         match self.reach(piece) {
             None => {

@@ -119,6 +119,15 @@ fn suffix_named(bytes: &[u8]) -> Option<Suffix>
 }
 
 /// The suffix that a sample's name has behind its family's.
+///
+/// # Example
+///
+/// ```rust
+/// let family = Name::from_str(alloc, "h")?;
+/// let bucket = Name::from_str(alloc, "h_bucket")?;
+/// assert_eq!(rt; sample_suffix(&family, &bucket), Some(Suffix::Bucket));
+/// assert_eq!(rt; sample_suffix(&family, &family), Some(Suffix::Own));
+/// ```
 pub fn sample_suffix(family: &Name, name: &Name) -> Option<Suffix>
     ensures found { IfSome result (λ suffix. name.now ≡ family.now ++ suffix_bytes suffix) }
     ensures only { (suffix : AnySuffix) → name.now ≡ family.now ++ suffix_bytes suffix → result ≡ Some suffix }

@@ -5,14 +5,9 @@ ghost use Rattle.page_server.specs.Serving.{status_of_request, Decides, IsAsked,
 
 use crate::status::ReplyStatus;
 use bridge_ports::{Conn, Failed};
+use http_talk::{FIELD_LIMIT, HEAD_LIMIT};
 use httparse::Status;
 use httparse::spans::{EMPTY_HEADER_SPAN, parse_request};
-
-/// The most bytes of a head.
-const MOST_HEAD: usize = 16_384;
-
-/// The most fields of a head.
-const MOST_FIELDS: usize = 64;
 
 /// Whether bytes are this word.
 fn is(bytes: &[u8], word: &[u8]) -> bool
@@ -39,14 +34,14 @@ fn decided(got: &[u8]) -> Option<ReplyStatus>
     requires { length got.now ≤ head_limit }
     ensures { Decides got.now result }
 {
-    let mut spans = [EMPTY_HEADER_SPAN; MOST_FIELDS];
+    let mut spans = [EMPTY_HEADER_SPAN; FIELD_LIMIT];
     match parse_request(got, &mut spans) {
         Ok(Status::Complete(head)) => Some(status_of_request(
             head.method.of(got),
             head.path.of(got),
         )),
         Ok(Status::Partial) => {
-            if got.len() == MOST_HEAD {
+            if got.len() == HEAD_LIMIT {
                 Some(ReplyStatus::BadRequest)
             } else {
                 None
@@ -65,7 +60,7 @@ pub fn asked_status<K: Conn>(conn: &mut K) -> Result<ReplyStatus, Failed>
     ensures asked { IfOk result (λ status. IsAsked (K.seen conn.old) (K.seen conn.new) status) }
     ensures unread { OnErr result (IsUnheard (K.seen conn.old) (K.seen conn.new)) }
 {
-    let mut head = [0u8; MOST_HEAD];
+    let mut head = [0u8; HEAD_LIMIT];
     let mut filled = 0usize;
     'reading: loop {
         match decided(&head[..filled]) {

@@ -40,6 +40,15 @@ fn reply_for<P: ShownPage>(
 /// # Errors
 ///
 /// A read of the request or a write of the reply failed, or memory was wanted for the page.
+///
+/// # Example
+///
+/// ```rust
+/// // `from` shows the page `# EOF`, and over `conn` comes `GET /federate HTTP/1.1\r\nHost: a\r\n\r\n`.
+/// assert_eq!(rt; serve_one(alloc, &from, &mut conn), Ok(ReplyStatus::Page));
+/// assert!(rt; conn.held().starts_with(b"HTTP/1.1 200 OK\r\n"));
+/// assert!(rt; conn.held().ends_with(b"Content-Length: 6\r\nConnection: close\r\n\r\n# EOF\n"));
+/// ```
 pub fn serve_one<P: ShownPage, K: Conn>(
     alloc: Global,
     from: &P,

@@ -3,14 +3,4 @@
 #![tactic(auto)]
 
 #[cfg(test)]
-mod family_rules_calls;
-#[cfg(test)]
-mod open_writing_calls;
-#[cfg(test)]
-mod openmetrics_grammar_calls;
-#[cfg(test)]
-mod pages;
-#[cfg(test)]
-mod sample_groups_calls;
-#[cfg(test)]
-mod text_grammar_calls;
+mod calls;

@@ -28,6 +28,14 @@ fn written(word: &[u8], most: u64) -> Option<u64>
 
 /// The number that a word writes in decimal digits without a sign or a leading zero, where it is at
 /// most `most`.
+///
+/// # Example
+///
+/// ```rust
+/// assert_eq!(rt; number(b"5", 5), Some(5));
+/// assert_eq!(rt; number(b"6", 5), None);
+/// assert_eq!(rt; number(b"05", 5), None);
+/// ```
 pub fn number(word: &[u8], most: u64) -> Option<u64>
     ensures found { IfSome result (λ n. (word.now ≡ decimal n) × (n ≤ most)) }
     ensures none { IfNone result ((n : ℕ) → n ≤ most → word.now ≢ decimal n) }

@@ -14,9 +14,9 @@ use Rattle.page_model.specs.declared.page.Reading.{Reading}
 use Rattle.page_model.specs.declared.page.Page.{Page}
 use Rattle.page_model.specs.Pages.{IsRightPage}
 use Rattle.page_model.specs.Presence.{keys_of}
-use Rattle.page_model.specs.Laws.{DistinctKeys}
+use Rattle.page_model.proofs.Laws.{right-distinct_keys}
 use Rattle.open_writing.specs.Forms.{IsFormedFamily, AreFormed}
-use Rattle.writing_laws.specs.WritingLaws.{ReadPagesAreFormed}
+use Rattle.writing_laws.proofs.Laws.{read_pages}
 use Rattle.otlp_tree.specs.declared.tree.ScopeMetrics.{ScopeMetrics}
 use Rattle.otlp_tree.specs.declared.tree.Metric.{Metric}
 use Rattle.bridge_ports.specs.Targets.{Scraped}
@@ -76,10 +76,10 @@ module _ (target : Scraped) (start : Reading → Option ℕ) (gone_start : Serie
   abbrev metrics : List Metric
   metrics = event_metrics start (map (marker_with gone_start now.moment) (keys_gone before now.page)) now.moment now.page
 
-  pub scrape_marks : ReadPagesAreFormed → IsDistinct key_eq (keys_of before) → IsRightPage now.page → MarksTheGone before now (request_of target start (map (marker_with gone_start now.moment) (keys_gone before now.page)) now.moment up now.page)
+  pub scrape_marks : IsDistinct key_eq (keys_of before) → IsRightPage now.page → MarksTheGone before now (request_of target start (map (marker_with gone_start now.moment) (keys_gone before now.page)) now.moment up now.page)
   unfolding request_of
-  scrape_marks read once right =
-      let formed : AreFormed right.0.format right.0.treatment now.page.families = read right.0 now.page right.1 in
+  scrape_marks once right =
+      let formed : AreFormed right.0.format right.0.treatment now.page.families = read_pages right.0 now.page right.1 in
       let each : AllByRecursion (IsFormedFamily right.0.format right.0.treatment) now.page.families = recursion_from_All (IsFormedFamily right.0.format right.0.treatment) now.page.families formed.each in
       let apart : IsDistinct is_same_metric (page_metrics start now.moment now.page) = metrics_apart right.0.format right.0.treatment start now.moment now.page.families each formed.names in
       let valued : AllByRecursion IsValued (page_metrics start now.moment now.page) = all_are_valued right.0.format right.0.treatment start now.moment now.page.families each in
@@ -103,9 +103,9 @@ module _ (target : Scraped) (start : Reading → Option ℕ) (gone_start : Serie
 
 -- ---- events
 
-pub events_mark_the_gone : ReadPagesAreFormed → DistinctKeys → EventsMarkTheGone
+pub events_mark_the_gone : EventsMarkTheGone
 unfolding request_after scrape_after
-events_mark_the_gone read distinct target t earlier e right_before right_now =
+events_mark_the_gone target t earlier e right_before right_now =
     let past : List Scrape = scrapes_of earlier in
     let now : Scrape = scrape_after past e in
-    scrape_marks target (reading_start t past now.moment) (start_there t past) (last_page past) now (up_of e.outcome) read (distinct (last_page past) right_before) right_now
+    scrape_marks target (reading_start t past now.moment) (start_there t past) (last_page past) now (up_of e.outcome) (right-distinct_keys (last_page past) right_before) right_now

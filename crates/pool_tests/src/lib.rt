@@ -2,12 +2,4 @@
 #![tactic(auto)]
 
 #[cfg(test)]
-mod door_calls;
-#[cfg(test)]
-mod gated_wire;
-#[cfg(test)]
-mod page_calls;
-#[cfg(test)]
-mod run_calls;
-#[cfg(test)]
-mod tracks;
+mod calls;

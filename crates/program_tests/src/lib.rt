@@ -3,18 +3,4 @@
 #![tactic(auto)]
 
 #[cfg(test)]
-mod bare_runs;
-#[cfg(test)]
-mod doors;
-#[cfg(test)]
-mod gated_world;
-#[cfg(test)]
-mod inputs;
-#[cfg(test)]
-mod loads;
-#[cfg(test)]
-mod nearest_words;
-#[cfg(test)]
-mod overlap;
-#[cfg(test)]
-mod shelves;
+mod calls;

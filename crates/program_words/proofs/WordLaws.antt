@@ -11,7 +11,8 @@ use Rattle.page_model.specs.declared.format.Format.{Format}
 use Rattle.plain_words.specs.Places.{IsHostAndPort}
 use Rattle.replay_script.specs.ScriptParts.{format_word}
 use Rattle.load_pages.specs.GeneratedScripts.{IsLoad, most_load_number}
-use Rattle.program_words.specs.Limits.{most_host, most_job, most_nanos, most_scrapers}
+use Rattle.bridge_ports.specs.Targets.{most_job_bytes}
+use Rattle.program_words.specs.Limits.{most_instance_host, most_nanos, most_scrapers}
 use Rattle.program_words.specs.CommandWords.{IsCommand, IsInLimits, FitNoForm, SaysScrapers, place_target, words_of}
 use Rattle.program_words.specs.declared.words.Command.{Command}
 use Rattle.program_words.specs.declared.words.Command.TheVariants.{Help, Version, Check, Convert, Replay, Load}
@@ -57,14 +58,14 @@ pub not_zero : (n : ℕ) (none : Bool) → none ≡ eqb n 0 → none ≡ false �
 not_zero n none e no_zero = omega (arith, eqb-false n 0 (sym e ∙ no_zero))
 
 -- a place and a time in the bytes of a word are those of the word
-pub place_of : (instance bytes host : List ℕ) (port : ℕ) → bytes ≡ instance → IsHostAndPort most_host bytes host port → IsHostAndPort most_host instance host port
-place_of instance bytes host port same is = let At : List ℕ → Type 0 = λ bs. IsHostAndPort most_host bs host port in subst At same is
+pub place_of : (instance bytes host : List ℕ) (port : ℕ) → bytes ≡ instance → IsHostAndPort most_instance_host bytes host port → IsHostAndPort most_instance_host instance host port
+place_of instance bytes host port same is = let At : List ℕ → Type 0 = λ bs. IsHostAndPort most_instance_host bs host port in subst At same is
 
 pub time_of : (time bytes : List ℕ) (nanos : ℕ) → bytes ≡ time → (bytes ≡ decimal nanos) × (nanos ≤ most_nanos) → (time ≡ decimal nanos) × (nanos ≤ most_nanos)
 time_of time bytes nanos same is = (sym same ∙ is.0, is.1)
 
 -- the words of a conversion
-pub conversion_is : (format : Format) (job instance time host : List ℕ) (port nanos : ℕ) → 1 ≤ length job → length job ≤ most_job → IsHostAndPort most_host instance host port → time ≡ decimal nanos → nanos ≤ most_nanos
+pub conversion_is : (format : Format) (job instance time host : List ℕ) (port nanos : ℕ) → 1 ≤ length job → length job ≤ most_job_bytes → IsHostAndPort most_instance_host instance host port → time ≡ decimal nanos → nanos ≤ most_nanos
     → IsCommand (codes "convert" ∷ format_word format ∷ job ∷ instance ∷ time ∷ []) (Convert format (place_target job instance host port) nanos)
 unfolding place_target
 conversion_is format job instance time host port nanos some short place e small = record {

@@ -1,13 +1,13 @@
 -- The words of the command line. The bridge's own.
 use Rattle.std.specs.Prelude.{◌≡◌, ℕ, ◌≤◌, Bool, true, false, List, [], ◌∷◌, ◌++◌, length, codes, Option, Some, None, ⊤}
 use Rattle.std.specs.Fmt.{decimal}
-use Rattle.bridge_ports.specs.Targets.{Scraped}
+use Rattle.bridge_ports.specs.Targets.{Scraped, most_job_bytes}
 use Rattle.plain_words.specs.Places.{IsHostAndPort}
 use Rattle.replay_script.specs.ScriptParts.{format_word}
 use Rattle.load_pages.specs.GeneratedScripts.{IsLoad}
 use Rattle.program_words.specs.declared.words.Command.{Command}
 use Rattle.program_words.specs.declared.words.Command.TheVariants.{Help, Version, Check, Convert, Replay, Load}
-use Rattle.program_words.specs.Limits.{most_page, most_script, most_nanos, most_job, most_host, most_scrapers}
+use Rattle.program_words.specs.Limits.{most_page, most_script, most_nanos, most_instance_host, most_scrapers}
 
 -- what is scraped of a host and a port: its metrics, whose times do not count
 unfoldable pub place_target : List ℕ → List ℕ → List ℕ → ℕ → Scraped
@@ -16,8 +16,8 @@ place_target job instance host port = record { job = job; instance = instance; a
 -- a job of 1 to 256 bytes, and an instance that is its host and port; its metrics are asked for, and their times do not count
 pub record IsTarget (t : Scraped) : Type 0 where
   pub some_job : 1 ≤ length t.job
-  pub short_job : length t.job ≤ most_job
-  pub place : IsHostAndPort most_host t.instance t.address.host t.address.port
+  pub short_job : length t.job ≤ most_job_bytes
+  pub place : IsHostAndPort most_instance_host t.instance t.address.host t.address.port
   pub path : t.address.path ≡ codes "/metrics"
   pub honor : t.honor ≡ false
 

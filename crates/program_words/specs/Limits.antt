@@ -21,13 +21,9 @@ most_samples = 200000
 abbrev pub most_nanos : ℕ
 most_nanos = 2 ^ 62
 
--- the most bytes of a job
-abbrev pub most_job : ℕ
-most_job = 256
-
--- the most bytes of a host
-abbrev pub most_host : ℕ
-most_host = 255
+-- the most bytes of the host of an instance
+abbrev pub most_instance_host : ℕ
+most_instance_host = 255
 
 -- the most scrapes of a target of a script
 abbrev pub most_rounds : ℕ

@@ -6,8 +6,5 @@ pub(crate) const MOST_SCRAPERS: u64 = 4;
 /// The latest time, in nanoseconds since the Unix epoch.
 pub(crate) const MOST_NANOS: u64 = 1 << 62;
 
-/// The most bytes of a job.
-pub(crate) const MOST_JOB_BYTES: usize = 256;
-
-/// The most bytes of a host.
-pub(crate) const MOST_HOST_BYTES: usize = 255;
+/// The most bytes of the host of an instance.
+pub(crate) const MOST_INSTANCE_HOST_BYTES: usize = 255;

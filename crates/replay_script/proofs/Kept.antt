@@ -6,7 +6,7 @@ use Rattle.std.proofs.lemmas.List.Sorted.{IsPermutation-reverse, list_any-IsPerm
 use Rattle.std.proofs.lemmas.Option.{none-some}
 use Rattle.std.proofs.Math.Bool.{and-false}
 use Rattle.plain_words.proofs.Laws.{in_range}
-use Rattle.bridge_ports.specs.Targets.{Scraped}
+use Rattle.bridge_ports.specs.Targets.{Scraped, have_same_names, most_targets}
 use Rattle.replay_script.specs.declared.header.Header.{Header}
 use Rattle.replay_script.specs.declared.header.HeaderLine.{HeaderLine}
 use Rattle.replay_script.specs.declared.header.HeaderLine.TheVariants.{Keep, Tries, Limit, MaxPage, Cut, Rounds}
@@ -16,7 +16,7 @@ use Rattle.replay_script.specs.declared.progress.Progress.{Progress}
 use Rattle.replay_script.specs.HeaderLines.{header_row, place_of, is_in_row}
 use Rattle.replay_script.specs.ScriptParts.{TargetLine, Part, opening, header, target, page, scrape, post}
 use Rattle.replay_script.specs.ScriptContents.{header_of, header_number, written_number, target_of, new_target, targets_of}
-use Rattle.replay_script.specs.ScriptRules.{may_stand_behind, is_next_line, has_rounds, is_last_whole, is_target_line, same_names, is_named_in, is_named_before, most_targets, AreInOrder}
+use Rattle.replay_script.specs.ScriptRules.{may_stand_behind, is_next_line, has_rounds, is_last_whole, is_target_line, has_namesake, is_named_before, AreInOrder}
 use Rattle.replay_script.specs.Progresses.{place_behind, with_header_number, target_read, targets_read, has_whole_target, Knows, IsClosed, TakesPart}
 use Rattle.replay_script.proofs.RightLaws.{in_row}
 
@@ -211,13 +211,13 @@ too_many_targets t old closed is many = refused (target t) old closed (λ earlie
     third_false (has_rounds earlier) _ _ _ _ (ap (λ n. nat_lt n most_targets) count ∙ le-ltb (length closed.finished.items) most_targets many))
 
 -- the names of the targets above
-named_known : (t : TargetLine) (earlier : List Part) (old closed : Progress) (named : Bool) → Knows earlier old → IsClosed old closed → is_named_in closed.finished.items (target_of t) ≡ named
+named_known : (t : TargetLine) (earlier : List Part) (old closed : Progress) (named : Bool) → Knows earlier old → IsClosed old closed → has_namesake closed.finished.items (target_of t) ≡ named
     → is_named_before t (targets_of earlier) ≡ named
 named_known t earlier old closed named k is found =
     ap (is_named_before t) (above_known earlier old closed k is)
-    ∙ sym (list_any-IsPermutation (λ (other : ScriptTarget). same_names (target_of t) other.target) closed.finished.items (reverse closed.finished.items) (IsPermutation-reverse closed.finished.items)) ∙ found
+    ∙ sym (list_any-IsPermutation (λ (other : ScriptTarget). have_same_names (target_of t) other.target) closed.finished.items (reverse closed.finished.items) (IsPermutation-reverse closed.finished.items)) ∙ found
 
-pub named_before : (t : TargetLine) (old closed : Progress) → IsClosed old closed → is_named_in closed.finished.items (target_of t) ≡ true → TakesPart (target t) old closed false
+pub named_before : (t : TargetLine) (old closed : Progress) → IsClosed old closed → has_namesake closed.finished.items (target_of t) ≡ true → TakesPart (target t) old closed false
 unfolding may_stand_behind
 named_before t old closed is found = refused (target t) old closed (λ earlier o k. fifth_false (has_rounds earlier) _ _ _ _ (ap not (named_known t earlier old closed true k is found)))
 
@@ -230,7 +230,7 @@ unfolding header_of
 target_header t earlier = refl
 
 pub target_taken : (t : TargetLine) (old closed new : Progress) → old.header.rounds ≢ 0 → has_whole_target old ≡ true → is_target_line t ≡ true → IsClosed old closed
-    → length closed.finished.items < most_targets → is_named_in closed.finished.items (target_of t) ≡ false → new.place ≡ 6 → new.header ≡ closed.header → new.target ≡ Some (target_of t)
+    → length closed.finished.items < most_targets → has_namesake closed.finished.items (target_of t) ≡ false → new.place ≡ 6 → new.header ≡ closed.header → new.target ≡ Some (target_of t)
     → new.scrapes.items ≡ closed.scrapes.items → new.posts.items ≡ closed.posts.items → new.finished.items ≡ closed.finished.items → TakesPart (target t) old new true
 unfolding may_stand_behind
 target_taken t old closed new some whole line is few other place same_header made same_scrapes same_posts same_finished earlier o k =

@@ -19,13 +19,13 @@ use Rattle.bridge_ports.specs.declared.talk.End.TheVariants.{ConnectFailed, Writ
 use Rattle.page_model.specs.declared.format.Format.{Format}
 use Rattle.replay_script.specs.declared.ending.Ending.{Ending}
 use Rattle.replay_script.specs.declared.ending.Ending.TheVariants.{ConnectFails, WriteFails, ReadFails, PeerEnds}
-use Rattle.bridge_ports.specs.Targets.{Scraped}
+use Rattle.bridge_ports.specs.Targets.{Scraped, have_same_names, most_targets}
 use Rattle.replay_script.specs.declared.header.HeaderLine.{HeaderLine}
 use Rattle.replay_script.specs.declared.header.HeaderLine.TheVariants.{Keep, Tries, Limit, MaxPage, Cut, Rounds}
 use Rattle.replay_script.specs.HeaderLines.{place_of, header_row, is_in_row}
 use Rattle.replay_script.specs.ScriptParts.{TargetLine, Part, opening, header, target, page, scrape, post}
 use Rattle.replay_script.specs.ScriptContents.{number_at, written_number, header_number, header_of, page_reply, raw_reply, target_of, new_target, with_scrape, with_post, targets_of, script_of}
-use Rattle.replay_script.specs.ScriptRules.{is_next_line, has_rounds, is_last_whole, is_target_line, is_record, fits_ending, has_target, has_room_for_post, same_names, is_named_before, most_targets, may_stand_behind, may_end, AreInOrder}
+use Rattle.replay_script.specs.ScriptRules.{is_next_line, has_rounds, is_last_whole, is_target_line, is_record, fits_ending, has_target, has_room_for_post, is_named_before, may_stand_behind, may_end, AreInOrder}
 use Rattle.replay_script.proofs.ScriptTargets.{script_target}
 use Rattle.replay_script.specs.RightScripts.{IsOver, IsRightReply, IsRightHeader, IsRightTarget, IsRightScript, ScriptsAreRight}
 
@@ -320,13 +320,13 @@ right_targets h (t ∷ ts) sound whole =
 abbrev target_in : ScriptTarget → Scraped
 target_in t = t.target
 
-names_flip : (a b : Scraped) → same_names a b ≡ same_names b a
+names_flip : (a b : Scraped) → have_same_names a b ≡ have_same_names b a
 names_flip a b = ap (λ x. x && bytes_eq a.instance b.instance) (bytes_eq-swap a.job b.job) ∙ ap (λ x. bytes_eq b.job a.job && x) (bytes_eq-swap a.instance b.instance)
 
 -- none of the targets has the new one's names
-none_named : (new : Scraped) (ts : List ScriptTarget) → list_any (λ (other : ScriptTarget). same_names new other.target) ts ≡ false → AllByRecursion (λ y. same_names new y ≡ false) (map target_in ts)
+none_named : (new : Scraped) (ts : List ScriptTarget) → list_any (λ (other : ScriptTarget). have_same_names new other.target) ts ≡ false → AllByRecursion (λ y. have_same_names new y ≡ false) (map target_in ts)
 none_named new [] e = tt
-none_named new (t ∷ ts) e = let both = or_parts (same_names new t.target) (list_any (λ (other : ScriptTarget). same_names new other.target) ts) e in (both.0, none_named new ts both.1)
+none_named new (t ∷ ts) e = let both = or_parts (have_same_names new t.target) (list_any (λ (other : ScriptTarget). have_same_names new other.target) ts) e in (both.0, none_named new ts both.1)
 
 scrape_names : (reply : MemoryReply) (ts : List ScriptTarget) → map target_in (with_scrape reply ts) ≡ map target_in ts
 scrape_names reply [] = refl
@@ -337,15 +337,15 @@ post_names reply [] = refl
 post_names reply (t ∷ ts) = refl
 
 -- no two targets have one job and one instance
-distinct_names : (parts : List Part) → AreInOrder parts → IsDistinct same_names (map target_in (targets_of parts))
+distinct_names : (parts : List Part) → AreInOrder parts → IsDistinct have_same_names (map target_in (targets_of parts))
 unfolding IsDistinct
 distinct_names [] o = tt
 distinct_names (opening ∷ earlier) o = distinct_names earlier o.1
 distinct_names (header line n ∷ earlier) o = distinct_names earlier o.1
 distinct_names (target t ∷ earlier) o = (none_named (target_of t) (targets_of earlier) (not-true _ (needs earlier t o.0).new), distinct_names earlier o.1)
-distinct_names (page at format body ∷ earlier) o = subst (IsDistinct same_names) (sym (scrape_names (page_reply at format body) (targets_of earlier))) (distinct_names earlier o.1)
-distinct_names (scrape at ending bytes ∷ earlier) o = subst (IsDistinct same_names) (sym (scrape_names (raw_reply at ending bytes) (targets_of earlier))) (distinct_names earlier o.1)
-distinct_names (post at ending bytes ∷ earlier) o = subst (IsDistinct same_names) (sym (post_names (raw_reply at ending bytes) (targets_of earlier))) (distinct_names earlier o.1)
+distinct_names (page at format body ∷ earlier) o = subst (IsDistinct have_same_names) (sym (scrape_names (page_reply at format body) (targets_of earlier))) (distinct_names earlier o.1)
+distinct_names (scrape at ending bytes ∷ earlier) o = subst (IsDistinct have_same_names) (sym (scrape_names (raw_reply at ending bytes) (targets_of earlier))) (distinct_names earlier o.1)
+distinct_names (post at ending bytes ∷ earlier) o = subst (IsDistinct have_same_names) (sym (post_names (raw_reply at ending bytes) (targets_of earlier))) (distinct_names earlier o.1)
 
 map_append : (xs ys : List ScriptTarget) → map target_in (xs ++ ys) ≡ map target_in xs ++ map target_in ys
 map_append [] ys = refl
@@ -368,13 +368,13 @@ unfolding header_of may_end
 right_of_parts parts o ends =
     let both = and_parts (has_target (targets_of parts)) (is_last_whole (header_number parts Rounds) (targets_of parts)) ends in
     let whole = all_whole (header_number parts Rounds) (targets_of parts) both.1 (closed_whole parts o) in
-    let names = IsDistinct-IsPermutation same_names names_flip (map target_in (targets_of parts)) (reverse (map target_in (targets_of parts))) (IsPermutation-reverse (map target_in (targets_of parts))) (distinct_names parts o) in
+    let names = IsDistinct-IsPermutation have_same_names names_flip (map target_in (targets_of parts)) (reverse (map target_in (targets_of parts))) (IsPermutation-reverse (map target_in (targets_of parts))) (distinct_names parts o) in
     record {
       header = header_right parts o ends;
       some_target = omega (arith, some_length (targets_of parts) both.0, length-reverse (targets_of parts));
       few_targets = omega (arith, few_targets parts o, length-reverse (targets_of parts));
       targets = all-reverse (IsRightTarget (header_of parts)) (targets_of parts) (right_targets (header_of parts) (targets_of parts) (sound_targets parts o) whole);
-      names = subst (IsDistinct same_names) (sym (map_reverse (targets_of parts))) names;
+      names = subst (IsDistinct have_same_names) (sym (map_reverse (targets_of parts))) names;
     }
 
 -- every script is right

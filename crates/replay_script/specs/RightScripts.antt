@@ -4,13 +4,12 @@ use Rattle.std.specs.Prelude.{◌≡◌, ◌≢◌, ◌⊎◌, ℕ, ◌*◌, ◌
 use Rattle.std.specs.List.{AllByRecursion, IsDistinct}
 use Rattle.std.specs.Int.{is_in_range}
 use Rattle.plain_words.specs.Places.{is_visible_word, is_port}
-use Rattle.bridge_ports.specs.Targets.{IsScraped}
+use Rattle.bridge_ports.specs.Targets.{IsScraped, have_same_names, most_targets}
 use Rattle.bridge_ports.specs.declared.talk.End.TheVariants.{ConnectFailed, WriteFailed, Left}
 use Rattle.bridge_ports.specs.declared.talk.MemoryReply.{MemoryReply}
 use Rattle.replay_script.specs.declared.header.Header.{Header}
 use Rattle.replay_script.specs.declared.script.ScriptTarget.{ScriptTarget}
 use Rattle.replay_script.specs.declared.script.Script.{Script}
-use Rattle.replay_script.specs.ScriptRules.{same_names, most_targets}
 use Rattle.replay_script.specs.Scripts.{IsScript}
 
 -- the numbers of a header are in their ranges
@@ -31,7 +30,7 @@ pub record IsRightReply (reply : MemoryReply) : Type 0 where
   pub over : IsOver reply
   pub silent : (reply.end ≡ ConnectFailed) ⊎ (reply.end ≡ WriteFailed) → reply.got ≡ []
 
--- a target of a script: what its type keeps, its words, one scrape for each round, no more posts than tries, and right replies to both
+-- a target of a script: what its type keeps, its words, one scrape for each round, no more posts than `rounds` times `tries`, and right replies to both
 pub record IsRightTarget (h : Header) (t : ScriptTarget) : Type 0 where
   pub scraped : IsScraped t.target
   pub job : IsTrue (is_visible_word 256 t.target.job)
@@ -49,7 +48,7 @@ pub record IsRightScript (s : Script) : Type 0 where
   pub some_target : 1 ≤ length s.targets
   pub few_targets : length s.targets ≤ most_targets
   pub targets : AllByRecursion (IsRightTarget s.header) s.targets
-  pub names : IsDistinct same_names (map (λ (t : ScriptTarget). t.target) s.targets)
+  pub names : IsDistinct have_same_names (map (λ (t : ScriptTarget). t.target) s.targets)
 
 -- every script is right
 abbrev pub ScriptsAreRight : Type 0

@@ -1,9 +1,9 @@
 -- Which part may stand behind which, and where a script may end.
 -- The bridge's own.
-use Rattle.std.specs.Prelude.{◌≡◌, ℕ, ◌^◌, ◌*◌, Bool, true, false, not, ◌&&◌, ◌==◌, List, [], ◌∷◌, length, bytes_eq, is_some, nat_lt, nat_eq, codes, ⊤}
+use Rattle.std.specs.Prelude.{◌≡◌, ℕ, ◌^◌, ◌*◌, Bool, true, false, not, ◌&&◌, ◌==◌, List, [], ◌∷◌, length, is_some, nat_lt, nat_eq, codes, ⊤}
 use Rattle.std.specs.List.{list_any, starts_with}
 use Rattle.plain_words.specs.Places.{is_visible_word, is_port}
-use Rattle.bridge_ports.specs.Targets.{Scraped}
+use Rattle.bridge_ports.specs.Targets.{Scraped, have_same_names, most_targets}
 use Rattle.replay_script.specs.declared.script.ScriptTarget.{ScriptTarget}
 use Rattle.replay_script.specs.declared.header.HeaderLine.{HeaderLine}
 use Rattle.replay_script.specs.declared.header.HeaderLine.TheVariants.{Tries, Rounds}
@@ -41,17 +41,13 @@ has_room_for_post most (last ∷ others) = nat_lt (length last.posts) most
 abbrev pub is_target_line : TargetLine → Bool
 is_target_line t = is_visible_word 256 t.job && is_visible_word 256 t.host && is_port t.port && is_visible_word 256 t.path && starts_with nat_eq t.path (codes "/")
 
--- two targets have one job and one instance
-abbrev pub same_names : Scraped → Scraped → Bool
-same_names a b = bytes_eq a.job b.job && bytes_eq a.instance b.instance
-
 -- some target has the job and the instance of this one
-abbrev pub is_named_in : List ScriptTarget → Scraped → Bool
-is_named_in targets t = list_any (λ (other : ScriptTarget). same_names t other.target) targets
+abbrev pub has_namesake : List ScriptTarget → Scraped → Bool
+has_namesake targets t = list_any (λ (other : ScriptTarget). have_same_names t other.target) targets
 
 -- some target has this job and this instance
 abbrev pub is_named_before : TargetLine → List ScriptTarget → Bool
-is_named_before t targets = is_named_in targets (target_of t)
+is_named_before t targets = has_namesake targets (target_of t)
 
 -- a record's time and length are in their ranges
 abbrev pub is_record : ℕ → List ℕ → Bool
@@ -68,10 +64,6 @@ fits_ending PeerEnds bytes = true
 abbrev pub has_target : List ScriptTarget → Bool
 has_target [] = false
 has_target (last ∷ others) = true
-
--- the most targets of a script
-abbrev pub most_targets : ℕ
-most_targets = 256
 
 -- the part may stand behind the earlier ones, of which the last comes first
 unfoldable pub may_stand_behind : List Part → Part → Bool

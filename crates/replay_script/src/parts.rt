@@ -6,11 +6,9 @@ ghost use Rattle.replay_script.specs.Progresses.{part_found_as, front_found_as};
 use crate::ending::Ending;
 use crate::header::HeaderLine;
 use crate::words::{Words, ending_named, format_named, header_line, split_words};
+use bridge_ports::MOST_HOST_BYTES;
 use page_model::Format;
 use plain_words::{cut_first, host_and_port, number};
-
-/// The most bytes of a host.
-const MOST_HOST_BYTES: usize = 256;
 
 /// The words of a target line.
 #[derive(Clone, Copy)]

@@ -7,8 +7,8 @@ use crate::header::{Header, HeaderLine};
 use crate::parts::{FoundPart, PageWords, ReplyWords, TargetWords};
 use crate::replies::{page_reply, raw_reply};
 use crate::script::{Script, ScriptTarget};
-use crate::targets::{is_named_in, is_target_line, target};
-use bridge_ports::{MemoryReply, Target};
+use crate::targets::{has_namesake, is_target_line, target};
+use bridge_ports::{MOST_TARGETS, MemoryReply, Target};
 use label_sets::List;
 use std::alloc::{AllocError, Global};
 use std::mem;
@@ -18,9 +18,6 @@ const BEFORE_ALL: u32 = 7;
 
 /// The place behind the header.
 const BEHIND_HEADER: u32 = 6;
-
-/// The most targets of a script.
-const MOST_TARGETS: usize = 256;
 
 /// The most bytes of a record.
 const MOST_BODY_BYTES: usize = 0xFFFF_FFFF;
@@ -128,7 +125,7 @@ impl Progress {
             return Ok(false);
         }
         let target = target(alloc, words)?;
-        if is_named_in(self.finished.as_slice(), &target) {
+        if has_namesake(self.finished.as_slice(), &target) {
             return Ok(false);
         }
         self.target = Some(target);

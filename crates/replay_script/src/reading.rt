@@ -15,6 +15,15 @@ use std::alloc::Global;
 /// # Errors
 ///
 /// [`ScriptFault::Line`] with the line of the first head line that breaks a rule; and want of memory.
+///
+/// # Example
+///
+/// ```rust
+/// let raw = b"bridge-script 1\ntries 1\nrounds 1\ntarget j h:1 /m\nscrape 7 read 2\nHT\npost 8 connect 0\n\n";
+/// assert_eq!(rt; read(alloc, raw)?.targets.len(), 1);
+/// let fault = read(alloc, b"bridge-script 1\nrounds 1\ntarget j h:1 /m\npage 1 text 2\nx\n").err();
+/// assert_eq!(rt; fault, Some(ScriptFault::Line(4)));
+/// ```
 pub fn read(alloc: Global, bytes: &[u8]) -> Result<Script, ScriptFault>
     ensures script { IfOk result (IsScript bytes.now) }
     ensures fault { IfErr result (IsFaultOf bytes.now) }

@@ -26,19 +26,12 @@ pub(crate) fn is_target_line(words: &TargetWords<'_>) -> bool
         && words.path.starts_with(b"/")
 }
 
-/// Whether two targets have one job and one instance.
-fn same_names(a: &Target, b: &Target) -> bool
-    ensures { result ≡ rules.same_names a.now b.now }
-{
-    a.job().as_bytes() == b.job().as_bytes() && a.instance().as_bytes() == b.instance().as_bytes()
-}
-
 /// Whether one of these targets has the job and the instance of this one.
-pub(crate) fn is_named_in(targets: &[ScriptTarget], target: &Target) -> bool
-    ensures { result ≡ rules.is_named_in targets.now target.now }
+pub(crate) fn has_namesake(targets: &[ScriptTarget], target: &Target) -> bool
+    ensures { result ≡ rules.has_namesake targets.now target.now }
 {
     for other in targets {
-        if same_names(target, &other.target) {
+        if target.has_names_of(&other.target) {
             return true;
         }
     }

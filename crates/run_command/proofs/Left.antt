@@ -9,7 +9,7 @@ use Rattle.config_file.specs.declared.file_stop.FileStop.TheVariants.{Memory}
 use Rattle.config_file.specs.ConfigFiles.{HoldsConfig, IsFileAsked, LeavesFile, StopsReadingFile, left_of, most_config}
 use Rattle.run_report.specs.declared.target_end.TargetEnd.{TargetEnd}
 use Rattle.world_run.specs.Outside.{Outside}
-use Rattle.world_run.specs.Serving.{Coming, IsServedRun, IsUnserved, ChangesDoorsAlone, with_world}
+use Rattle.world_run.specs.Serving.{Coming, IsServedRun, IsUnserved, EndsServedRun, BeginsNoServedRun, ChangesDoorsAlone, with_world}
 use Rattle.world_run.proofs.Laws.{IsBeside, with_own}
 use Rattle.run_command.specs.RunReports.{MayHaveRun, LeavesPairs}
 
@@ -30,28 +30,29 @@ not_begun_behind : (path : List ℕ) (config : Config) (coming now_coming : Comi
 not_begun_behind path config coming now_coming before between after read run =
     subst (λ (b : Outside). IsUnserved config coming b after) (with_own between before read.beside) (subst (λ (k : Coming). IsUnserved config k between after) read.same_coming run)
 
-wanting : {T : Type 0} (r : Result T FileStop) (path : List ℕ) (coming : Coming) (before after : Outside) → IsErrAnd r (λ s. s ≡ Memory) → MayHaveRun path coming before after → IfErr r (LeavesPairs path coming before after)
-wanting (Ok x) path coming before after is may = absurd is
-wanting (Err s) path coming before after is may = let Left : FileStop → Type 0 = LeavesPairs path coming before after in subst Left (sym is) (inr may)
+wanting : {T W : Type 0} (r : Result T FileStop) (path : List ℕ) (coming : W → Coming) (seen : W → Outside) (before after : W) → IsErrAnd r (λ s. s ≡ Memory) → MayHaveRun path (coming before) (seen before) (seen after)
+    → IfErr r (LeavesPairs path coming seen before after)
+wanting (Ok x) path coming seen before after is may = absurd is
+wanting (Err s) path coming seen before after is may = let Left : FileStop → Type 0 = LeavesPairs path coming seen before after in subst Left (sym is) (inr may)
 
 -- memory was wanted for the report of a run that is over
-pub report_wanting : {T : Type 0} (r : Result T FileStop) (path : List ℕ) (config : Config) (coming now_coming : Coming) (before between after : Outside) (ends : List TargetEnd) (served : ℕ) → IsErrAnd r (λ s. s ≡ Memory) → IsRead path config coming now_coming before between
-    → IsServedRun config now_coming between after ends served → IfErr r (LeavesPairs path coming before after)
-report_wanting r path config coming now_coming before between after ends served is read run = wanting r path coming before after is (record {
+pub report_wanting : {T W : Type 0} (r : Result T FileStop) (path : List ℕ) (config : Config) (coming : W → Coming) (seen : W → Outside) (before between after : W) (ends : List TargetEnd) (served : ℕ) → IsErrAnd r (λ s. s ≡ Memory)
+    → IsRead path config (coming before) (coming between) (seen before) (seen between) → EndsServedRun config coming seen between after ends served → IfErr r (LeavesPairs path coming seen before after)
+report_wanting r path config coming seen before between after ends served is read run = wanting r path coming seen before after is (record {
   config = config;
-  asked = between.world;
+  asked = (seen between).world;
   read = record { config_is = read.holds; file = read.asked };
-  left = inr (ends, served, run_behind path config coming now_coming before between after ends served read run);
+  left = inr (ends, served, run_behind path config (coming before) (coming between) (seen before) (seen between) (seen after) ends served read run);
 })
 
 -- memory was wanted for a run that was not begun
-pub run_wanting : {T : Type 0} (r : Result T FileStop) (path : List ℕ) (config : Config) (coming now_coming : Coming) (before between after : Outside) → IsErrAnd r (λ s. s ≡ Memory) → IsRead path config coming now_coming before between
-    → IsUnserved config now_coming between after → IfErr r (LeavesPairs path coming before after)
-run_wanting r path config coming now_coming before between after is read run = wanting r path coming before after is (record {
+pub run_wanting : {T W : Type 0} (r : Result T FileStop) (path : List ℕ) (config : Config) (coming : W → Coming) (seen : W → Outside) (before between after : W) → IsErrAnd r (λ s. s ≡ Memory)
+    → IsRead path config (coming before) (coming between) (seen before) (seen between) → BeginsNoServedRun config coming seen between after → IfErr r (LeavesPairs path coming seen before after)
+run_wanting r path config coming seen before between after is read run = wanting r path coming seen before after is (record {
   config = config;
-  asked = between.world;
+  asked = (seen between).world;
   read = record { config_is = read.holds; file = read.asked };
-  left = inl (not_begun_behind path config coming now_coming before between after read run);
+  left = inl (not_begun_behind path config (coming before) (coming between) (seen before) (seen between) (seen after) read run);
 })
 
 -- ---- the file

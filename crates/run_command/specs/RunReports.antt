@@ -27,6 +27,10 @@ pub record IsReportOfRun (path : List ℕ) (coming : Coming) (before after : Out
   pub says : text ≡ report_text ends ++ served_line served
   pub halts : halted ≡ some_halted ends
 
+-- a run of the configuration in the file of a path is reported so, of a world as it is seen before and after it
+abbrev pub ReportsRun : {W : Type 0} → List ℕ → (W → Coming) → (W → Outside) → W → W → List ℕ → Bool → Type 0
+ReportsRun path coming seen before after text halted = IsReportOfRun path (coming before) (seen before) (seen after) text halted
+
 -- the pairs of wires are where they were, no address was told, no door was asked for, and none came back
 pub record KeepsPairs (before after : Outside) : Type 0 where
   pub homes : (n : ℕ) → after.home n ≡ before.home n
@@ -42,12 +46,12 @@ pub record MayHaveRun (path : List ℕ) (coming : Coming) (before after : Outsid
   pub read : IsConfigRead path before config asked
   pub left : IsUnserved config coming (with_world asked before) after ⊎ ((ends : List TargetEnd) × (served : ℕ) × IsServedRun config coming (with_world asked before) after ends served)
 
--- how a run that gives no report leaves the pairs of wires and the door: as they were, but where memory was wanted
-abbrev pub LeavesPairs : List ℕ → Coming → Outside → Outside → FileStop → Type 0
-LeavesPairs path coming before after TooLong = KeepsPairs before after
-LeavesPairs path coming before after Read = KeepsPairs before after
-LeavesPairs path coming before after (Fault fault) = KeepsPairs before after
-LeavesPairs path coming before after Memory = KeepsPairs before after ⊎ MayHaveRun path coming before after
+-- how a run that gives no report leaves the pairs of wires and the door, of a world as it is seen before and after it: as they were, but where memory was wanted
+abbrev pub LeavesPairs : {W : Type 0} → List ℕ → (W → Coming) → (W → Outside) → W → W → FileStop → Type 0
+LeavesPairs path coming seen before after TooLong = KeepsPairs (seen before) (seen after)
+LeavesPairs path coming seen before after Read = KeepsPairs (seen before) (seen after)
+LeavesPairs path coming seen before after (Fault fault) = KeepsPairs (seen before) (seen after)
+LeavesPairs path coming seen before after Memory = KeepsPairs (seen before) (seen after) ⊎ MayHaveRun path (coming before) (seen before) (seen after)
 
 -- a world was asked for the file of this path, and behind that at most what is told of doors changed
 pub record IsRunAsked (path : List ℕ) (old new : WorldState) : Type 0 where

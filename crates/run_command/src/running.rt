@@ -2,8 +2,8 @@
 ghost use Rattle.std.specs.Prelude.{◌≡◌, None, IfOk, IfErr, OnErr};
 ghost use Rattle.bridge_config.specs.declared.config.Config.{Config as AnyConfig};
 ghost use Rattle.config_file.specs.ConfigFiles.{StopsAtFile, LeavesFile};
-ghost use Rattle.world_run.specs.Outside.{seen_home, outside_of, AreUnused};
-ghost use Rattle.run_command.specs.RunReports.{IsReportOfRun, LeavesPairs, IsRunAsked, MayKeepComing};
+ghost use Rattle.world_run.specs.Outside.{seen_home, seen_world, AreUnused};
+ghost use Rattle.run_command.specs.RunReports.{ReportsRun, LeavesPairs, IsRunAsked, MayKeepComing};
 
 use crate::report::{Report, report_of};
 use bridge_ports::{Conn, Door, World};
@@ -21,6 +21,16 @@ use world_run::run_config;
 ///
 /// What [`config_in`] answers where the file is no configuration; and want of memory. Where memory is wanted for
 /// the report alone the run is over, and its wires and its door came home.
+///
+/// # Example
+///
+/// ```rust
+/// // Two rounds of two targets that show a page, whose bodies are taken, and a door at which one connection comes.
+/// let path = Text::from_str(alloc, "bridge.toml")?;
+/// let report = run(&rt, alloc, path, &mut world)?;
+/// let last = "points 12 markers 0 accepted 4 refused 0 givenup 0 halted 0\nserved 1\n";
+/// assert!(rt; !report.halted && report.text.as_slice().ends_with(last.as_bytes()));
+/// ```
 pub fn run<R: Threads + Wait + Sync, K: Conn, E: Door<Conn = K>, W: World<Door = E>>(
     rt: &R,
     alloc: Global,
@@ -30,14 +40,11 @@ pub fn run<R: Threads + Wait + Sync, K: Conn, E: Door<Conn = K>, W: World<Door =
     requires asked { (W.world world.old).asked ≡ None }
     requires no_door { (W.world world.old).door_at ≡ None }
     requires unused { AreUnused (seen_home W.Wire.state (W.home world.old)) }
-    ensures report { IfOk result (λ report. IsReportOfRun path (W.coming world.old)
-        (outside_of W.Wire.state (W.world world.old) (W.files world.old) (W.home world.old) (W.given world.old))
-        (outside_of W.Wire.state (W.world world.new) (W.files world.new) (W.home world.new) (W.given world.new))
-        report.text.items report.halted) }
+    ensures report { IfOk result (λ report. ReportsRun path W.coming
+        (seen_world W.Wire.state W.world W.files W.home W.given) world.old world.new report.text.items report.halted) }
     ensures stop { IfErr result (StopsAtFile (W.files world.old path)) }
-    ensures pairs { IfErr result (LeavesPairs path (W.coming world.old)
-        (outside_of W.Wire.state (W.world world.old) (W.files world.old) (W.home world.old) (W.given world.old))
-        (outside_of W.Wire.state (W.world world.new) (W.files world.new) (W.home world.new) (W.given world.new))) }
+    ensures pairs { IfErr result (LeavesPairs path W.coming
+        (seen_world W.Wire.state W.world W.files W.home W.given) world.old world.new) }
     ensures leaves { LeavesFile (W.files world.old path) (W.world world.old) (W.world world.new) result }
     ensures asked { IsRunAsked path (W.world world.old) (W.world world.new) }
     ensures files { W.files world.new ≡ W.files world.old }

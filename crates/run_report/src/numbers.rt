@@ -28,7 +28,8 @@ fn of_count(count: u64) -> u128
 }
 
 impl Numbers {
-    const NONE: Numbers = Numbers {
+    /// The sums over no targets.
+    const OF_NO_TARGETS: Numbers = Numbers {
         visits: 0,
         failed: 0,
         points: 0,
@@ -82,7 +83,7 @@ impl Numbers {
     pub(crate) fn sums(ends: &[TargetEnd]) -> Numbers
         ensures { result ≡ spec.sums_of ends.now }
     {
-        let mut sums = Numbers::NONE;
+        let mut sums = Numbers::OF_NO_TARGETS;
         for end in ends {
             sums = sums.and(Numbers::of(end));
         }

@@ -96,6 +96,16 @@ fn push_lines(text: &mut Vec<u8>, ends: &[TargetEnd]) -> Result<(), Memory>
 /// # Errors
 ///
 /// Want of memory.
+///
+/// # Example
+///
+/// ```rust
+/// // `first` is how the target `h:80` of the job `a` ended: two visits, whose bodies were taken.
+/// let mut text = Vec::new(alloc);
+/// push_report(&mut text, &[first, second])?;
+/// let line = "target 1 a h:80 visits 2 failed 0 points 6 markers 0 accepted 2 refused 0 givenup 0 halted 0\n";
+/// assert!(rt; text.as_slice().starts_with(line.as_bytes()));
+/// ```
 #[tactic(auto, unfolding(crate::specs::Reports::report_text, crate::specs::Reports::all_line))]
 pub fn push_report(text: &mut Vec<u8>, ends: &[TargetEnd]) -> Result<(), Memory>
     ensures { OnOk result (text.new.items ≡ text.old.items ++ spec.report_text ends.now) }

@@ -1,5 +1,5 @@
 -- How the part of a sample is found: what its name and its rules come to.
-use Rattle.std.proofs.Common.{◌≡◌, ℕ, Bool, true, false, cond, not, ◌&&◌, ◌||◌, List, ◌++◌, Result, Ok, Err, refl, ◌∙◌, codes, if◌then◌else◌}
+use Rattle.std.proofs.Common.{◌≡◌, ℕ, Bool, true, false, cond, not, ◌&&◌, ◌||◌, List, ◌++◌, Result, Ok, Err, refl, ◌∙◌, codes}
 use Rattle.label_sets.specs.declared.kind.Kind.{Kind}
 use Rattle.label_sets.specs.declared.kind.Kind.TheVariants.{Counter, Histogram, GaugeHistogram, Summary}
 use Rattle.label_sets.specs.Labels.{has_name}
@@ -17,7 +17,7 @@ use Rattle.exact_decimal.specs.Order.{less, is_finite, is_not_a_number}
 use Rattle.sample_groups.specs.declared.part.Part.{Part}
 use Rattle.sample_groups.specs.declared.part.Part.TheVariants as parts
 use Rattle.sample_groups.specs.Parts.{is_grouped, quantile_part, part_of}
-use Rattle.sample_groups.specs.Finding.{found}
+use Rattle.sample_groups.specs.Finding.{found, grouped_part}
 use Rattle.sample_groups.proofs.KindCases.{of_grouped}
 use Rattle.sample_groups.proofs.Samples.{by_name, count_of}
 
@@ -73,7 +73,7 @@ module _ (part : Part) (om finite : Bool) where
 module _ (st : Setting) (family : List ℕ) (s : Sample) (suffix : Suffix) (only : (x : Suffix) → s.name ≡ family ++ suffix_bytes x → suffix ≡ x) where
   -- what the part or the rule is
   abbrev IsTold : Kind → Type 0
-  IsTold kind = found kind s suffix ≡ (if has_bad_value st.format kind family s then Err rules_of.Value else if has_bad_threshold kind family s then Err rules_of.Threshold else Ok (part_of family s))
+  IsTold kind = found kind s suffix ≡ grouped_part st.format kind family s
 
   -- the format is OpenMetrics, and the value is finite
   abbrev in_open : Bool
@@ -131,5 +131,5 @@ module _ (st : Setting) (family : List ℕ) (s : Sample) (suffix : Suffix) (only
 -- the same of a sample with this suffix
 pub found_by : (kind : Kind) (family : List ℕ) (s : Sample) (suffix : Suffix) (part : Result Part Rule) → ((x : Suffix) → s.name ≡ family ++ suffix_bytes x → suffix ≡ x) → part ≡ found kind s suffix
     → (st : Setting) → is_grouped st.format kind ≡ true → has_wrong_suffix st kind family s ≡ false
-    → part ≡ (if has_bad_value st.format kind family s then Err rules_of.Value else if has_bad_threshold kind family s then Err rules_of.Threshold else Ok (part_of family s))
+    → part ≡ grouped_part st.format kind family s
 found_by kind family s suffix part only is st grouped named = is ∙ found_is st family s suffix only kind grouped named

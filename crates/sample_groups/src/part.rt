@@ -1,15 +1,14 @@
 //! What a sample is to its group, by its name, its value and its label `le` or `quantile` (Prometheus text
 //! format 0.0.4, "Histograms and summaries"; OpenMetrics 1.0, "Metric types").
-ghost use Rattle.std.specs.Prelude.{◌≡◌, true, false, Ok, Err, if◌then◌else◌};
+ghost use Rattle.std.specs.Prelude.{◌≡◌, true, false};
 ghost use Rattle.std.specs.Option.{option_map_or};
 ghost use Rattle.exact_decimal.specs.declared.number.Number.TheVariants.{NotANumber};
 ghost use Rattle.exact_decimal.specs.Numbers.{number};
 ghost use Rattle.label_sets.specs.Labels.{label_value};
-ghost use Rattle.page_model.specs.declared.rule.Rule.TheVariants as rules;
 ghost use Rattle.page_model.specs.Written.{Setting};
-ghost use Rattle.page_model.specs.Rules.{has_wrong_suffix, has_bad_value, has_bad_threshold};
-ghost use Rattle.sample_groups.specs.Parts.{is_grouped, part_of};
-ghost use Rattle.sample_groups.specs.Finding.{unplaced, bucket_found, count_found, quantile_found, total_found, created_found, found};
+ghost use Rattle.page_model.specs.Rules.{has_wrong_suffix};
+ghost use Rattle.sample_groups.specs.Parts.{is_grouped};
+ghost use Rattle.sample_groups.specs.Finding.{unplaced, bucket_found, count_found, quantile_found, total_found, created_found, found, grouped_part};
 
 use crate::shared::{has_label, place_name};
 use exact_decimal::{Number, less, of, read, whole};
@@ -203,11 +202,19 @@ fn part_with(kind: Kind, sample: &Sample, suffix: Suffix) -> Result<Part, Rule>
 ///
 /// The rule that the sample breaks: [`Rule::Value`] where its value is none that its place may have, else
 /// [`Rule::Threshold`].
+///
+/// # Example
+///
+/// ```rust
+/// // `sample` is that of the line `h_bucket{le="0.1"} 2`, and `bare` that of `h_bucket 1`.
+/// let family = Name::from_str(alloc, "h")?;
+/// let part = part_of(Kind::Histogram, &family, &sample)?;
+/// assert!(rt; matches!(part, Part::Bucket(bucket) if bucket.count == 2));
+/// assert_eq!(rt; part_of(Kind::Histogram, &family, &bare).err(), Some(Rule::Threshold));
+/// ```
 pub fn part_of(kind: Kind, family: &Name, sample: &Sample) -> Result<Part, Rule>
     ensures { (st : Setting) → is_grouped st.format kind ≡ true → has_wrong_suffix st kind family.now sample.now ≡ false
-        → result ≡ (if has_bad_value st.format kind family.now sample.now then Err rules.Value
-        else if has_bad_threshold kind family.now sample.now then Err rules.Threshold
-        else Ok (part_of family.now sample.now)) }
+        → result ≡ grouped_part st.format kind family.now sample.now }
 {
     // A name that the kind allows has a suffix.
     let suffix = sample_suffix(family, &sample.name).unwrap_or(Suffix::Sum);

@@ -121,8 +121,8 @@ impl Places {
     }
 }
 
-/// So many parts are looked through for a place.
-const FEW: usize = 16;
+/// Up to so many parts are looked through for a place; then their places are kept beside them.
+const FEW_PARTS: usize = 16;
 
 /// The places of the quantiles among these parts.
 fn places_of(alloc: Global, parts: &[Part]) -> Result<Places, Memory>
@@ -152,7 +152,7 @@ pub(crate) fn more_places(
             places.insert(at)?;
             Ok(Some(places))
         }
-        None if parts.len() < FEW => Ok(None),
+        None if parts.len() < FEW_PARTS => Ok(None),
         None => {
             let mut places = places_of(alloc, parts)?;
             places.insert(at)?;

@@ -20,8 +20,7 @@ use Rattle.page_model.specs.Rules.{is_past_limit}
 use Rattle.page_model.specs.Faults.{Line, item_breaks, item_rules, item_fault, line_fault, own_fault, fault_from, with_line}
 use Rattle.page_model.specs.Readings.{page_of}
 use Rattle.page_model.specs.Pages.{IsPageOf}
-use Rattle.page_model.proofs.Laws.{none_found}
-use Rattle.page_model.specs.Laws.{TextsAreRight}
+use Rattle.page_model.proofs.Laws.{none_found, text_is_right}
 use Rattle.http_talk.specs.Replies.{IsPageOutcome, scraped_setting}
 use Rattle.scrape_client.specs.Scraping.{IsWithinLimit}
 use Rattle.label_sets.proofs.Laws.{option_map-none}
@@ -80,13 +79,13 @@ few_samples st bytes page x =
     subst (λ (p : Page). p.samples ≤ st.limit) (sym x.page_is) (all_lines x.lines st [] 1 (ends_clean bytes) x.without_fault (omega arith))
 
 -- what a body comes to is within the limit
-pub within_limit : TextsAreRight → (limit : ℕ) (format : Format) (body : List ℕ) (outcome : Outcome) → IsPageOutcome limit format body outcome → IsWithinLimit limit outcome
-within_limit right limit format body (outcomes.Page page) x =
+pub within_limit : (limit : ℕ) (format : Format) (body : List ℕ) (outcome : Outcome) → IsPageOutcome limit format body outcome → IsWithinLimit limit outcome
+within_limit limit format body (outcomes.Page page) x =
     let st = scraped_setting format limit in
-    ((st, refl, right st body page x), few_samples st body page x)
-within_limit right limit format body (outcomes.Failed cause) x = tt
+    ((st, refl, text_is_right st body page x), few_samples st body page x)
+within_limit limit format body (outcomes.Failed cause) x = tt
 
 -- so is what is answered of it
-pub all_within : {E : Type 0} → TextsAreRight → (limit : ℕ) (format : Format) (body : List ℕ) (result : Result Outcome E) → IfOk result (IsPageOutcome limit format body) → IfOk result (IsWithinLimit limit)
-all_within right limit format body (Ok outcome) x = within_limit right limit format body outcome x
-all_within right limit format body (Err e) x = x
+pub all_within : {E : Type 0} (limit : ℕ) (format : Format) (body : List ℕ) (result : Result Outcome E) → IfOk result (IsPageOutcome limit format body) → IfOk result (IsWithinLimit limit)
+all_within limit format body (Ok outcome) x = within_limit limit format body outcome x
+all_within limit format body (Err e) x = x

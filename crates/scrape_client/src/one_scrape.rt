@@ -24,6 +24,15 @@ use std::alloc::{AllocError, Global};
 /// # Errors
 ///
 /// Want of memory alone: a scrape that fails is an event too.
+///
+/// # Example
+///
+/// ```rust
+/// // `wire` answers `HTTP/1.1 200 OK` with a page of two lines, `x 1` and `x`.
+/// let event = scrape(alloc, &mut wire, &target, 0, 1_000, 1_024)?;
+/// let cause = Cause::Page { line: 2, rule: Rule::Syntax };
+/// assert!(rt; matches!(event.outcome, Outcome::Failed(failed) if failed == cause));
+/// ```
 pub fn scrape<W: Wire>(
     alloc: Global,
     wire: &mut W,

@@ -12,7 +12,6 @@ use http_talk::Body;
 use label_sets::Memory;
 use openmetrics_grammar::OpenLines;
 use page_feeding::{Grammar, PageReader};
-use page_model::page_laws::right_pages;
 use page_model::{Cause, Format, Outcome, Page, PageFault, Treatment};
 use std::alloc::{AllocError, Global};
 use text_grammar::TextLines;
@@ -27,7 +26,6 @@ pub(crate) fn outcome_of(
     ensures says { IfOk result (Says said limit) }
     ensures within { IfOk result (IsWithinLimit limit) }
 {
-    right_pages();
     match said {
         Ok(body) => page_outcome(alloc, body, limit),
         Err(NoBody::Failed(cause)) => Ok(Outcome::Failed(cause)),

@@ -8,12 +8,9 @@ ghost use Rattle.http_talk.specs.Replies.{most_body_limit};
 ghost use Rattle.scrape_client.specs.Exchanges.{EndsReply, EndsShort, PeerSaid, SendsText, IsReplyRead, IsExchange};
 
 use crate::stop::{NoBody, no_body};
-use bridge_ports::{Failed, Wire};
+use bridge_ports::{BLOCK_BYTES, Failed, Wire};
 use http_talk::{Body, Progress, Reply};
 use page_model::Cause;
-
-/// The most bytes that one read takes.
-const BLOCK_BYTES: usize = 1 << 16;
 
 /// Sends a text and reads its reply, until a verdict on it is there or the talk ends.
 pub(crate) fn exchange<W: Wire>(wire: &mut W, text: &[u8], reply: Reply) -> Result<Body, NoBody>

@@ -44,30 +44,29 @@ impl<N: RunName, A: Lane, B: Lane, C: Lane, D: Lane, W: Wire> Pool<N, A, B, C, D
         }
     }
 
-    // Serves so many connections of a door, and ends at the first that it can't hand out. It gives the door back, and
-    // how many connections were answered.
+    // Serves so many connections of a door, and ends at the first that it can't hand out: how many were answered.
     fn serve_pages<K: Conn, E: Door<Conn = K>, R: Wait>(
         &self,
         rt: &R,
         alloc: Global,
-        door: E,
+        door: &mut E,
         pages: u32,
-    ) -> (E, u32)
-        requires { IsUnopened (E.door door) }
-        ensures { HasServed pages (E.door door) (E.door result.0) result.1 }
+    ) -> u32
+        requires { IsUnopened (E.door door.old) }
+        ensures { HasServed pages (E.door door.old) (E.door door.new) result }
     {
-        let mut door = door;
         let mut served = 0;
         for _ in 0..pages {
-            match self.serve_next(rt, alloc, &mut door) {
+            match self.serve_next(rt, alloc, door) {
                 Ok(count) => served += count,
-                Err(Failed) => return (door, served),
+                Err(Failed) => return served,
             }
         }
-        (door, served)
+        served
     }
 
-    /// The same, and shuts the door behind the last of them, which may be long before the run ends.
+    /// The same, and shuts the door behind the last of them, which may be long before the run ends. It gives the door
+    /// back.
     pub(crate) fn serve_door<K: Conn, E: Door<Conn = K>, R: Wait>(
         &self,
         rt: &R,
@@ -78,7 +77,8 @@ impl<N: RunName, A: Lane, B: Lane, C: Lane, D: Lane, W: Wire> Pool<N, A, B, C, D
         requires { IsUnopened (E.door door) }
         ensures { HasServed pages (E.door door) (E.door result.0) result.1 }
     {
-        let (mut door, served) = self.serve_pages(rt, alloc, door, pages);
+        let mut door = door;
+        let served = self.serve_pages(rt, alloc, &mut door, pages);
         door.shut();
         (door, served)
     }

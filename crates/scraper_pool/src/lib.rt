@@ -13,5 +13,5 @@ mod workers;
 pub use page_server::{ReplyStatus, ServeFault};
 pub use pool::Pool;
 pub use run::{Ended, RunFault, run_targets, run_with_door};
-pub use target_table::{Counts, Lane, RunName, Seat, Share, Shares, TableFault, Track};
+pub use target_table::{Counts, Lane, RunName, Seat, Share, Shares, Table, TableFault, Track};
 pub use turn::Turn;

@@ -1,10 +1,8 @@
 //! The table behind a lock, and a worker's turn.
-ghost use Rattle.std.specs.Prelude.{◌≡◌, ◌+◌, None, IfSome, IfNone, IfOk, IfErr, OnOk, OnErr};
+ghost use Rattle.std.specs.Prelude.{◌≡◌, ◌+◌, None, IfSome, IfNone, IfOk, OnOk, OnErr};
 ghost use Rattle.series_table.specs.Counting.{as_count};
 ghost use Rattle.series_table.specs.HttpTalks.{talking};
-ghost use Rattle.target_table.specs.declared.table.TableFault.TheVariants as faults;
-ghost use Rattle.target_table.specs.Runs.{IsRightRun};
-ghost use Rattle.target_table.specs.Tables.{AreTracks, AreUnvisited};
+ghost use Rattle.target_table.specs.Tables.{MayBePut};
 ghost use Rattle.scraper_pool.specs.Federating.{AreSeen, HasPage};
 ghost use Rattle.scraper_pool.specs.Turns.{IsTurn, seated};
 
@@ -14,9 +12,7 @@ use label_sets::Memory;
 use page_model::Shown;
 use std::alloc::{AllocError, Global};
 use std::sync::{Mutex, Wait};
-use target_table::{
-    Blanks, Lane, Lease, RunName, Seat, Shares, Table, TableFault, Track, write_page,
-};
+use target_table::{Lane, Lease, RunName, Seat, Table, write_page};
 
 /// A table of targets that several workers share.
 pub struct Pool<N: RunName, A: Lane, B: Lane, C: Lane, D: Lane, W: Wire> {
@@ -24,37 +20,11 @@ pub struct Pool<N: RunName, A: Lane, B: Lane, C: Lane, D: Lane, W: Wire> {
 }
 
 impl<N: RunName, A: Lane, B: Lane, C: Lane, D: Lane, W: Wire> Pool<N, A, B, C, D, W> {
-    /// The pool of the tracks of a run's targets, none of which was visited, and the shares of its lanes.
-    ///
-    /// # Errors
-    ///
-    /// Want of memory: the tracks are given back.
-    pub fn new(
-        alloc: Global,
-        tracks: Vec<Track<W>>,
-        rounds: u32,
-        blanks: Blanks,
-    ) -> Result<(Pool<N, A, B, C, D, W>, Shares<A, B, C, D>), TableFault<W>>
-        requires run { IsRightRun N.run }
-        requires rounds { rounds ≡ N.run.rounds }
-        requires tracks { AreTracks talking 0 N.run.targets tracks.items }
-        requires unvisited { AreUnvisited tracks.items }
-        requires a { (blanks.a.name ≡ A.name) × (blanks.a.parts ≡ A.parts) × (A.all ≡ A.parts) }
-        requires b { (blanks.b.name ≡ B.name) × (blanks.b.parts ≡ B.parts) × (B.all ≡ B.parts) }
-        requires c { (blanks.c.name ≡ C.name) × (blanks.c.parts ≡ C.parts) × (C.all ≡ C.parts) }
-        requires d { (blanks.d.name ≡ D.name) × (blanks.d.parts ≡ D.parts) × (D.all ≡ D.parts) }
-        ensures held { IfOk result (λ made. (made.1.a.held ≡ 0) × (made.1.b.held ≡ 0) × (made.1.c.held ≡ 0) × (made.1.d.held ≡ 0)) }
-        ensures taken { IfOk result (λ made. (made.1.a.taken ≡ 0) × (made.1.b.taken ≡ 0) × (made.1.c.taken ≡ 0) × (made.1.d.taken ≡ 0)) }
-        ensures idle { IfOk result (λ made. (made.1.a.idle ≡ 0) × (made.1.b.idle ≡ 0) × (made.1.c.idle ≡ 0) × (made.1.d.idle ≡ 0)) }
-        ensures back { IfErr result (λ fault. fault ≡ faults.Memory tracks) }
-    {
-        let (table, shares) = Table::new(alloc, tracks, rounds, blanks)?;
-        Ok((
-            Pool {
-                table: Mutex::new(table),
-            },
-            shares,
-        ))
+    /// The pool of a table.
+    pub fn new(table: Table<N, A, B, C, D, W>) -> Pool<N, A, B, C, D, W> {
+        Pool {
+            table: Mutex::new(table),
+        }
     }
 
     // Takes the target whose turn it is.
@@ -66,6 +36,16 @@ impl<N: RunName, A: Lane, B: Lane, C: Lane, D: Lane, W: Wire> Pool<N, A, B, C, D
         ensures idle { IfNone result ((S.out seat.new ≡ 0) × (S.takes seat.new ≡ S.takes seat.old) × (S.rests seat.new ≡ as_count (S.rests seat.old + 1))) }
     {
         self.table.lock(rt).take(seat)
+    }
+
+    // Puts back the target that is out with a seat.
+    fn put<S: Seat<A, B, C, D>, R: Wait>(&self, rt: &R, seat: &mut S, lease: Lease<N, W>)
+        requires lane { S.right }
+        requires held { S.out seat.old ≡ lease.number }
+        requires due { MayBePut (record { number = lease.number; track = lease.track; from = lease.from }) }
+        ensures { (S.out seat.new ≡ 0) × (S.takes seat.new ≡ S.takes seat.old) × (S.rests seat.new ≡ S.rests seat.old) }
+    {
+        self.table.lock(rt).put(seat, lease);
     }
 
     /// A turn of a worker: takes the target whose turn it is, visits it outside of the lock, and puts it back.
@@ -85,9 +65,10 @@ impl<N: RunName, A: Lane, B: Lane, C: Lane, D: Lane, W: Wire> Pool<N, A, B, C, D
         };
         let mut lease = lease;
         let _visited = lease.track.visit(alloc);
-        self.table.lock(rt).put(seat, lease);
+        self.put(rt, seat, lease);
         Turn::Visited
     }
+
     // What readers see of each target, in order.
     fn shown<R: Wait>(&self, rt: &R, alloc: Global) -> Result<Vec<Shown>, Memory>
         ensures { IfOk result (λ shown. AreSeen talking N.run shown.items) }

@@ -3,7 +3,6 @@ use Rattle.std.proofs.Common.{◌≡◌, false, List, [], Option, Some, None, re
 use Rattle.std.specs.Prelude.{IfSome}
 use Rattle.std.proofs.lemmas.Option.{none-some, same_Some}
 use Rattle.page_model.specs.declared.event.Shown.{Shown}
-use Rattle.page_model.specs.Laws.{NothingIsRight}
 use Rattle.bridge_ports.specs.declared.talk.Talk.{Talk}
 use Rattle.bridge_ports.specs.Talks.{WireState}
 use Rattle.target_core.specs.Events.{latest_shown}
@@ -27,10 +26,10 @@ nothing_posted w f = record {
   in_order = (refl, refl);
 }
 
-pub new_track : (w : Talking) (aim : Aim) (s p : WireState) (f : Following) (shown : Shown) (counts : Counts) → NothingIsRight → AreInRange aim.settings → IsFresh s → IsFresh p
+pub new_track : (w : Talking) (aim : Aim) (s p : WireState) (f : Following) (shown : Shown) (counts : Counts) → AreInRange aim.settings → IsFresh s → IsFresh p
     → StandsFor aim.target (record { keep = aim.settings.keep }) f [] → shown ≡ latest_shown aim.target [] → counts ≡ visit_counts (followed_by aim s.plan p.plan) [] []
     → IsTrack w (kept_by aim s p f shown None counts false)
-new_track w aim s p f shown counts law ranges scrape post stands shows counted =
+new_track w aim s p f shown counts ranges scrape post stands shows counted =
     let followed = followed_by aim s.plan p.plan in
     record {
       ranges = ranges;
@@ -47,7 +46,7 @@ new_track w aim s p f shown counts law ranges scrape post stands shows counted =
         bodies = λ scrapes posts a b. subst (λ ts. BodiesOf w followed 0 ts posts [] []) (no_talks _ scrapes scrape.untold a) (subst (λ ts. BodiesOf w followed 0 [] ts [] []) (no_talks _ posts post.untold b) (nothing_posted w followed));
       };
       few_rows = few_rows_behind followed f [] stands tt;
-      shows = subst (IsShownOf followed) (sym shows) (shows_nothing followed law);
+      shows = subst (IsShownOf followed) (sym shows) (shows_nothing followed);
       second_shows = tt;
       unvisited = λ e. refl;
     }

@@ -6,7 +6,7 @@ use Rattle.page_model.specs.declared.event.Outcome.TheVariants as outcomes
 use Rattle.page_model.specs.declared.format.Treatment.TheVariants.{Scraped}
 use Rattle.page_model.specs.declared.page.Page.{Page}
 use Rattle.page_model.specs.Presence.{page_of_outcome, empty_page}
-use Rattle.page_model.specs.Laws.{DistinctKeys, NothingIsRight}
+use Rattle.page_model.proofs.Laws.{nothing_is_right, right-distinct_keys}
 use Rattle.page_model.specs.Written.{text_setting}
 use Rattle.start_times.specs.Advancing.{HasDistinctKeys}
 use Rattle.start_times.specs.Scrapes.{scrape_after}
@@ -16,17 +16,17 @@ use Rattle.series_table.specs.Talking.{Followed}
 use Rattle.series_table.specs.Records.{IsScrapedWithin, IsShownOf}
 
 -- the page without families is within every limit
-pub nothing_within : (limit : ℕ) → NothingIsRight → IsScrapedWithin limit empty_page
-nothing_within limit law = record { scraped = (text_setting Scraped limit, refl, law Scraped limit); few = omega arith }
+pub nothing_within : (limit : ℕ) → IsScrapedWithin limit empty_page
+nothing_within limit = record { scraped = (text_setting Scraped limit, refl, nothing_is_right Scraped limit); few = omega arith }
 
 -- the page of a scrape is within its limit
-pub page_within : (limit : ℕ) (o : Outcome) → NothingIsRight → IsWithinLimit limit o → IsScrapedWithin limit (page_of_outcome o)
-page_within limit (outcomes.Page page) law h = record { scraped = h.0; few = h.1 }
-page_within limit (outcomes.Failed cause) law h = nothing_within limit law
+pub page_within : (limit : ℕ) (o : Outcome) → IsWithinLimit limit o → IsScrapedWithin limit (page_of_outcome o)
+page_within limit (outcomes.Page page) h = record { scraped = h.0; few = h.1 }
+page_within limit (outcomes.Failed cause) h = nothing_within limit
 
 -- no two of its readings are of one series
-pub keys_differ : (limit : ℕ) (page : Page) → DistinctKeys → IsScrapedWithin limit page → HasDistinctKeys page
-keys_differ limit page law h = law page (h.scraped.0, h.scraped.2)
+pub keys_differ : (limit : ℕ) (page : Page) → IsScrapedWithin limit page → HasDistinctKeys page
+keys_differ limit page h = right-distinct_keys page (h.scraped.0, h.scraped.2)
 
 -- what a target shows behind an event
 pub shows_event : (f : Followed) (e : Event) (earlier : List Event) → IsScrapedWithin f.settings.limit (page_of_outcome e.outcome) → IsShownOf f (latest_shown f.target (e ∷ earlier))
@@ -34,6 +34,6 @@ unfolding latest_shown scrape_after
 shows_event f e earlier h = record { job = refl; instance = refl; scraped = h }
 
 -- what it shows before the first one
-pub shows_nothing : (f : Followed) → NothingIsRight → IsShownOf f (latest_shown f.target [])
+pub shows_nothing : (f : Followed) → IsShownOf f (latest_shown f.target [])
 unfolding latest_shown
-shows_nothing f law = record { job = refl; instance = refl; scraped = nothing_within f.settings.limit law }
+shows_nothing f = record { job = refl; instance = refl; scraped = nothing_within f.settings.limit }

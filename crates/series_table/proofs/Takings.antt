@@ -2,7 +2,6 @@
 use Rattle.std.proofs.Common.{◌≡◌, ℕ, inr, ◌∷◌, length, Option, Some, None, ap, ◌∙◌}
 use Rattle.page_model.specs.declared.event.Event.{Event}
 use Rattle.page_model.specs.Presence.{page_of_outcome}
-use Rattle.page_model.specs.Laws.{DistinctKeys, NothingIsRight}
 use Rattle.bridge_ports.specs.declared.talk.Address.{Address}
 use Rattle.bridge_ports.specs.Talks.{ToldTalks, Tells, WireState, made_ready}
 use Rattle.otlp_json.specs.Texts.{request_text}
@@ -27,15 +26,15 @@ pub cut_short : (limit most : ℕ) (to : Address) (old new : WireState) (e : Eve
 cut_short limit most to old new e h = record { free = h.free; place = h.place; plan = h.plan; later = h.later; told = one_talk limit most to e old.told new.told h.told }
 
 -- the scrape was made, and the state took its event
-pub takes : (aim : Aim) (old new : WireState) (before after : Following) (event : Event) (taken : Taken) → DistinctKeys → NothingIsRight
+pub takes : (aim : Aim) (old new : WireState) (before after : Following) (event : Event) (taken : Taken)
     → IsScrape aim.settings.limit aim.settings.max_page aim.target.address old new event → Steps before event taken.tree after → taken.failed ≡ has_failed event → TookEvent aim old new before after taken event
-takes aim old new before after event taken distinct nothing scrape steps failed =
-    let page = page_within aim.settings.limit event.outcome nothing scrape.page in
+takes aim old new before after event taken scrape steps failed =
+    let page = page_within aim.settings.limit event.outcome scrape.page in
     record {
       scrape = scrape;
       page = page;
       failed = failed;
-      steps = λ t earlier stands. steps aim.target t earlier stands (keys_differ aim.settings.limit (page_of_outcome event.outcome) distinct page);
+      steps = λ t earlier stands. steps aim.target t earlier stands (keys_differ aim.settings.limit (page_of_outcome event.outcome) page);
     }
 
 -- that was one event

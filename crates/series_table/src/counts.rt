@@ -62,7 +62,7 @@ fn was_given_up(posted: Posted) -> bool
 
 impl Counts {
     /// Before the first visit.
-    pub(crate) const NONE: Counts = Counts {
+    pub(crate) const BEFORE_VISITS: Counts = Counts {
         visits: 0,
         failed: 0,
         points: 0,

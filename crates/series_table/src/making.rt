@@ -16,7 +16,7 @@ use bridge_ports::{Address, TalkFault, Wire};
 use label_sets::Memory;
 use otlp_json::write;
 use otlp_tree::Request;
-use page_model::{Event, Outcome, Shown, page_laws};
+use page_model::{Event, Outcome, Shown};
 use scrape_client::scrape;
 use std::alloc::{AllocError, Global};
 use target_core::TargetState;
@@ -77,8 +77,6 @@ fn take_event<W: Wire>(
     requires next { HasNextMoment state.old.moment }
     ensures { TakesEvent aim.now (W.state wire.old) (W.state wire.new) state.old state.new result }
 {
-    page_laws::distinct_keys();
-    page_laws::right_pages();
     let settings = &aim.settings;
     let Ok(event) = scrape(
         alloc,

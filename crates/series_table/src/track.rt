@@ -16,7 +16,7 @@ use crate::visited::Visited;
 use bridge_ports::{Address, BodyFault, Notice, Settings, TalkFault, Target, Wire};
 use label_sets::Memory;
 use otlp_sender::post_parts;
-use page_model::{Shown, page_laws};
+use page_model::Shown;
 use std::alloc::Global;
 use std::marker::Model;
 use std::mem;
@@ -93,7 +93,6 @@ impl<W: Wire> Track<W> {
         ensures made { IfOk result (λ track. IsNew target to settings (W.state scrape) (W.state post) track) }
         ensures back { IfErr result (λ fault. fault ≡ faults.Memory scrape post) }
     {
-        page_laws::right_pages();
         match begin(alloc, &target, settings.keep) {
             Ok((state, shown)) => Ok(Track {
                 aim: Aim {
@@ -107,7 +106,7 @@ impl<W: Wire> Track<W> {
                 first: None,
                 shown,
                 second: None,
-                counts: Counts::NONE,
+                counts: Counts::BEFORE_VISITS,
                 halted: false,
                 last_len: 0,
                 scrape_fault: None,
@@ -122,6 +121,18 @@ impl<W: Wire> Track<W> {
     /// the one before, from the reading of the first on. `Halted` stands for want of memory, in this visit or an
     /// earlier one: then nothing of this visit was posted, it is not counted, what is shown stays, and every later
     /// visit does nothing. The wire of its scrapes is told what the visit came to.
+    ///
+    /// # Example
+    ///
+    /// ```rust
+    /// // The first scrape finds a page of one sample, the second the status 404; both bodies are taken.
+    /// let mut track = Track::new(alloc, target, to, settings, scrape, post)?;
+    /// let _first = track.visit(alloc);
+    /// let _second = track.visit(alloc);
+    /// let counts = track.counts();
+    /// assert_eq!(rt; (counts.visits, counts.failed, counts.accepted), (2, 1, 2));
+    /// assert_eq!(rt; (counts.points, counts.markers), (5, 1));
+    /// ```
     pub fn visit(&mut self, alloc: Global) -> Visited
         requires { self.old.counts.visits < most_visits }
         ensures visit { Visits talking self.old self.new result }

@@ -65,6 +65,15 @@ fn lacking(
 /// # Errors
 ///
 /// Want of memory.
+///
+/// # Example
+///
+/// ```rust
+/// // The page before has the counter `c_total`, and the scrape now failed.
+/// let gone = vanished(alloc, &before, None)?;
+/// let first = gone.as_slice().first();
+/// assert!(rt; gone.len() == 1 && first.is_some_and(|key| key.name.as_str() == "c_total"));
+/// ```
 pub fn vanished(alloc: Global, before: &Page, now: Option<&Page>) -> Result<List<SeriesKey>, Memory>
     ensures { IfOk result (λ keys. keys ≡ keys_gone before.now (page_or_empty (option_copied now.entry))) }
 {

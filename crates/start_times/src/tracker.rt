@@ -71,6 +71,18 @@ impl Tracker {
     /// # Errors
     ///
     /// Want of memory.
+    ///
+    /// # Example
+    ///
+    /// ```rust
+    /// // A counter is 5 on the first page, 7 on the second, and 3 on the third.
+    /// let (first, tracker) = Tracker::new(alloc, 2).advance(alloc, &five, 10)?;
+    /// let (second, tracker) = tracker.advance(alloc, &seven, 20)?;
+    /// let (third, _) = tracker.advance(alloc, &three, 30)?;
+    /// assert_eq!(rt; first.list.as_slice(), [Some(10)].as_slice());
+    /// assert_eq!(rt; second.list.as_slice(), [Some(10)].as_slice());
+    /// assert_eq!(rt; third.list.as_slice(), [Some(30)].as_slice());
+    /// ```
     pub fn advance(
         &self,
         alloc: Global,

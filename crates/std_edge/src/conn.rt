@@ -7,7 +7,7 @@ ghost use Rattle.bridge_ports.specs.Edges.{untold};
 ghost use Rattle.bridge_ports.specs.InMemory.{one_more};
 
 use crate::deadline::{Deadline, MOST_LINGER, MOST_WAIT};
-use bridge_ports::std_edge::{StdSink, StdSource};
+use bridge_ports::std_edge::StdStream;
 use bridge_ports::{Conn, Failed, Reason, Sink, Source};
 use std::io;
 use std::marker::Model;
@@ -107,7 +107,7 @@ impl<R: Clock + Drop> NetConn<R> {
         if !self.may_read(end) {
             return Err(Reason::TimedOut);
         }
-        let mut source = StdSource::new(&self.stream);
+        let mut source = StdStream::new(&self.stream);
         match source.read(into) {
             Ok(count) => Ok(count),
             Err(Failed) => Err(source.reason()),
@@ -123,7 +123,7 @@ impl<R: Clock + Drop> NetConn<R> {
         if !self.may_write() {
             return Err(Reason::TimedOut);
         }
-        let mut sink = StdSink::new(&self.stream);
+        let mut sink = StdStream::new(&self.stream);
         match sink.write(piece) {
             Ok(count) => Ok(count),
             Err(Failed) => Err(sink.reason()),

@@ -1,4 +1,5 @@
 //! How long calls, and whole talks, may take.
+use bridge_ports::MILLISECOND;
 use std::time::{Clock, Duration};
 
 /// How many milliseconds a connect or a write stands still at most before it fails, and a read of a scrape or at the
@@ -18,9 +19,6 @@ pub const MOST_SERVED: u64 = 10_000;
 
 /// How many milliseconds of them what a peer still sends is read off at most, before its connection is closed.
 pub const MOST_LINGER: u64 = 1_000;
-
-/// The nanoseconds of a millisecond.
-pub(crate) const MILLISECOND: u64 = 1_000_000;
 
 /// The moment at which a talk has to be over, by the clock that doesn't step.
 #[derive(Clone, Copy)]

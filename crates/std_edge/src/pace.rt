@@ -1,5 +1,6 @@
 //! How far apart the scrapes of a target begin.
-use crate::deadline::{MILLISECOND, MOST_SCRAPE};
+use crate::deadline::MOST_SCRAPE;
+use bridge_ports::MILLISECOND;
 
 /// When the last scrape of a target began, and the interval at which they are due, in nanoseconds.
 #[derive(Clone, Copy)]

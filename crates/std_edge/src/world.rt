@@ -10,7 +10,7 @@ use crate::pairs::NetPairs;
 use crate::peer::{PeerName, host_of};
 use crate::steady_clock::SteadyClock;
 use crate::wire::NetWire;
-use bridge_ports::std_edge::StdSource;
+use bridge_ports::std_edge::StdStream;
 use bridge_ports::{Address, Failed, MemoryWire, Reason, RunNotice, Source, World};
 use label_sets::{Memory, Text};
 use std::alloc::Global;
@@ -58,6 +58,15 @@ impl<R: Drop> StdWorld<R> {
     ghost use Rattle.std_edge.specs.World.{new_machine};
 
     /// The world of this machine, of which nothing was asked yet. The clock of its wires starts now.
+    ///
+    /// # Example
+    ///
+    /// ```rust
+    /// let mut world = StdWorld::new(rt, alloc);
+    /// let mut into = [0u8; 3];
+    /// world.open_file(Text::from_str(alloc, "/dev/zero")?)?;
+    /// assert_eq!(rt; world.read_file(&mut into), Ok(3));
+    /// ```
     pub fn new(machine: R, alloc: Global) -> StdWorld<R>
     where
         R: Clock,
@@ -176,7 +185,7 @@ where
 
         ensures fault { OnErr result (self.new.file_faults ≡ one_more self.old.file_faults) }
     {
-        let mut source = StdSource::new(self.file.as_ref().unwrap());
+        let mut source = StdStream::new(self.file.as_ref().unwrap());
         match source.read(into) {
             Ok(count) => Ok(count),
             Err(Failed) => {

@@ -1,9 +1,8 @@
 -- The metrics of families with their starts and markers.
-use Rattle.std.proofs.Common.{◌≡◌, ℕ, suc, ◌+◌, ◌<◌, Bool, true, false, List, [], ◌∷◌, ◌++◌, map, filter_map, take, drop, length, get_or, Option, Some, None, option_map, refl, sym, ap, subst, ◌∙◌, add-one}
-use Rattle.std.specs.Prelude.{slice_get, MatchOption, is_some}
-use Rattle.std.specs.List.{flat_map, cons_option, list_any}
+use Rattle.std.proofs.Common.{◌≡◌, ℕ, suc, ◌+◌, ◌<◌, Bool, true, List, [], ◌∷◌, ◌++◌, map, filter_map, take, drop, length, get_or, Option, Some, None, option_map, refl, sym, ap, subst, ◌∙◌, add-one}
+use Rattle.std.specs.Prelude.{slice_get, is_some}
+use Rattle.std.specs.List.{flat_map, cons_option}
 use Rattle.std.specs.Option.{option_map_or}
-use Rattle.std.specs.Str.{bytes_eq}
 use Rattle.std.proofs.Math.Seq.{drop-cons}
 use Rattle.std.proofs.lemmas.List.{append-nil, map-append, length-map, take_at, drop_at}
 use Rattle.std.proofs.lemmas.List.Elements.{filter_map-append}
@@ -16,8 +15,9 @@ use Rattle.otlp_tree.specs.declared.tree.Shape.{Shape}
 use Rattle.target_core.specs.declared.markers.Marker.{Marker}
 use Rattle.target_core.specs.Points.{point_at, point_of, points_with}
 use Rattle.target_core.specs.Markers.{shape_with, metric_with, markers_of, markers_left, marker_metrics, with_markers}
-use Rattle.target_core.specs.MarkerGroups.{GroupedMarkers, marker_groups, no_group, placed_at, alone_metric, identity_bytes, group_identity}
+use Rattle.target_core.specs.MarkerGroups.{GroupedMarkers, marker_groups, no_group, placed_at, alone_metric, identity_bytes, IsPlaceOf}
 use Rattle.target_core.specs.Trees.{shape_of, metric_of, family_metric, kind_metric, event_metrics}
+use Rattle.target_core.specs.PlacedMarkers.{IsPlacedMetric, ArePlacedMetrics}
 use Rattle.target_core.proofs.Placing.{one_more}
 use Rattle.target_core.proofs.Grouped.{found_markers, found_placed, absent_markers, absent_placed, alone_metrics}
 
@@ -76,35 +76,41 @@ metric_named start moment f first m e is = go f.readings e is
 abbrev markers_there : List GroupedMarkers → Option ℕ → List Marker
 markers_there groups place = option_map_or (λ at. (get_or groups at no_group).markers) place []
 
--- the place of an identity among groups
-abbrev IsPlace : List GroupedMarkers → List ℕ → Option ℕ → Type 0
-IsPlace groups bytes place = MatchOption place (list_any (bytes_eq bytes) (map group_identity groups) ≡ false) (λ at. slice_get (map group_identity groups) at ≡ Some bytes)
-
 module _ (before : List (Kind × Metric)) (kind : Kind) (m : Metric) (ms : List Marker) (groups : List GroupedMarkers) (is : groups ≡ marker_groups before ms) where
-  there_markers : (place : Option ℕ) → IsPlace groups (identity_bytes m.name kind m.unit) place → markers_there groups place ≡ markers_of kind m ms
+  there_markers : (place : Option ℕ) → IsPlaceOf (identity_bytes m.name kind m.unit) groups place → markers_there groups place ≡ markers_of kind m ms
   there_markers None e = absent_markers before kind m ms groups is e
   there_markers (Some at) e = found_markers before kind m ms groups is at no_group e
 
-  there_placed : (place : Option ℕ) → IsPlace groups (identity_bytes m.name kind m.unit) place → placed_at true place groups ≡ marker_groups (before ++ (kind, m) ∷ []) ms
+  there_placed : (place : Option ℕ) → IsPlaceOf (identity_bytes m.name kind m.unit) groups place → placed_at true place groups ≡ marker_groups (before ++ (kind, m) ∷ []) ms
   there_placed None e = absent_placed before kind m ms groups is e
   there_placed (Some at) e = found_placed before kind m ms groups is at no_group e
 
--- what the metric of a family and the groups behind it are
-abbrev pub IsPlacedMetric : (Reading → Option ℕ) → ℕ → Family → List Marker → List (Kind × Metric) → Option Metric → List GroupedMarkers → Type 0
-IsPlacedMetric start moment f ms before metric after =
-    (metric ≡ option_map (λ (m : Metric). with_markers ms f.kind m) (family_metric start moment f)) × (after ≡ marker_groups (before ++ filter_map (kind_metric start moment) (f ∷ [])) ms)
+-- a family without readings has no metric, and the groups stay
+pub none_placed : (start : Reading → Option ℕ) (moment : ℕ) (f : Family) (slice : List Reading) (ms : List Marker) (before : List (Kind × Metric)) (groups : List GroupedMarkers)
+    → slice ≡ f.readings → None ≡ slice_get slice 0 → groups ≡ marker_groups before ms → IsPlacedMetric start moment f ms before None groups
+none_placed start moment f slice ms before groups same none is = go f.readings refl (ap (λ l. slice_get l 0) (sym same) ∙ sym none)
+  where
+    go : (rs : List Reading) → f.readings ≡ rs → slice_get rs 0 ≡ None → IsPlacedMetric start moment f ms before None groups
+    go [] e n = record {
+      metric_is = sym (ap (λ rs. option_map (λ (m : Metric). with_markers ms f.kind m) (metric_of start moment f.kind f.help rs)) e);
+      groups_are = is ∙ ap (λ l. marker_groups l ms) (sym (append-nil before))
+          ∙ sym (ap (λ rs. marker_groups (before ++ cons_option (option_map (λ (m : Metric). (f.kind, m)) (metric_of start moment f.kind f.help rs)) []) ms) e);
+    }
+    go (r ∷ rs) e n = absurd cc
 
 placed_step : (start : Reading → Option ℕ) (moment : ℕ) (f : Family) (first : Reading) (ms : List Marker) (before : List (Kind × Metric)) (place : Option ℕ) (groups after : List GroupedMarkers) (markers : List Marker) (metric : Option Metric)
-    → slice_get f.readings 0 ≡ Some first → groups ≡ marker_groups before ms → IsPlace groups (identity_bytes first.key.name f.kind first.key.unit) place → markers ≡ markers_there groups place
+    → slice_get f.readings 0 ≡ Some first → groups ≡ marker_groups before ms → IsPlaceOf (identity_bytes first.key.name f.kind first.key.unit) groups place → markers ≡ markers_there groups place
     → metric ≡ option_map (metric_with markers) (family_metric start moment f) → after ≡ placed_at (is_some metric) place groups → IsPlacedMetric start moment f ms before metric after
-placed_step start moment f first ms before place groups after markers metric front is here own has then = go (family_metric start moment f) refl has
+placed_step start moment f first ms before place groups after markers metric front is here own has then =
+    let both = go (family_metric start moment f) refl has in
+    record { metric_is = both.0; groups_are = both.1 }
   where
     go : (o : Option Metric) → family_metric start moment f ≡ o → metric ≡ option_map (metric_with markers) o
         → (metric ≡ option_map (λ (m : Metric). with_markers ms f.kind m) o) × (after ≡ marker_groups (before ++ cons_option (option_map (λ (m : Metric). (f.kind, m)) o) []) ms)
     go None e h = (h, then ∙ ap (λ (x : Option Metric). placed_at (is_some x) place groups) h ∙ is ∙ ap (λ l. marker_groups l ms) (sym (append-nil before)))
     go (Some m) e h =
         let n = metric_named start moment f first m front e in
-        let there : IsPlace groups (identity_bytes m.name f.kind m.unit) place = subst (λ (b : List ℕ). IsPlace groups b place) (λ i. identity_bytes (sym n.name_is i) f.kind (sym n.unit_is i)) here in (
+        let there : IsPlaceOf (identity_bytes m.name f.kind m.unit) groups place = subst (λ (b : List ℕ). IsPlaceOf b groups place) (λ i. identity_bytes (sym n.name_is i) f.kind (sym n.unit_is i)) here in (
           h ∙ ap (λ l. Some (metric_with l m)) (own ∙ there_markers before f.kind m ms groups is place there),
           then ∙ ap (λ (x : Option Metric). placed_at (is_some x) place groups) h ∙ there_placed before f.kind m ms groups is place there,
         )
@@ -112,11 +118,11 @@ placed_step start moment f first ms before place groups after markers metric fro
 -- the same, with what was read on the way
 pub placed_here : (start : Reading → Option ℕ) (moment : ℕ) (f : Family) (slice : List Reading) (first : Reading) (name unit : List ℕ) (ms : List Marker) (before : List (Kind × Metric)) (place : Option ℕ) (old groups after : List GroupedMarkers)
     (markers : List Marker) (metric : Option Metric) (is_there : Bool)
-    → slice ≡ f.readings → Some first ≡ slice_get slice 0 → name ≡ first.key.name → unit ≡ first.key.unit → old ≡ marker_groups before ms → IsPlace old (identity_bytes name f.kind unit) place → groups ≡ old → markers ≡ markers_there groups place
+    → slice ≡ f.readings → Some first ≡ slice_get slice 0 → name ≡ first.key.name → unit ≡ first.key.unit → old ≡ marker_groups before ms → IsPlaceOf (identity_bytes name f.kind unit) old place → groups ≡ old → markers ≡ markers_there groups place
     → metric ≡ option_map (metric_with markers) (family_metric start moment f) → is_there ≡ is_some metric → after ≡ placed_at is_there place groups → IsPlacedMetric start moment f ms before metric after
 placed_here start moment f slice first name unit ms before place old groups after markers metric is_there same front name_is unit_is is here kept own has told then =
     placed_step start moment f first ms before place old after markers metric (ap (λ l. slice_get l 0) (sym same) ∙ sym front) is
-    (subst (λ (b : List ℕ). IsPlace old b place) (λ i. identity_bytes (name_is i) f.kind (unit_is i)) here) (own ∙ ap (λ l. markers_there l place) kept)
+    (subst (λ (b : List ℕ). IsPlaceOf b old place) (λ i. identity_bytes (name_is i) f.kind (unit_is i)) here) (own ∙ ap (λ l. markers_there l place) kept)
     has (then ∙ (λ i. placed_at (told i) place (kept i)))
 
 -- ---- the metrics of families, one after the other
@@ -156,9 +162,9 @@ family_passed : (start : Reading → Option ℕ) (moment : ℕ) (ms : List Marke
     → ArePassed start moment ms passed (f ∷ later) metrics starts groups → IsPlacedMetric start moment f ms (filter_map (kind_metric start moment) passed) metric after
     → more ≡ metrics ++ cons_option metric [] → rest ≡ drop (length f.readings) starts → ArePassed start moment ms (passed ++ f ∷ []) later more rest after
 family_passed start moment ms passed later f metrics more starts rest groups after metric are own is behind = record {
-  metrics_are = is ∙ metric_behind start moment ms passed f metrics metric are.metrics_are own.0;
+  metrics_are = is ∙ metric_behind start moment ms passed f metrics metric are.metrics_are own.metric_is;
   starts_are = behind ∙ later_starts start f later starts are.starts_are;
-  groups_are = own.1 ∙ ap (λ l. marker_groups l ms) (sym (filter_map-append (kind_metric start moment) passed (f ∷ [])));
+  groups_are = own.groups_are ∙ ap (λ l. marker_groups l ms) (sym (filter_map-append (kind_metric start moment) passed (f ∷ [])));
 }
 
 -- the families behind the front, where one of them is read
@@ -178,15 +184,15 @@ page_step start moment ms fs i f metrics more starts own rest groups after metri
 
 -- behind the last one
 pub all_passed : (start : Reading → Option ℕ) (moment : ℕ) (ms : List Marker) (fs : List Family) (i : ℕ) (metrics : List Metric) (starts : List (Option ℕ)) (groups : List GroupedMarkers)
-    → take i fs ≡ fs → ArePassed start moment ms (take i fs) (drop i fs) metrics starts groups
-    → (metrics ≡ map (λ (p : Kind × Metric). with_markers ms p.0 p.1) (filter_map (kind_metric start moment) fs)) × (groups ≡ marker_groups (filter_map (kind_metric start moment) fs) ms)
-all_passed start moment ms fs i metrics starts groups all are =
-    (are.metrics_are ∙ ap (λ l. map (λ (p : Kind × Metric). with_markers ms p.0 p.1) (filter_map (kind_metric start moment) l)) all, are.groups_are ∙ ap (λ l. marker_groups (filter_map (kind_metric start moment) l) ms) all)
+    → take i fs ≡ fs → ArePassed start moment ms (take i fs) (drop i fs) metrics starts groups → ArePlacedMetrics start moment fs ms metrics groups
+all_passed start moment ms fs i metrics starts groups all are = record {
+  metrics_are = are.metrics_are ∙ ap (λ l. map (λ (p : Kind × Metric). with_markers ms p.0 p.1) (filter_map (kind_metric start moment) l)) all;
+  groups_are = are.groups_are ∙ ap (λ l. marker_groups (filter_map (kind_metric start moment) l) ms) all;
+}
 
 -- the metrics of an event: those of the page, and those of markers alone
 pub event_metrics_are : (start : Reading → Option ℕ) (moment : ℕ) (ms : List Marker) (page : Page) (fs : List Family) (metrics all : List Metric) (groups seen : List GroupedMarkers)
-    → fs ≡ page.families → (metrics ≡ map (λ (p : Kind × Metric). with_markers ms p.0 p.1) (filter_map (kind_metric start moment) fs)) × (groups ≡ marker_groups (filter_map (kind_metric start moment) fs) ms)
-    → seen ≡ groups → all ≡ metrics ++ filter_map alone_metric seen → all ≡ event_metrics start ms moment page
+    → fs ≡ page.families → ArePlacedMetrics start moment fs ms metrics groups → seen ≡ groups → all ≡ metrics ++ filter_map alone_metric seen → all ≡ event_metrics start ms moment page
 event_metrics_are start moment ms page fs metrics all groups seen same are told is =
-    is ∙ (λ i. are.0 i ++ filter_map alone_metric ((told ∙ are.1) i)) ∙ ap (λ l. map (λ (p : Kind × Metric). with_markers ms p.0 p.1) (filter_map (kind_metric start moment) fs) ++ l) (alone_metrics (filter_map (kind_metric start moment) fs) ms)
+    is ∙ (λ i. are.metrics_are i ++ filter_map alone_metric ((told ∙ are.groups_are) i)) ∙ ap (λ l. map (λ (p : Kind × Metric). with_markers ms p.0 p.1) (filter_map (kind_metric start moment) fs) ++ l) (alone_metrics (filter_map (kind_metric start moment) fs) ms)
     ∙ ap (λ l. map (λ (p : Kind × Metric). with_markers ms p.0 p.1) (filter_map (kind_metric start moment) l) ++ marker_metrics (markers_left (filter_map (kind_metric start moment) l) ms)) same

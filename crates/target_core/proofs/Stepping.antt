@@ -1,9 +1,8 @@
 -- One event more: the starts and the markers that a state gives are those of the events for which it stands.
 use Rattle.std.proofs.Common.{◌≡◌, ℕ, ◌+◌, ◌<◌, Bool, true, false, cond, ◌||◌, List, [], ◌∷◌, ◌++◌, map, filter, find, take, length, get_or, Option, Some, None, option_map, option_and_then, refl, sym, ap, subst, ◌∙◌, is_some}
 use Rattle.std.specs.Prelude.{Result, Ok, Err, IfOk}
-use Rattle.std.specs.List.{list_any, IsDistinct}
+use Rattle.std.specs.List.{list_any}
 use Rattle.std.proofs.lemmas.List.{map-append, get_or-map}
-use Rattle.std.specs.Map.{keys_of as row_keys}
 use Rattle.std.proofs.lemmas.Bool.{or_left, or_right}
 use Rattle.label_sets.specs.declared.series_key.SeriesKey.{SeriesKey}
 use Rattle.label_sets.specs.Keys.{key_eq}
@@ -20,13 +19,13 @@ use Rattle.start_times.specs.Starts.{Tracking, has_start, reading_start, start_t
 use Rattle.start_times.specs.Rows.{Tracked, Tracks, row_of, kept_row, kept_start}
 use Rattle.start_times.specs.Advancing.{Advances, HasDistinctKeys, scrape_of}
 use Rattle.start_times.proofs.Laws.{row_of_sight, reading_is_of}
-use Rattle.staleness.specs.Vanished.{is_gone, keys_gone}
+use Rattle.staleness.specs.Vanished.{is_gone}
 use Rattle.otlp_tree.specs.declared.tree.Request.{Request}
 use Rattle.bridge_ports.specs.Targets.{Scraped}
 use Rattle.target_core.specs.declared.markers.Marker.{Marker}
 use Rattle.target_core.specs.Trees.{request_of, up_of}
-use Rattle.target_core.specs.Events.{marker_with, markers_at, request_after, latest_shown, first_start, event_request}
-use Rattle.target_core.specs.States.{Following, StandsFor, Steps, told_scrapes}
+use Rattle.target_core.specs.Events.{marker_with, markers_at, kept_markers, request_after, latest_shown, first_start, event_request}
+use Rattle.target_core.specs.States.{Following, StandsFor, ComesTo, IsTreeBehind, Steps, told_scrapes}
 use Rattle.target_core.proofs.EmptyPast.{empty_past}
 use Rattle.target_core.proofs.Placing.{one_more}
 
@@ -69,9 +68,9 @@ kept_there t k (last ∷ before) key tracks present = ap (option_map (λ (row : 
     by (Some r) e h = of_kind r (has_start key.kind) e refl
 
 -- the markers with the starts that rows keep are those of the events
-pub kept_markers : (t : Tracking) (k : Tracked) (past : List Scrape) (now : Scrape) → Tracks t k past → map (marker_with (kept_start k.rows) now.moment) (keys_gone (last_page past) now.page) ≡ markers_at t past now
+markers_are_kept : (t : Tracking) (k : Tracked) (past : List Scrape) (now : Scrape) → Tracks t k past → kept_markers k.rows now.moment (last_page past) now.page ≡ markers_at t past now
 unfolding marker_with
-kept_markers t k past now tracks = same_starts (is_gone now.page) (marker_with (kept_start k.rows) now.moment) (marker_with (start_there t past) now.moment) (keys_of (last_page past))
+markers_are_kept t k past now tracks = same_starts (is_gone now.page) (marker_with (kept_start k.rows) now.moment) (marker_with (start_there t past) now.moment) (keys_of (last_page past))
     (λ key among. ap (λ s. record { key = key; start = s; time = now.moment }) (kept_there t k past key tracks (sym (any_of_keys key (all_readings (last_page past))) ∙ among)))
 
 -- ---- the rows behind all scrapes
@@ -99,44 +98,43 @@ none_told : (b : Bool) → told_scrapes b [] ≡ []
 none_told true = refl
 none_told false = refl
 
-pub first_steps : (old new : Following) (e : Event) (moment up : ℕ) (page : Page) (request : Request) → old.moment ≡ None → moment ≡ moment_after None e.reading → up ≡ up_of e.outcome → page ≡ page_of_outcome e.outcome
+pub first_steps : (old new : Following) (e : Event) (moment up : ℕ) (page : Page) (request : Request) → old.moment ≡ None → ComesTo None e moment up page
     → request ≡ request_of old.target (first_start moment) [] moment up page → new ≡ record { target = old.target; tracked = old.tracked; pending = true; page = page; moment = Some moment } → Steps old e request new
 unfolding event_request scrape_after
-first_steps old new e moment up page request none moment_is up_is page_is is then target t earlier stands distinct =
+first_steps old new e moment up page request none comes is then target t earlier stands distinct =
     let nothing : earlier ≡ [] = no_events old target t earlier none stands in
     let first : StandsFor target t old [] = subst (λ (l : List Event). StandsFor target t old l) nothing stands in
     subst (λ (l : List Event). (request ≡ request_after target t l e) × StandsFor target t new (e ∷ l)) (sym nothing) (
-      is ∙ (λ i. request_of (stands.target_is i) (first_start (moment_is i)) [] (moment_is i) (up_is i) (page_is i)) ∙ sym (empty_past target t e),
+      is ∙ (λ i. request_of (stands.target_is i) (first_start (comes.moment_is i)) [] (comes.moment_is i) (comes.up_is i) (comes.page_is i)) ∙ sym (empty_past target t e),
       subst (λ (s : Following). StandsFor target t s (e ∷ [])) (sym then) (record {
         target_is = stands.target_is;
         tracks = subst (Tracks t old.tracked) (none_told old.pending) first.tracks;
-        distinct = λ p. subst HasDistinctKeys (sym page_is) distinct;
-        page_is = page_is;
-        moment_is = ap Some moment_is;
+        distinct = λ p. subst HasDistinctKeys (sym comes.page_is) distinct;
+        page_is = comes.page_is;
+        moment_is = ap Some comes.moment_is;
       }),
     )
 
 pub later_steps : (old new : Following) (e : Event) (before moment up : ℕ) (page : Page) (request : Request) (k next : Tracked) (starts : Starts)
-    → old.moment ≡ Some before → moment ≡ moment_after (Some before) e.reading → up ≡ up_of e.outcome → page ≡ page_of_outcome e.outcome
+    → old.moment ≡ Some before → ComesTo (Some before) e moment up page
     → ((target : Scraped) (t : Tracking) (events : List Event) → StandsFor target t old events → Tracks t k (scrapes_of events)) → Advances k page moment starts next
-    → ((start : Reading → Option ℕ) → starts.list ≡ map start (all_readings page) → IsDistinct key_eq (row_keys k.rows)
-    → request ≡ request_of old.target start (map (marker_with (kept_start k.rows) moment) (keys_gone old.page page)) moment up page)
+    → IsTreeBehind old k.rows moment up page starts.list request
     → new ≡ record { target = old.target; tracked = next; pending = false; page = page; moment = Some moment } → Steps old e request new
 unfolding request_after scrape_after
-later_steps old new e before moment up page request k next starts at moment_is up_is page_is told step is then target t earlier stands distinct =
+later_steps old new e before moment up page request k next starts at comes told step is then target t earlier stands distinct =
     let past = scrapes_of earlier in
     let tracks : Tracks t k past = told target t earlier stands in
-    let now : scrape_of page moment ≡ scrape_after past e = λ i. record { moment = (moment_is ∙ ap (λ m. moment_after m e.reading) (sym at ∙ stands.moment_is)) i; page = page_is i } in
-    let own = step t past tracks (subst HasDistinctKeys (sym page_is) distinct) in
-    let ms = map (marker_with (kept_start k.rows) moment) (keys_gone old.page page) in
-    let ms_are : ms ≡ markers_at t past (scrape_of page moment) = ap (λ p. map (marker_with (kept_start k.rows) moment) (keys_gone p page)) stands.page_is ∙ kept_markers t k past (scrape_of page moment) tracks in (
+    let now : scrape_of page moment ≡ scrape_after past e = λ i. record { moment = (comes.moment_is ∙ ap (λ m. moment_after m e.reading) (sym at ∙ stands.moment_is)) i; page = comes.page_is i } in
+    let own = step t past tracks (subst HasDistinctKeys (sym comes.page_is) distinct) in
+    let ms_are : kept_markers k.rows moment old.page page ≡ markers_at t past (scrape_of page moment) =
+    ap (λ p. kept_markers k.rows moment p page) stands.page_is ∙ markers_are_kept t k past (scrape_of page moment) tracks in (
       is (reading_start t past moment) own.0 tracks.once
-          ∙ (λ i. request_of (stands.target_is i) (reading_start t past (now i).moment) ((ms_are ∙ ap (markers_at t past) now) i) (now i).moment (up_is i) (now i).page),
+          ∙ (λ i. request_of (stands.target_is i) (reading_start t past (now i).moment) ((ms_are ∙ ap (markers_at t past) now) i) (now i).moment (comes.up_is i) (now i).page),
       subst (λ (s : Following). StandsFor target t s (e ∷ earlier)) (sym then) (record {
         target_is = stands.target_is;
         tracks = subst (λ (s : Scrape). Tracks t next (s ∷ past)) now own.1;
         distinct = λ p. absurd cc;
-        page_is = page_is;
+        page_is = comes.page_is;
         moment_is = ap (λ (s : Scrape). Some s.moment) now;
       }),
     )

@@ -3,11 +3,14 @@
 use Rattle.std.specs.Prelude.{ℕ, List, [], ◌∷◌, map, unwrap_or, Option, Some, None, if◌then◌else◌}
 use Rattle.label_sets.specs.declared.series_key.SeriesKey.{SeriesKey}
 use Rattle.page_model.specs.declared.page.Reading.{Reading}
+use Rattle.page_model.specs.declared.page.Page.{Page}
 use Rattle.page_model.specs.declared.event.Outcome.{Outcome}
 use Rattle.page_model.specs.declared.event.Event.{Event}
 use Rattle.page_model.specs.declared.event.Shown.{Shown}
+use Rattle.start_times.specs.declared.row.Row.{Row}
 use Rattle.start_times.specs.Scrapes.{Scrape, last_moment, last_page, scrape_after, scrapes_of}
 use Rattle.start_times.specs.Starts.{Tracking, has_start, created_at, reading_start, start_there}
+use Rattle.start_times.specs.Rows.{kept_start}
 use Rattle.staleness.specs.Vanished.{keys_gone}
 use Rattle.otlp_tree.specs.declared.tree.Request.{Request}
 use Rattle.bridge_ports.specs.Targets.{Scraped}
@@ -21,6 +24,10 @@ marker_with start moment key = record { key = key; start = start key; time = mom
 -- the markers of a scrape: of each series that the scrape before had and this one lacks, with the start that it had there
 abbrev pub markers_at : Tracking → List Scrape → Scrape → List Marker
 markers_at t past now = map (marker_with (start_there t past) now.moment) (keys_gone (last_page past) now.page)
+
+-- the markers of the series that the page before has and the page now lacks, with the starts that these rows keep
+abbrev pub kept_markers : List (SeriesKey × Row) → ℕ → Page → Page → List Marker
+kept_markers rows moment before now = map (marker_with (kept_start rows) moment) (keys_gone before now)
 
 -- the tree of an event behind these earlier events
 unfoldable pub request_after : Scraped → Tracking → List Event → Event → Request

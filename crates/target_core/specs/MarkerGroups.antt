@@ -1,7 +1,8 @@
 -- The markers of a scrape by their metrics, as the tree is made of them.
 -- OpenTelemetry metrics data model, "Timeseries Model" (identity). The bytes of an identity are the bridge's own.
-use Rattle.std.specs.Prelude.{ℕ, Bool, true, false, Option, Some, None, option_map, get_or, set, if◌then◌else◌, List, [], ◌∷◌, ◌++◌, map, filter}
+use Rattle.std.specs.Prelude.{◌≡◌, ℕ, Bool, true, false, Option, Some, None, MatchOption, option_map, get_or, set, slice_get, if◌then◌else◌, List, [], ◌∷◌, ◌++◌, map, filter}
 use Rattle.std.specs.List.{flat_map, list_any}
+use Rattle.std.specs.Str.{bytes_eq}
 use Rattle.label_sets.specs.declared.kind.Kind.{Kind}
 use Rattle.label_sets.specs.declared.kind.Kind.TheVariants.{Unknown}
 use Rattle.label_sets.specs.declared.series_key.SeriesKey.{SeriesKey}
@@ -73,3 +74,7 @@ key_identity key = identity_bytes key.name key.kind key.unit
 -- those of the metric of markers
 abbrev pub group_identity : GroupedMarkers → List ℕ
 group_identity g = key_identity g.first
+
+-- the place of the group with these bytes, where there is one
+abbrev pub IsPlaceOf : List ℕ → List GroupedMarkers → Option ℕ → Type 0
+IsPlaceOf bytes groups place = MatchOption place (list_any (bytes_eq bytes) (map group_identity groups) ≡ false) (λ at. slice_get (map group_identity groups) at ≡ Some bytes)

@@ -1,17 +1,24 @@
 -- What a target's state stands for.
 -- The bridge's own.
-use Rattle.std.specs.Prelude.{◌≡◌, ℕ, ◌<◌, ◌-◌, ◌^◌, Bool, true, false, List, [], ◌∷◌, Option, Some, None, ⊤, Result, IfOk}
+use Rattle.std.specs.Prelude.{◌≡◌, ℕ, ◌<◌, ◌-◌, ◌^◌, Bool, true, false, List, [], ◌∷◌, map, Option, Some, None, ⊤, Result, IfOk}
+use Rattle.std.specs.List.{IsDistinct}
+use Rattle.std.specs.Map.{keys_of as row_keys}
+use Rattle.label_sets.specs.declared.series_key.SeriesKey.{SeriesKey}
+use Rattle.label_sets.specs.Keys.{key_eq}
+use Rattle.page_model.specs.declared.page.Reading.{Reading}
 use Rattle.page_model.specs.declared.page.Page.{Page}
 use Rattle.page_model.specs.declared.event.Event.{Event}
 use Rattle.page_model.specs.declared.event.Shown.{Shown}
-use Rattle.page_model.specs.Presence.{page_of_outcome}
+use Rattle.page_model.specs.Presence.{all_readings, page_of_outcome}
+use Rattle.start_times.specs.declared.row.Row.{Row}
 use Rattle.start_times.specs.Scrapes.{Scrape, last_moment, last_page, moment_after, scrapes_of}
 use Rattle.start_times.specs.Starts.{Tracking}
 use Rattle.start_times.specs.Rows.{Tracked, Tracks}
 use Rattle.start_times.specs.Advancing.{HasDistinctKeys}
 use Rattle.otlp_tree.specs.declared.tree.Request.{Request}
 use Rattle.bridge_ports.specs.Targets.{Scraped}
-use Rattle.target_core.specs.Events.{request_after, event_request, latest_shown}
+use Rattle.target_core.specs.Trees.{up_of, request_of}
+use Rattle.target_core.specs.Events.{kept_markers, request_after, event_request, latest_shown}
 
 -- a state as its contracts see it: the target, what is kept of its series, whether its last page is still to be put among that,
 -- that page, and its last moment, where there was one
@@ -44,6 +51,17 @@ HasNextMoment (Some moment) = moment < 2 ^ 64 - 1
 -- the state of the same target behind an event with this page and this moment, of whose series this is kept
 abbrev pub next_state : Following → Tracked → Page → ℕ → Following
 next_state before tracked page moment = record { target = before.target; tracked = tracked; pending = false; page = page; moment = Some moment }
+
+-- behind a scrape at the moment `before`, or behind none, the event comes to this moment, to 1 or 0 for whether its scrape gave a page, and to this page
+pub record ComesTo (before : Option ℕ) (e : Event) (moment up : ℕ) (page : Page) : Type 0 where
+  pub moment_is : moment ≡ moment_after before e.reading
+  pub up_is : up ≡ up_of e.outcome
+  pub page_is : page ≡ page_of_outcome e.outcome
+
+-- where these are the starts of the page's readings, and no series has two rows: the tree has those starts, and the markers of the series that the page lacks
+abbrev pub IsTreeBehind : Following → List (SeriesKey × Row) → ℕ → ℕ → Page → List (Option ℕ) → Request → Type 0
+IsTreeBehind s rows moment up page starts tree = (start : Reading → Option ℕ) → starts ≡ map start (all_readings page) → IsDistinct key_eq (row_keys rows)
+    → tree ≡ request_of s.target start (kept_markers rows moment s.page page) moment up page
 
 -- behind all events for which the state stood: the tree is that of the event, and the state that follows stands for one event more
 abbrev pub Steps : Following → Event → Request → Following → Type 0

@@ -21,7 +21,7 @@ use Rattle.otlp_tree.specs.declared.tree.Shape.TheVariants as shapes
 use Rattle.bridge_ports.specs.Targets.{Scraped}
 use Rattle.target_core.specs.declared.markers.Marker.{Marker}
 use Rattle.target_core.specs.Points.{Point, point_of, number_point, histogram_point, summary_point}
-use Rattle.target_core.specs.Markers.{with_markers, markers_left, marker_metrics}
+use Rattle.target_core.specs.Markers.{metric_with, with_markers, markers_left, marker_metrics}
 
 -- what a function gives of values, where it gives something
 abbrev pub some_of : {X Y : Type 0} → (X → Option Y) → List X → Option (List Y)
@@ -55,6 +55,10 @@ metric_of start moment kind help (first ∷ rest) = option_map (λ shape. record
 -- the metric of a family
 abbrev pub family_metric : (Reading → Option ℕ) → ℕ → Family → Option Metric
 family_metric start moment f = metric_of start moment f.kind f.help f.readings
+
+-- the same, and these markers behind its points
+abbrev pub family_metric_with : List Marker → (Reading → Option ℕ) → ℕ → Family → Option Metric
+family_metric_with ms start moment f = option_map (metric_with ms) (family_metric start moment f)
 
 -- the metric of a family with its kind
 abbrev pub kind_metric : (Reading → Option ℕ) → ℕ → Family → Option (Kind × Metric)

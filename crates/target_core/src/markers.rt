@@ -1,10 +1,10 @@
 //! Series that are gone, by the metrics that they belong to.
-ghost use Rattle.std.specs.Prelude.{◌≡◌, ◌<◌, ◌++◌, ◌∷◌, [], List, length, map, Some, IfOk, OnOk, OnErr, IfSome, MatchOption, slice_get, get_or, set, false};
+ghost use Rattle.std.specs.Prelude.{◌≡◌, ◌<◌, ◌++◌, ◌∷◌, [], List, length, IfOk, OnOk, OnErr, IfSome, get_or, false};
 ghost use Rattle.std.specs.Option.{option_map_or};
 ghost use Rattle.std.specs.List.{list_any};
 ghost use Rattle.std.specs.Str.{bytes_eq};
 ghost use Rattle.target_core.specs.declared.markers.Marker.{Marker as AnyMarker};
-ghost use Rattle.target_core.specs.MarkerGroups.{marker_groups, identity_bytes, group_identity, no_group, first_group, with_marker, placed_group, placed_at};
+ghost use Rattle.target_core.specs.MarkerGroups.{marker_groups, identity_bytes, no_group, first_group, with_marker, placed_group, placed_at, IsPlaceOf};
 
 use byte_table::ByteTable;
 use label_sets::{Kind, Memory, SeriesKey};
@@ -176,9 +176,7 @@ impl MarkerGroups {
         unit: &[u8],
     ) -> Result<Option<usize>, Memory>
         ensures same { self.new ≡ self.old }
-        ensures place { IfOk result (λ place. MatchOption place
-            (list_any (bytes_eq (identity_bytes name.now kind unit.now)) (map group_identity self.old) ≡ false)
-            (λ at. slice_get (map group_identity self.old) at ≡ Some (identity_bytes name.now kind unit.now))) }
+        ensures place { IfOk result (IsPlaceOf (identity_bytes name.now kind unit.now) self.old) }
     {
         if self.identities.is_empty() {
             return Ok(None);

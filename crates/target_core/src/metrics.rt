@@ -138,7 +138,7 @@ pub(crate) fn family_metric(
 ) -> Result<Option<Metric>, Memory>
     requires { MayAllBeLaidOut family.now.readings }
     ensures { (start : AnyReading → Option ℕ) → starts.now ≡ map start family.now.readings
-        → IfOk result (λ metric. metric ≡ option_map (marks.metric_with markers.now) (trees.family_metric start moment family.now)) }
+        → IfOk result (λ metric. metric ≡ trees.family_metric_with markers.now start moment family.now) }
 {
     let readings = family.readings.as_slice();
     let Some(first) = readings.first() else {

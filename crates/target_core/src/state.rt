@@ -1,19 +1,17 @@
 //! What is kept of a target between its scrapes.
-ghost use Rattle.std.specs.Prelude.{◌≡◌, ◌≤◌, ℕ, List as Seq, [], Option, Some, None, map, IfOk, OnOk, OnErr};
+ghost use Rattle.std.specs.Prelude.{◌≡◌, ◌≤◌, List as Seq, [], Some, None, IfOk, OnOk, OnErr};
 ghost use Rattle.std.specs.List.{IsDistinct};
 ghost use Rattle.std.specs.Map.{keys_of};
 ghost use Rattle.label_sets.specs.Keys.{key_eq};
 ghost use Rattle.page_model.specs.declared.event.Event.{Event as AnyEvent};
-ghost use Rattle.page_model.specs.declared.page.Reading.{Reading as AnyReading};
-ghost use Rattle.page_model.specs.Presence.{all_readings, page_of_outcome};
+ghost use Rattle.page_model.specs.Presence.{page_of_outcome};
 ghost use Rattle.start_times.specs.Scrapes as scrapes;
 ghost use Rattle.start_times.specs.Starts.{Tracking};
-ghost use Rattle.start_times.specs.Rows.{Tracks, kept_start};
-ghost use Rattle.staleness.specs.Vanished.{keys_gone};
+ghost use Rattle.start_times.specs.Rows.{Tracks};
 ghost use Rattle.bridge_ports.specs.Targets.{Scraped as AnyScraped};
-ghost use Rattle.target_core.specs.Events.{marker_with, first_start};
+ghost use Rattle.target_core.specs.Events.{kept_markers, first_start};
 ghost use Rattle.target_core.specs.MarkerGroups.{marker_groups};
-ghost use Rattle.target_core.specs.States.{Steps, StandsFor, HasNextMoment, next_state, IsFirstTree, ShowsLatest};
+ghost use Rattle.target_core.specs.States.{ComesTo, IsTreeBehind, Steps, StandsFor, HasNextMoment, next_state, IsFirstTree, ShowsLatest};
 ghost use Rattle.target_core.specs.Trees.{up_of, request_of};
 
 use crate::gone::gather;
@@ -85,7 +83,7 @@ fn gone_groups(
     moment: u64,
 ) -> Result<MarkerGroups, Memory>
     ensures { IfOk result (λ groups. IsDistinct key_eq (keys_of tracker.now.rows)
-        → groups ≡ marker_groups [] (map (marker_with (kept_start tracker.now.rows) moment) (keys_gone before.now now.now))) }
+        → groups ≡ marker_groups [] (kept_markers tracker.now.rows moment before.now now.now)) }
 {
     let gone = vanished(alloc, before, Some(now))?;
     let starts = tracker.starts_of(alloc, &gone)?;
@@ -158,8 +156,7 @@ impl TargetState {
         page: Page,
     ) -> Result<Request, Memory>
         requires { self.old.moment ≡ None }
-        ensures ok { (e : AnyEvent) → moment ≡ scrapes.moment_after None e.reading → up ≡ up_of e.outcome → page ≡ page_of_outcome e.outcome
-            → IfOk result (λ request. Steps self.old e request self.new) }
+        ensures ok { (e : AnyEvent) → ComesTo None e moment up page → IfOk result (λ request. Steps self.old e request self.new) }
         ensures moment { OnOk result (self.new.moment ≡ Some moment) }
         ensures tree { IfOk result (λ request. request ≡ request_of self.old.target (first_start moment) [] moment up page) }
         ensures err { OnErr result (self.new ≡ self.old) }
@@ -181,8 +178,7 @@ impl TargetState {
         page: &Page,
         starts: &[Option<u64>],
     ) -> Result<Request, Memory>
-        ensures { (start : AnyReading → Option ℕ) → starts.now ≡ map start (all_readings page.now) → IsDistinct key_eq (keys_of tracker.now.rows)
-            → IfOk result (λ tree. tree ≡ request_of self.now.target start (map (marker_with (kept_start tracker.now.rows) moment) (keys_gone self.now.page page.now)) moment up page.now) }
+        ensures { IfOk result (IsTreeBehind self.now tracker.now.rows moment up page.now starts.now) }
     {
         let groups = gone_groups(alloc, tracker, &self.page, page, moment)?;
         let tree = request(alloc, &self.target, moment, up, page, starts, groups)?;
@@ -199,7 +195,7 @@ impl TargetState {
         page: &Page,
     ) -> Result<(Request, Tracker), Memory>
         requires { self.now.moment ≡ Some before }
-        ensures { (e : AnyEvent) → moment ≡ scrapes.moment_after (Some before) e.reading → up ≡ up_of e.outcome → page.now ≡ page_of_outcome e.outcome
+        ensures { (e : AnyEvent) → ComesTo (Some before) e moment up page.now
             → IfOk result (λ r. Steps self.now e r.0 (next_state self.now r.1 page.now moment)) }
     {
         let tracker = self.told_tracker(alloc, before)?;
@@ -219,8 +215,7 @@ impl TargetState {
         page: Page,
     ) -> Result<Request, Memory>
         requires { self.old.moment ≡ Some before }
-        ensures ok { (e : AnyEvent) → moment ≡ scrapes.moment_after (Some before) e.reading → up ≡ up_of e.outcome → page ≡ page_of_outcome e.outcome
-            → IfOk result (λ request. Steps self.old e request self.new) }
+        ensures ok { (e : AnyEvent) → ComesTo (Some before) e moment up page → IfOk result (λ request. Steps self.old e request self.new) }
         ensures moment { OnOk result (self.new.moment ≡ Some moment) }
         ensures err { OnErr result (self.new ≡ self.old) }
     {
@@ -241,6 +236,19 @@ impl TargetState {
     /// # Errors
     ///
     /// Want of memory.
+    ///
+    /// # Example
+    ///
+    /// ```rust
+    /// // `page` has the gauge `t` alone. The second scope tells whether the target is up, and its number of samples.
+    /// let mut state = TargetState::new(alloc, target, 2)?;
+    /// let outcome = Outcome::Page(page);
+    /// let request = state.step(alloc, Event { reading: 1_000, outcome })?;
+    /// if let [own, told] = request.scopes.as_slice() {
+    ///     assert_eq!(rt; (own.name.as_str(), own.metrics.len()), ("bridge", 1));
+    ///     assert_eq!(rt; (told.name.as_str(), told.metrics.len()), ("bridge.target", 2));
+    /// }
+    /// ```
     pub fn step(&mut self, alloc: Global, event: Event) -> Result<Request, Memory>
         requires { HasNextMoment self.old.moment }
         ensures ok { IfOk result (λ request. Steps self.old event request self.new) }

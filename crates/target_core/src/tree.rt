@@ -1,15 +1,8 @@
 //! The request tree of one event.
-ghost use Rattle.std.specs.Prelude.{◌≡◌, ◌++◌, ◌∷◌, [], ℕ, List as Seq, Option, map, filter_map, option_map, take, drop, codes, All, IfOk, OnOk};
-ghost use Rattle.std.specs.List.{flat_map};
-ghost use Rattle.page_model.specs.declared.page.Reading.{Reading as AnyReading};
+ghost use Rattle.std.specs.Prelude.{◌≡◌, ◌++◌, ◌∷◌, [], take, drop, codes, All, IfOk, OnOk};
 ghost use Rattle.page_model.specs.declared.page.Family.{Family as AnyFamily};
-ghost use Rattle.page_model.specs.Presence.{all_readings};
-ghost use Rattle.label_sets.specs.declared.kind.Kind.{Kind as AnyKind};
-ghost use Rattle.otlp_tree.specs.declared.tree.Metric.{Metric as AnyMetric};
-ghost use Rattle.target_core.specs.declared.markers.Marker.{Marker as AnyMarker};
 ghost use Rattle.target_core.specs.Points.{MayAllBeLaidOut};
-ghost use Rattle.target_core.specs.Markers.{with_markers};
-ghost use Rattle.target_core.specs.MarkerGroups.{marker_groups};
+ghost use Rattle.target_core.specs.PlacedMarkers.{PlacesMetric, PlacesMetrics, WherePastGives};
 ghost use Rattle.target_core.specs.Trees as trees;
 
 use crate::markers::MarkerGroups;
@@ -84,10 +77,7 @@ fn placed_metric(
     groups: &mut MarkerGroups,
 ) -> Result<Option<Metric>, Memory>
     requires { MayAllBeLaidOut family.now.readings }
-    ensures { (start : AnyReading → Option ℕ) (ms : Seq AnyMarker) (before : Seq (AnyKind × AnyMetric))
-        → starts.now ≡ map start family.now.readings → groups.old ≡ marker_groups before ms
-        → IfOk result (λ metric. (metric ≡ option_map (λ m. with_markers ms family.now.kind m) (trees.family_metric start moment family.now))
-        × (groups.new ≡ marker_groups (before ++ filter_map (trees.kind_metric start moment) (family.now ∷ [])) ms)) }
+    ensures { IfOk result (λ metric. PlacesMetric moment family.now starts.now groups.old metric groups.new) }
 {
     let Some(first) = family.readings.as_slice().first() else {
         return Ok(None);
@@ -119,10 +109,7 @@ fn page_metrics(
     groups: &mut MarkerGroups,
 ) -> Result<Vec<Metric>, Memory>
     requires { All (λ (f : AnyFamily). MayAllBeLaidOut f.readings) families.now }
-    ensures { (start : AnyReading → Option ℕ) (ms : Seq AnyMarker)
-        → starts.now ≡ map start (flat_map (λ (f : AnyFamily). f.readings) families.now) → groups.old ≡ marker_groups [] ms
-        → IfOk result (λ metrics. (metrics.items ≡ map (λ m. with_markers ms m.0 m.1) (filter_map (trees.kind_metric start moment) families.now))
-        × (groups.new ≡ marker_groups (filter_map (trees.kind_metric start moment) families.now) ms)) }
+    ensures { IfOk result (λ metrics. PlacesMetrics moment families.now starts.now groups.old metrics.items groups.new) }
 {
     let mut metrics = Vec::with_capacity(alloc, families.len())?;
     let mut left = starts;
@@ -144,9 +131,7 @@ fn event_metrics(
     starts: &[Option<u64>],
     mut groups: MarkerGroups,
 ) -> Result<Vec<Metric>, Memory>
-    ensures { (start : AnyReading → Option ℕ) (ms : Seq AnyMarker)
-        → starts.now ≡ map start (all_readings page.now) → groups ≡ marker_groups [] ms
-        → IfOk result (λ metrics. metrics.items ≡ trees.event_metrics start ms moment page.now) }
+    ensures { IfOk result (λ metrics. WherePastGives page.now starts.now groups (λ start ms. metrics.items ≡ trees.event_metrics start ms moment page.now)) }
 {
     let mut metrics = page_metrics(
         alloc,
@@ -185,9 +170,8 @@ fn page_scope(
     starts: &[Option<u64>],
     groups: MarkerGroups,
 ) -> Result<Vec<ScopeMetrics>, Memory>
-    ensures { (start : AnyReading → Option ℕ) (ms : Seq AnyMarker)
-        → starts.now ≡ map start (all_readings page.now) → groups ≡ marker_groups [] ms
-        → IfOk result (λ scopes. scopes.items ≡ trees.scope_of (codes "bridge") (trees.event_metrics start ms moment page.now)) }
+    ensures { IfOk result (λ scopes. WherePastGives page.now starts.now groups
+        (λ start ms. scopes.items ≡ trees.scope_of (codes "bridge") (trees.event_metrics start ms moment page.now))) }
 {
     let metrics = event_metrics(alloc, moment, page, starts, groups)?;
     let mut scopes = Vec::with_capacity(alloc, 2)?;
@@ -224,9 +208,8 @@ pub(crate) fn request(
     starts: &[Option<u64>],
     groups: MarkerGroups,
 ) -> Result<Request, Memory>
-    ensures { (start : AnyReading → Option ℕ) (ms : Seq AnyMarker)
-        → starts.now ≡ map start (all_readings page.now) → groups ≡ marker_groups [] ms
-        → IfOk result (λ request. request ≡ trees.request_of target.now start ms moment up page.now) }
+    ensures { IfOk result (λ request. WherePastGives page.now starts.now groups
+        (λ start ms. request ≡ trees.request_of target.now start ms moment up page.now)) }
 {
     let mut scopes = page_scope(alloc, moment, page, starts, groups)?;
     push_target(alloc, &mut scopes, moment, up, u64::from(page.samples()))?;

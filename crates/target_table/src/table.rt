@@ -120,6 +120,20 @@ impl<N: RunName, A: Lane, B: Lane, C: Lane, D: Lane, W: Wire> Table<N, A, B, C, 
 
     /// Takes, of the targets that are at home, not halted and have a visit left, the one with the fewest visits, and
     /// among equals the one with the lowest number.
+    ///
+    /// # Example
+    ///
+    /// ```rust
+    /// // The table has one target, `h:1` of the job `j`, which shows `x 1` and was not visited.
+    /// if let Some(mut lease) = table.take(&mut shares.a) {
+    ///     let _visited = lease.track.visit(alloc);
+    ///     table.put(&mut shares.a, lease);
+    /// }
+    /// let mut page = Vec::new(alloc);
+    /// table.page(&mut page)?;
+    /// let wanted = "# TYPE x unknown\nx{instance=\"h:1\",job=\"j\"} 1\n# EOF\n";
+    /// assert_eq!(rt; page.as_slice(), wanted.as_bytes());
+    /// ```
     pub fn take<S: Seat<A, B, C, D>>(&mut self, seat: &mut S) -> Option<Lease<N, W>>
         requires lane { S.right }
         requires free { S.out seat.old ≡ 0 }

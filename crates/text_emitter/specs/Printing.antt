@@ -42,3 +42,7 @@ pub record IsCutOff (held : Option (List ℕ)) (faults : ℕ) (p : Printing) : T
 pub record Prints (held : Option (List ℕ)) (faults : ℕ) (room : List ℕ) (failed : Bool) (p : Printing) : Type 0 where
   pub going_on : failed ≡ false → IsGoingOn held faults room p
   pub cut_off : failed ≡ true → IsCutOff held faults p
+
+-- a text that was printed before is printed after with these bytes behind it
+abbrev pub PrintsOn : (Printing → Type 0) → (Printing → Type 0) → List ℕ → Type 0
+PrintsOn before after bytes = (p : Printing) → before p → after (printing p (p.text ++ bytes))

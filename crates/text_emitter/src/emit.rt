@@ -15,6 +15,21 @@ use bridge_ports::{Failed, Sink};
 use std::alloc::AllocError;
 
 /// What has a text.
+///
+/// # Example
+///
+/// ```rust
+/// // The bytes of a `Long` in angle brackets.
+/// impl Emit for Long {
+///     ghost text = { λ l. codes "<" ++ l.bytes.items ++ codes ">" };
+///
+///     fn emit<E: Emitter>(&self, out: &mut E) {
+///         out.put(b"<");
+///         out.put(self.bytes.as_slice());
+///         out.put(b">");
+///     }
+/// }
+/// ```
 pub trait Emit {
     ghost use Rattle.std.specs.Prelude.{ℕ, List};
 
@@ -42,6 +57,16 @@ pub fn length<T: Emit>(value: &T) -> u64
 /// # Errors
 ///
 /// Want of memory: then `out` holds what it held.
+///
+/// # Example
+///
+/// ```rust
+/// // The text of `sample` is `up 1.5 0 0 # 1.5`.
+/// let mut out = Vec::from_slice(alloc, b"> ")?;
+/// write(&sample, &mut out)?;
+/// assert_eq!(rt; out.as_slice(), b"> up 1.5 0 0 # 1.5".as_slice());
+/// assert_eq!(rt; length(&sample), 16);
+/// ```
 #[tactic(auto, using(crate::proofs::Folds::append_folded, crate::proofs::Folds::front_kept))]
 pub fn write<T: Emit>(value: &T, out: &mut Vec<u8>) -> Result<(), AllocError>
     ensures ok { OnOk result (out.new.items ≡ out.old.items ++ T.text value.now) }

@@ -1,8 +1,8 @@
 //! Bytes that are written to an output.
 
-ghost use Rattle.std.specs.Prelude.{◌≡◌, ◌++◌, [], true, false, List as Seq, fold, OnOk, OnErr};
+ghost use Rattle.std.specs.Prelude.{◌≡◌, []};
 ghost use Rattle.bridge_ports.specs.Causes.{HasCause};
-ghost use Rattle.text_emitter.specs.Printing.{Printing as Written, printing, print_push, Prints};
+ghost use Rattle.text_emitter.specs.Printing.{Printing as Written, print_push, Prints, PrintsOn};
 
 use crate::byte_emitter::Pieces;
 use arrayvec::ArrayVec;
@@ -52,8 +52,8 @@ fn flush<O: Sink>(output: &mut O, room: &mut ArrayVec<u8, ROOM>, failed: &mut bo
 /// Writes a piece for which there is no room behind what is in it, or puts it there.
 #[cold]
 fn put_long<O: Sink>(output: &mut O, room: &mut ArrayVec<u8, ROOM>, failed: &mut bool, piece: &[u8])
-    ensures { (p : Written) → Prints (O.held output.old) (O.write_faults output.old) room.old.items failed.old p
-        → Prints (O.held output.new) (O.write_faults output.new) room.new.items failed.new (printing p (p.text ++ piece.now)) }
+    ensures { PrintsOn (Prints (O.held output.old) (O.write_faults output.old) room.old.items failed.old)
+        (Prints (O.held output.new) (O.write_faults output.new) room.new.items failed.new) piece.now }
 {
     flush(output, room, failed);
     if room.try_extend_from_slice(piece).is_err() && !*failed {

@@ -3,7 +3,7 @@ ghost use Rattle.std.specs.Prelude.{◌≡◌, ◌≤◌, ◌&&◌, ℕ, [], len
 ghost use Rattle.std.specs.Option.{option_copied};
 ghost use Rattle.std.specs.Str.{bytes_eq};
 ghost use Rattle.page_model.specs.TextItems.{is_integer_token};
-ghost use Rattle.page_model.specs.TextReading.{kind_named, marked_of, named_at, sample_of, trimmed_of};
+ghost use Rattle.page_model.specs.TextReading.{kind_named, marked_of, named_at, sample_of};
 ghost use Rattle.page_model.specs.declared.format.Format.TheVariants.{Text};
 ghost use Rattle.page_model.specs.declared.format.Treatment.{Treatment as AnyTreatment};
 ghost use Rattle.line_scan.specs.LineReading.{Reads};
@@ -182,25 +182,6 @@ fn sample_line(
     read_sample(alloc, treatment, name.front, labels, value.front, stamp)
 }
 
-/// A line without the blanks at its ends.
-fn trimmed_line(
-    alloc: Global,
-    treatment: Treatment,
-    line: &[u8],
-    labels: &mut Vec<Label>,
-) -> Result<LineRead, Memory>
-    requires { IsUtf8 line.now }
-    ensures { IfOk result (Reads Text treatment (trimmed_of line.now)) }
-{
-    if line.is_empty() {
-        return Ok(LineRead::Item(Item::Blank));
-    }
-    match behind(b'#', line) {
-        Some(rest) => marked_line(alloc, rest),
-        None => sample_line(alloc, treatment, line, labels),
-    }
-}
-
 /// The lines of the text format.
 pub struct TextLines;
 
@@ -217,6 +198,13 @@ impl Grammar for TextLines {
         line: &[u8],
         labels: &mut Vec<Label>,
     ) -> Result<LineRead, Memory> {
-        trimmed_line(alloc, treatment, trimmed(line), labels)
+        let bare = trimmed(line);
+        if bare.is_empty() {
+            return Ok(LineRead::Item(Item::Blank));
+        }
+        match behind(b'#', bare) {
+            Some(rest) => marked_line(alloc, rest),
+            None => sample_line(alloc, treatment, bare, labels),
+        }
     }
 }

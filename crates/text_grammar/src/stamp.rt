@@ -16,7 +16,7 @@ use crate::blanks::without_leading_blanks;
 use exact_decimal::{Number, signed_whole, split_sign};
 
 /// Two to the power of 63: a timestamp lies below it, and not below its opposite.
-const MOST: u128 = 1 << 63;
+const STAMP_END: u128 = 1 << 63;
 
 /// Sizes are counted up to this.
 const ENOUGH: u128 = 1 << 64;
@@ -83,7 +83,7 @@ pub(crate) fn stamp_number(token: &[u8]) -> Option<Number>
 {
     let (negative, digits) = split_sign(token);
     let size = capped_value(digits);
-    let end = if negative { MOST + 1 } else { MOST };
+    let end = if negative { STAMP_END + 1 } else { STAMP_END };
     if size >= end {
         return None;
     }

@@ -6,7 +6,7 @@ use Rattle.std.proofs.lemmas.Bool.{and_parts, leb-true}
 use Rattle.std.proofs.lemmas.List.{length-map, get_or-map, map-append, take_more, take_more_set}
 use Rattle.std.proofs.Math.Seq.{map-set_same}
 use Rattle.std.proofs.lemmas.List.Elements.{All-map}
-use Rattle.bridge_ports.specs.Targets.{IsScraped}
+use Rattle.bridge_ports.specs.Targets.{IsScraped, have_same_names}
 use Rattle.series_table.specs.HttpTalks.{talking}
 use Rattle.series_table.specs.Talking.{Followed, AreInRange}
 use Rattle.series_table.specs.Records.{Kept}
@@ -14,7 +14,6 @@ use Rattle.target_table.specs.Runs.{IsRightRun, is_same_target}
 use Rattle.target_table.specs.Tables.{IsTrackAt, AreTracks}
 use Rattle.scraper_pool.specs.Turns.{run_of}
 use Rattle.bridge_config.specs.declared.config.Config.{Config}
-use Rattle.bridge_config.specs.ConfigFaults.{have_same_names}
 use Rattle.bridge_config.specs.RightConfigs.{IsRightConfig}
 use Rattle.run_report.specs.declared.target_end.TargetEnd.{TargetEnd}
 use Rattle.run_report.specs.Ends.{track_end}

@@ -67,3 +67,11 @@ pub record IsRunEnd (c : Config) (before after : Outside) (ends : List TargetEnd
 pub record IsNotBegun (c : Config) (before after : Outside) : Type 0 where
   pub homes : (n : ℕ) → after.home n ≡ before.home n
   pub rest : KeepsRest (length c.targets) before after
+
+-- a run of a configuration's targets came to these ends, of a world as it is seen before and after it
+abbrev pub EndsRun : {W : Type 0} → Config → (W → Outside) → W → W → List TargetEnd → Type 0
+EndsRun c seen before after ends = IsRunEnd c (seen before) (seen after) ends
+
+-- no run of a configuration's targets was begun, of a world as it is seen before and after
+abbrev pub BeginsNoRun : {W : Type 0} → Config → (W → Outside) → W → W → Type 0
+BeginsNoRun c seen before after = IsNotBegun c (seen before) (seen after)

@@ -28,6 +28,10 @@ pub record Outside : Type 0 where
 abbrev pub outside_of : {A : Type 0} → (A → WireState) → WorldState → (List ℕ → Option (List ℕ)) → (ℕ → Option (A × A)) → (ℕ → Option Given) → Outside
 outside_of state world files home given = record { world = world; files = files; home = seen_home state home; given = given }
 
+-- a world as it is seen, by the states of its wires and by what its members tell
+abbrev pub seen_world : {W A : Type 0} → (A → WireState) → (W → WorldState) → (W → List ℕ → Option (List ℕ)) → (W → ℕ → Option (A × A)) → (W → ℕ → Option Given) → W → Outside
+seen_world state world files home given w = outside_of state (world w) (files w) (home w) (given w)
+
 -- neither wire of a pair tells a talk
 abbrev pub IsSilent : SeenPair → Type 0
 IsSilent pair = IfSome (talks_of pair.0) (λ talks. talks ≡ []) × IfSome (talks_of pair.1) (λ talks. talks ≡ [])

@@ -48,6 +48,14 @@ pub record IsUnserved (c : Config) (coming : Coming) (before after : Outside) : 
   pub run : IsNotBegun c (with_world during before) (with_world during after)
   pub back : after.world ≡ comes_back opened during
 
+-- a run beside the door of a configuration came to these ends, and so many connections were answered, of a world as it is seen before and after it
+abbrev pub EndsServedRun : {W : Type 0} → Config → (W → Coming) → (W → Outside) → W → W → List TargetEnd → ℕ → Type 0
+EndsServedRun c coming seen before after ends served = IsServedRun c (coming before) (seen before) (seen after) ends served
+
+-- no run was begun beside the door of a configuration, of a world as it is seen before and after
+abbrev pub BeginsNoServedRun : {W : Type 0} → Config → (W → Coming) → (W → Outside) → W → W → Type 0
+BeginsNoServedRun c coming seen before after = IsUnserved c (coming before) (seen before) (seen after)
+
 -- of a world at most what is told of doors changed
 abbrev pub ChangesDoorsAlone : WorldState → WorldState → Type 0
 ChangesDoorsAlone old new = new ≡ record old { door_at = new.door_at; door_faults = new.door_faults; back_door = new.back_door }

@@ -1,6 +1,6 @@
 //! The wires of tracks come home.
 ghost use Rattle.std.specs.Prelude.{◌≡◌, ◌≤◌, length};
-ghost use Rattle.world_run.specs.Outside.{seen_home, outside_of, most_pairs};
+ghost use Rattle.world_run.specs.Outside.{seen_home, seen_world, most_pairs};
 ghost use Rattle.world_run.specs.Ends.{KeepsRest};
 ghost use Rattle.world_run.specs.Taken.{EachTrack, IsInPlace, IsPairOf, IsAway};
 
@@ -14,8 +14,8 @@ pub(crate) fn bring_home<W: World>(world: &mut W, tracks: Vec<Track<W::Wire>>)
     requires away { EachTrack (IsAway (seen_home W.Wire.state (W.home world.old)) (W.given world.old)) tracks.items }
     ensures home { EachTrack (IsPairOf (seen_home W.Wire.state (W.home world.new))) tracks.items }
     ensures rest { KeepsRest (length tracks.items)
-        (outside_of W.Wire.state (W.world world.old) (W.files world.old) (W.home world.old) (W.given world.old))
-        (outside_of W.Wire.state (W.world world.new) (W.files world.new) (W.home world.new) (W.given world.new)) }
+        (seen_world W.Wire.state W.world W.files W.home W.given world.old)
+        (seen_world W.Wire.state W.world W.files W.home W.given world.new) }
     ensures given { W.given world.new ≡ W.given world.old }
     ensures coming { W.coming world.new ≡ W.coming world.old }
 {

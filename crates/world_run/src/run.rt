@@ -6,9 +6,9 @@ ghost use Rattle.target_table.specs.Tables.{IsRunOver};
 ghost use Rattle.scraper_pool.specs.Serving.{IsUnopened, ServesAt};
 ghost use Rattle.scraper_pool.specs.Turns.{run_of};
 ghost use Rattle.bridge_config.specs.RightConfigs.{IsRightConfig};
-ghost use Rattle.world_run.specs.Outside.{seen_home, outside_of, AreUnused};
-ghost use Rattle.world_run.specs.Ends.{IsRunEnd, IsNotBegun};
-ghost use Rattle.world_run.specs.Serving.{IsServedRun, IsUnserved, KeepsOtherComing};
+ghost use Rattle.world_run.specs.Outside.{seen_home, seen_world, AreUnused};
+ghost use Rattle.world_run.specs.Ends.{EndsRun, BeginsNoRun};
+ghost use Rattle.world_run.specs.Serving.{EndsServedRun, BeginsNoServedRun, KeepsOtherComing};
 ghost use Rattle.run_report.specs.Ends.{track_end};
 ghost use Rattle.world_run.specs.Taken.{EachTrack, IsFirstTrack};
 
@@ -65,15 +65,8 @@ fn visit_all<R: Threads + Wait + Sync, W: Wire, K: Conn, E: Door<Conn = K>>(
         Ok(ends) => ends,
         Err(AllocError) => return Err((tracks, door)),
     };
-    match run_with_door(
-        rt,
-        alloc,
-        tracks,
-        config.rounds,
-        config.scrapers,
-        door,
-        config.pages,
-    ) {
+    let (rounds, pages, scrapers) = (config.rounds, config.pages, config.scrapers);
+    match run_with_door(rt, alloc, tracks, rounds, scrapers, door, pages) {
         Ok(ended) => {
             let Ended {
                 tracks,
@@ -109,14 +102,11 @@ fn run_beside<R: Threads + Wait + Sync, K: Conn, E: Door<Conn = K>, W: World<Doo
     requires right { IsRightConfig config.now }
     requires unused { AreUnused (seen_home W.Wire.state (W.home world.old)) }
     requires fresh { IfSome door (λ d. IsUnopened (E.door d)) }
-    ensures run { IfOk result.end (λ end. IsRunEnd config.now
-        (outside_of W.Wire.state (W.world world.old) (W.files world.old) (W.home world.old) (W.given world.old))
-        (outside_of W.Wire.state (W.world world.new) (W.files world.new) (W.home world.new) (W.given world.new))
-        end.targets.items) }
+    ensures run { IfOk result.end (λ end. EndsRun config.now
+        (seen_world W.Wire.state W.world W.files W.home W.given) world.old world.new end.targets.items) }
     ensures served { IfOk result.end (λ end. ServesAt config.now.pages (option_map E.door door) (option_map E.door result.door) end.served) }
-    ensures memory { OnErr result.end (IsNotBegun config.now
-        (outside_of W.Wire.state (W.world world.old) (W.files world.old) (W.home world.old) (W.given world.old))
-        (outside_of W.Wire.state (W.world world.new) (W.files world.new) (W.home world.new) (W.given world.new))) }
+    ensures memory { OnErr result.end (BeginsNoRun config.now
+        (seen_world W.Wire.state W.world W.files W.home W.given) world.old world.new) }
     ensures door { OnErr result.end (result.door ≡ door) }
     ensures coming { W.coming world.new ≡ W.coming world.old }
 {
@@ -163,6 +153,17 @@ fn run_beside<R: Threads + Wait + Sync, K: Conn, E: Door<Conn = K>, W: World<Doo
 ///
 /// Want of memory, before the first visit: then no wire was used, each is at home, and of the door nothing was handed
 /// out. A target that finds none in a visit is halted, which its end tells.
+///
+/// # Example
+///
+/// ```rust
+/// // Two rounds of two targets that show a page, whose bodies are taken, and a door at which one connection comes.
+/// let end = run_config(&rt, alloc, &config, &mut world)?;
+/// assert_eq!(rt; (end.targets.len(), end.served), (2, 1));
+/// for target in end.targets.as_slice() {
+///     assert_eq!(rt; (target.counts.visits, target.counts.accepted), (2, 2));
+/// }
+/// ```
 pub fn run_config<R: Threads + Wait + Sync, K: Conn, E: Door<Conn = K>, W: World<Door = E>>(
     rt: &R,
     alloc: Global,
@@ -172,13 +173,10 @@ pub fn run_config<R: Threads + Wait + Sync, K: Conn, E: Door<Conn = K>, W: World
     requires right { IsRightConfig config.now }
     requires unused { AreUnused (seen_home W.Wire.state (W.home world.old)) }
     requires no_door { (W.world world.old).door_at ≡ None }
-    ensures run { IfOk result (λ end. IsServedRun config.now (W.coming world.old)
-        (outside_of W.Wire.state (W.world world.old) (W.files world.old) (W.home world.old) (W.given world.old))
-        (outside_of W.Wire.state (W.world world.new) (W.files world.new) (W.home world.new) (W.given world.new))
-        end.targets.items end.served) }
-    ensures memory { OnErr result (IsUnserved config.now (W.coming world.old)
-        (outside_of W.Wire.state (W.world world.old) (W.files world.old) (W.home world.old) (W.given world.old))
-        (outside_of W.Wire.state (W.world world.new) (W.files world.new) (W.home world.new) (W.given world.new))) }
+    ensures run { IfOk result (λ end. EndsServedRun config.now W.coming
+        (seen_world W.Wire.state W.world W.files W.home W.given) world.old world.new end.targets.items end.served) }
+    ensures memory { OnErr result (BeginsNoServedRun config.now W.coming
+        (seen_world W.Wire.state W.world W.files W.home W.given) world.old world.new) }
     ensures coming { KeepsOtherComing config.now.door (W.coming world.old) (W.coming world.new) }
 {
     let door = open_door(config, world)?;

@@ -2,7 +2,7 @@
 ghost use Rattle.std.specs.Prelude.{◌≡◌, ◌+◌, ◌<◌, ℕ, length, map, IfOk, OnErr};
 ghost use Rattle.series_table.specs.Records.{Kept};
 ghost use Rattle.bridge_config.specs.RightConfigs.{IsRightConfig};
-ghost use Rattle.world_run.specs.Outside.{seen_home, outside_of, most_pairs, IsUnused, AreUnused};
+ghost use Rattle.world_run.specs.Outside.{seen_home, seen_world, most_pairs, IsUnused, AreUnused};
 ghost use Rattle.world_run.specs.Ends.{KeepsRest};
 ghost use Rattle.world_run.specs.Taken.{EachTrack, IsFirstTrack, IsPairOf, IsOut, KeepsOtherPairs};
 
@@ -32,8 +32,8 @@ fn new_track<W: World>(
     ensures out { IfOk result (IsOut (seen_home W.Wire.state (W.home world.new)) (W.given world.new) place) }
     ensures kept { OnErr result (seen_home W.Wire.state (W.home world.new) (place + 1) ≡ seen_home W.Wire.state (W.home world.old) (place + 1)) }
     ensures rest { KeepsOtherPairs (place + 1)
-        (outside_of W.Wire.state (W.world world.old) (W.files world.old) (W.home world.old) (W.given world.old))
-        (outside_of W.Wire.state (W.world world.new) (W.files world.new) (W.home world.new) (W.given world.new)) }
+        (seen_world W.Wire.state W.world W.files W.home W.given world.old)
+        (seen_world W.Wire.state W.world W.files W.home W.given world.new) }
     ensures coming { W.coming world.new ≡ W.coming world.old }
 {
     let number = place + 1;
@@ -73,8 +73,8 @@ pub(crate) fn new_tracks<W: World>(
     ensures out { IfOk result (λ tracks. EachTrack (IsOut (seen_home W.Wire.state (W.home world.new)) (W.given world.new)) tracks.items) }
     ensures kept { OnErr result ((n : ℕ) → seen_home W.Wire.state (W.home world.new) n ≡ seen_home W.Wire.state (W.home world.old) n) }
     ensures rest { KeepsRest (length config.now.targets)
-        (outside_of W.Wire.state (W.world world.old) (W.files world.old) (W.home world.old) (W.given world.old))
-        (outside_of W.Wire.state (W.world world.new) (W.files world.new) (W.home world.new) (W.given world.new)) }
+        (seen_world W.Wire.state W.world W.files W.home W.given world.old)
+        (seen_world W.Wire.state W.world W.files W.home W.given world.new) }
     ensures coming { W.coming world.new ≡ W.coming world.old }
 {
     let targets = config.targets.as_slice();

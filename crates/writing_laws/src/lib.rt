@@ -25,6 +25,8 @@ pub fn read_pages_are_formed()
 ///
 /// Families can be written where they have the form of what a text says, no timestamps and no exemplars,
 /// no names that clash, and no line that is too long.
+///
+/// So `# TYPE x unknown`, `x 1` and `# EOF`, which are written of a family `x` with one reading, read back as it.
 pub fn read_back()
     ensures { ReadsBack }
 {}

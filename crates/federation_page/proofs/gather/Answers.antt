@@ -5,10 +5,11 @@ use Rattle.open_writing.specs.Writing.{page_with, sample_lines}
 use Rattle.federation_page.specs.Gathering.{federated_page}
 use Rattle.federation_page.proofs.FewGathered.{few_gathered}
 use Rattle.federation_page.proofs.RightGathered.{formed_targets, right_form}
+use Rattle.federation_page.proofs.Writable.{gathered_forms}
 use Rattle.federation_page.proofs.gather.Goals as goal
 
 pub gathered_families-requires : goal.gathered_families-requires
-gathered_families-requires c = record { able = formed_targets c.read_pages_are_formed.ensures c.args.shown.now c.requires }
+gathered_families-requires c = record { able = formed_targets c.args.shown.now c.requires }
 
 pub page_of_families-requires-clause-few : goal.page_of_families-requires-clause-few
 unfolding federated_page
@@ -16,7 +17,7 @@ page_of_families-requires-clause-few c = subst (λ (fs : List Family). sample_li
 
 pub page_of_families-requires-clause-right : goal.page_of_families-requires-clause-right
 unfolding federated_page
-page_of_families-requires-clause-right c = subst (λ (fs : List Family). IsRightPage (page_with fs)) (sym c.in_ok-families.ensures) (right_form (federated_page c.args.shown.now) (c.gathered_pages.ensures.forms c.args.shown.now c.requires))
+page_of_families-requires-clause-right c = subst (λ (fs : List Family). IsRightPage (page_with fs)) (sym c.in_ok-families.ensures) (right_form (federated_page c.args.shown.now) (gathered_forms c.args.shown.now c.requires))
 
 pub returns : goal.returns
 unfolding federated_page

@@ -1,14 +1,11 @@
-use Rattle.federation_page.specs.Gathering.{federated_page}
-use Rattle.federation_page.proofs.Writable.{gathered_writable}
+use Rattle.federation_page.proofs.Writable.{gathered_writable, gathered_forms, gathered_back}
 use Rattle.federation_page.proofs.gathered_pages.Goals as goal
 
 pub returns-clause-writable : goal.returns-clause-writable
-returns-clause-writable c = gathered_writable c.read_pages_are_formed.ensures c.written_sizes.ensures.bytes
+returns-clause-writable c = gathered_writable
 
 pub returns-clause-forms : goal.returns-clause-forms
-unfolding federated_page
-returns-clause-forms c = λ shown able. c.open_forms.ensures.made (federated_page shown).families (gathered_writable c.read_pages_are_formed.ensures c.written_sizes.ensures.bytes shown able)
+returns-clause-forms c = gathered_forms
 
 pub returns-clause-back : goal.returns-clause-back
-unfolding federated_page
-returns-clause-back c = λ shown limit able few. c.read_back.ensures (federated_page shown).families limit (gathered_writable c.read_pages_are_formed.ensures c.written_sizes.ensures.bytes shown able) few
+returns-clause-back c = gathered_back

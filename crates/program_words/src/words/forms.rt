@@ -8,7 +8,8 @@ ghost use Rattle.replay_script.specs.ScriptParts.{format_word};
 
 use super::Command;
 use super::target::target;
-use crate::limits::{MOST_HOST_BYTES, MOST_JOB_BYTES, MOST_NANOS, MOST_SCRAPERS};
+use crate::limits::{MOST_INSTANCE_HOST_BYTES, MOST_NANOS, MOST_SCRAPERS};
+use bridge_ports::MOST_JOB_BYTES;
 use load_pages::{MOST_NUMBER, is_load};
 use page_model::Format;
 use plain_words::{host_and_port, number};
@@ -198,7 +199,7 @@ fn conversion(
     if job.len() > MOST_JOB_BYTES {
         return Ok(None);
     }
-    let place = match host_and_port(MOST_HOST_BYTES, instance.as_bytes()) {
+    let place = match host_and_port(MOST_INSTANCE_HOST_BYTES, instance.as_bytes()) {
         Some(place) => place,
         None => return Ok(None),
     };
@@ -219,6 +220,15 @@ fn conversion(
 /// # Errors
 ///
 /// Want of memory.
+///
+/// # Example
+///
+/// ```rust
+/// let words = [String::from_str(alloc, "check")?, String::from_str(alloc, "text")?];
+/// let command = command_of(alloc, &words)?;
+/// assert!(rt; matches!(command, Some(Command::Check { format: Format::Text })));
+/// assert!(rt; command_of(alloc, &[])?.is_none());
+/// ```
 pub fn command_of(alloc: Global, words: &[String]) -> Result<Option<Command>, AllocError>
     ensures found { IfOk result (λ found. IfSome found (IsCommand (map string_bytes words.now))) }
     ensures none { IfOk result (λ found. IfNone found (FitNoForm (map string_bytes words.now))) }

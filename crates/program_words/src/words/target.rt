@@ -1,7 +1,8 @@
 //! The target that words name.
 ghost use Rattle.std.specs.Prelude.{◌≡◌, ◌≤◌, length, IfOk, IsUtf8};
 ghost use Rattle.program_words.specs.CommandWords.{place_target};
-ghost use Rattle.program_words.specs.Limits.{most_host, most_job};
+ghost use Rattle.bridge_ports.specs.Targets.{most_job_bytes};
+ghost use Rattle.program_words.specs.Limits.{most_instance_host};
 ghost use Rattle.plain_words.specs.Places.{IsHostAndPort};
 
 use bridge_ports::{Address, Target};
@@ -29,8 +30,8 @@ pub(super) fn target(
     port: u16,
 ) -> Result<Target, AllocError>
     requires some { 1 ≤ length job.now }
-    requires short { length job.now ≤ most_job }
-    requires place { IsHostAndPort most_host instance.now host.now port }
+    requires short { length job.now ≤ most_job_bytes }
+    requires place { IsHostAndPort most_instance_host instance.now host.now port }
     ensures { IfOk result (λ t. t ≡ place_target job.now instance.now host.now port) }
 {
     let job = word_text(alloc, job)?;

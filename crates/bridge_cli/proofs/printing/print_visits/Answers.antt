@@ -10,7 +10,7 @@ returns-then-not-wanted-clause-printed g c = no_page_behind c.args.wanted.page c
 pub print_page-requires : goal.print_page-requires
 print_page-requires g c =
     subst AreShowable (sym c.as_slice.ensures.value)
-    (showable c.right_pages.ensures.texts c.right_pages.ensures.nothing c.args.script.now c.in-Ok.over.shown.items c.requires (c.in-Ok.ensures.shown (search rules)))
+    (showable c.args.script.now c.in-Ok.over.shown.items c.requires (c.in-Ok.ensures.shown (search rules)))
 
 pub returns-in-Ok-print_page-clause-printed : goal.returns-in-Ok-print_page-clause-printed
 returns-in-Ok-print_page-clause-printed g c =

@@ -7,5 +7,4 @@ use Rattle.bridge_cli.proofs.shelving.shelve.Given as goal
 abbrev pub invariant-loop : goal.invariant-loop
 invariant-loop g l =
     (with_shelved (reverse l.left.items) (g.W.World.world l.world) ≡ with_shelved l.fn.wires.items (g.W.World.world l.initial.world)) × AllByRecursion IsFreePair (reverse l.left.items) × (l.left.len + l.counter ≡ l.fn.wires.len)
-    × KeepsAllButShelf (g.W.World.world l.initial.world) (g.W.World.world l.world) (g.W.World.files l.initial.world) (g.W.World.files l.world) (g.W.World.home l.initial.world) (g.W.World.home l.world) (g.W.World.given l.initial.world) (g.W.World.given l.world)
-    (g.W.World.coming l.initial.world) (g.W.World.coming l.world)
+    × KeepsAllButShelf g.W.World.world g.W.World.files g.W.World.home g.W.World.given g.W.World.coming l.initial.world l.world

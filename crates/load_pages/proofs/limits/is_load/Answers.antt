@@ -8,8 +8,8 @@ returns-then-number-gt-MOST_NUMBER-clause-only c = λ is. absurd (omega (arith, 
 pub returns-then-targets-eq0-clause-only : goal.returns-then-targets-eq0-clause-only
 returns-then-targets-eq0-clause-only c = λ is. absurd (omega (arith, is.some_targets, c.if-targets-eq0.true))
 
-pub returns-then-targets-gt-MOST_TARGETS-clause-only : goal.returns-then-targets-gt-MOST_TARGETS-clause-only
-returns-then-targets-gt-MOST_TARGETS-clause-only c = λ is. absurd (omega (arith, is.few_targets, c.if-targets-gt-MOST_TARGETS.true))
+pub returns-then-targets-gt-MOST_LOAD_TARGETS-clause-only : goal.returns-then-targets-gt-MOST_LOAD_TARGETS-clause-only
+returns-then-targets-gt-MOST_LOAD_TARGETS-clause-only c = λ is. absurd (omega (arith, is.few_targets, c.if-targets-gt-MOST_LOAD_TARGETS.true))
 
 pub returns-then-rounds-eq0-clause-only : goal.returns-then-rounds-eq0-clause-only
 returns-then-rounds-eq0-clause-only c = λ is. absurd (omega (arith, is.some_rounds, c.if-rounds-eq0.true))
@@ -21,7 +21,7 @@ pub returns-clause-right : goal.returns-clause-right
 returns-clause-right c = λ e. record {
   small = omega (arith, c.if-number-gt-MOST_NUMBER.false);
   some_targets = omega (arith, c.if-targets-eq0.false);
-  few_targets = omega (arith, c.if-targets-gt-MOST_TARGETS.false);
+  few_targets = omega (arith, c.if-targets-gt-MOST_LOAD_TARGETS.false);
   some_rounds = omega (arith, c.if-rounds-eq0.false);
   few_rounds = omega (arith, c.if-rounds-gt-MOST_ROUNDS.false);
   few_visits = leb-true _ _ e;

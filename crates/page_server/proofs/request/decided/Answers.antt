@@ -11,8 +11,8 @@ returns-in-Ok-Complete c =
     let head : IsRequestOf c.args.got.now c.parse_request.new.headers c.in-Ok-Complete.head = search rules in
     status_told c.args.got.now c.parse_request.new.headers _ _ _ _ c.requires room head c.of.ensures c.of-in-Ok-Complete.ensures c.status_of_request.ensures
 
-pub returns-then-got-eq-MOST_HEAD : goal.returns-then-got-eq-MOST_HEAD
-returns-then-got-eq-MOST_HEAD c =
+pub returns-then-got-eq-HEAD_LIMIT : goal.returns-then-got-eq-HEAD_LIMIT
+returns-then-got-eq-HEAD_LIMIT c =
     let all : length c.args.got.now ≡ 16384 = search rules in
     let none : HasNoRequest c.args.got.now = search rules in bad_when_full c.args.got.now all none
 

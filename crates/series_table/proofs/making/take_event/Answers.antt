@@ -6,5 +6,5 @@ returns-in-Ok-step g c = (
   c.in-Ok.event,
   takes c.args.aim.now (g.W.Wire.state c.args.wire.now) (g.W.Wire.state c.scrape.new.wire) c.args.state.now c.step.new.self c.in-Ok.event
       (record { tree = c.in-Ok-step.tree; reading = c.in-Ok.event.reading; failed = c.has_failed-failed.result; fault = c.told_scrape-fault.result })
-      c.distinct_keys.ensures c.right_pages.ensures.nothing c.in-Ok.ensures c.in-Ok-step.ensures.ok c.has_failed-failed.ensures,
+      c.in-Ok.ensures c.in-Ok-step.ensures.ok c.has_failed-failed.ensures,
 )

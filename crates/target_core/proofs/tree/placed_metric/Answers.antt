@@ -1,5 +1,9 @@
-use Rattle.target_core.proofs.FamilyMetrics.{placed_here}
+use Rattle.target_core.proofs.FamilyMetrics.{none_placed, placed_here}
 use Rattle.target_core.proofs.tree.placed_metric.Goals as goal
+
+pub returns-in_default : goal.returns-in_default
+returns-in_default c = λ start ms before own is.
+    none_placed start c.args.moment c.args.family.now c.as_slice.result.now ms before c.args.groups.now c.as_slice.ensures c.in_default.ensures.value is
 
 pub returns : goal.returns
 returns c = λ start ms before own is.

@@ -1,5 +1,5 @@
 use Rattle.std.proofs.Common.{◌≡◌, ◌-◌, ◌≤◌, length}
-use Rattle.world_run.specs.Outside.{outside_of}
+use Rattle.world_run.specs.Outside.{seen_world}
 use Rattle.world_run.proofs.Homes.{AreTaken}
 use Rattle.world_run.proofs.taking.new_tracks.Given as goal
 
@@ -8,8 +8,8 @@ abbrev pub invariant-loop-at : goal.invariant-loop-at
 invariant-loop-at g l =
     (l.at ≤ length l.targets) × (l.targets ≡ l.config.targets) × (l.tracks.len ≡ l.at) × (length l.targets ≤ l.tracks.cap)
     × AreTaken l.config l.at l.tracks.items
-    (outside_of g.W.Wire.Wire.state (g.W.World.world l.initial.world) (g.W.World.files l.initial.world) (g.W.World.home l.initial.world) (g.W.World.given l.initial.world))
-    (outside_of g.W.Wire.Wire.state (g.W.World.world l.world) (g.W.World.files l.world) (g.W.World.home l.world) (g.W.World.given l.world))
+    (seen_world g.W.Wire.Wire.state g.W.World.world g.W.World.files g.W.World.home g.W.World.given l.initial.world)
+    (seen_world g.W.Wire.Wire.state g.W.World.world g.W.World.files g.W.World.home g.W.World.given l.world)
     × (g.W.World.coming l.world ≡ g.W.World.coming l.initial.world)
 
 abbrev pub decreases-loop-at : goal.decreases-loop-at

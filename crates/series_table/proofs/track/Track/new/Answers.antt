@@ -5,4 +5,4 @@ use Rattle.series_table.proofs.track.Track.new.Goals as goal
 
 pub invariant_of-result : goal.invariant_of-result
 invariant_of-result g c =
-    new_track talking _ (g.W.Wire.state c.args.scrape) (g.W.Wire.state c.args.post) _ _ _ c.right_pages.ensures.nothing c.requires.ranges c.requires.scrape c.requires.post c.in-Ok.ensures.state c.in-Ok.ensures.shown refl
+    new_track talking _ (g.W.Wire.state c.args.scrape) (g.W.Wire.state c.args.post) _ _ _ c.requires.ranges c.requires.scrape c.requires.post c.in-Ok.ensures.state c.in-Ok.ensures.shown refl

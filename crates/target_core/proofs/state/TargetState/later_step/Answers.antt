@@ -3,5 +3,5 @@ use Rattle.target_core.specs.States.{Following, Steps, next_state}
 use Rattle.target_core.proofs.state.TargetState.later_step.Goals as goal
 
 pub returns-clause-ok : goal.returns-clause-ok
-returns-clause-ok c = λ e moment up page.
-    subst (λ (s : Following). Steps c.args.self.now e c.in_ok-tree.tree (next_state s c.in_ok-tree.next c.args.page c.args.moment)) (sym c.self.view_is) (c.in_ok-tree.ensures e moment up page)
+returns-clause-ok c = λ e comes.
+    subst (λ (s : Following). Steps c.args.self.now e c.in_ok-tree.tree (next_state s c.in_ok-tree.next c.args.page c.args.moment)) (sym c.self.view_is) (c.in_ok-tree.ensures e comes)

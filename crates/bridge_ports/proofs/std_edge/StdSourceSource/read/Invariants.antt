@@ -1,7 +1,0 @@
--- A call that was interrupted leaves the known bytes and the count as they were.
-use Rattle.std.proofs.Common.{◌≡◌}
-use Rattle.std.specs.Io.KnownBytes.{Keeps}
-use Rattle.bridge_ports.proofs.std_edge.StdSourceSource.read.Given as goal
-
-abbrev pub invariant-loop : goal.invariant-loop
-invariant-loop g l = Keeps (g.R.Read.remaining l.initial.self-inside.reader) (g.R.Read.remaining l.self-inside.reader) × (l.self-inside.faults ≡ l.initial.self-inside.faults)

@@ -1,0 +1,2 @@
+//! The tests, and what they share.
+mod federation_page_calls;

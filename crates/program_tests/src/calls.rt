@@ -1,0 +1,9 @@
+//! The tests, and what they share.
+mod bare_runs;
+mod doors;
+mod gated_world;
+mod inputs;
+mod loads;
+mod nearest_words;
+mod overlap;
+mod shelves;

@@ -1,0 +1,175 @@
+//! Runs over wires in memory, beside a door.
+ghost use Rattle.std.specs.Prelude.{◌≡◌, ◌≤◌, length, IfOk};
+ghost use Rattle.bridge_ports.specs.InMemory.{IsFreshConn};
+ghost use Rattle.bridge_ports.specs.Plans.{seen_of};
+ghost use Rattle.bridge_ports.specs.WorldMaking.{IsRightListen, IsRightPair};
+ghost use Rattle.series_table.specs.Records.{IsFresh};
+ghost use Rattle.memory_world.specs.WorldParts.{fresh_pair, files_of, given_in, home_of, listen_given};
+ghost use Rattle.world_run.specs.Outside.{outside_of};
+ghost use Rattle.bridge_program.specs.RunAnswers.{IsUnasked};
+
+use crate::calls::bare_runs::strings;
+use bridge_ports::{
+    Address, Conn, Door, End, MemoryConn, MemoryDoor, MemoryFile, MemoryListen, MemoryPair,
+    MemoryReply, MemorySink, MemorySource, MemoryWire, Place, Shelved, World,
+};
+use bridge_program::bridge;
+use label_sets::{Bytes, List, Memory, Text};
+use memory_world::MemoryWorld;
+use std::alloc::{AllocError, Global};
+use std::sync::Wait;
+use std::thread::Threads;
+
+const TWO_ROUNDS: &str = "collector = \"http://127.0.0.1:4318\"
+rounds = 2
+listen = \"127.0.0.1:9464\"
+pages = 1
+";
+
+/// What each configuration says of its targets.
+const TWO_TARGETS: &[u8] =
+    b"[[target]]\njob = \"a\"\nurl = \"http://h1:80/metrics\"\n[[target]]\njob = \"b\"\nurl = \"http://h2:80/metrics\"\n";
+
+const PAGE: &[u8] =
+    b"HTTP/1.1 200 OK\r\nContent-Type: text/plain\r\nContent-Length: 4\r\n\r\nx 1\n";
+
+const TAKEN: &[u8] = b"HTTP/1.1 200 OK\r\nContent-Length: 0\r\n\r\n";
+
+/// A wire that answers each talk with this reply.
+fn wire(alloc: Global, number: u32, post: bool, got: &[u8]) -> Result<MemoryWire, Memory>
+    ensures place { IfOk result (λ wire. wire.place ≡ record { number = number; post = post }) }
+    ensures fresh { IfOk result (λ wire. IsFresh (seen_of wire)) }
+{
+    let reply = MemoryReply {
+        at: 10,
+        got: Bytes::from_slice(alloc, got)?,
+        end: End::Ended,
+    };
+    let place = Place { number, post };
+    Ok(MemoryWire::new(
+        alloc,
+        place,
+        List::new(alloc),
+        Some(reply),
+        100,
+        List::new(alloc),
+    ))
+}
+
+/// The pair of wires of a number.
+fn pair(alloc: Global, number: u32) -> Result<MemoryPair, Memory>
+    requires { (1 ≤ number) × (number ≤ 256) }
+    ensures number { IfOk result (λ pair. pair.number ≡ number) }
+    ensures right { IfOk result (λ pair. IsRightPair (fresh_pair pair)) }
+    ensures scrape { IfOk result (λ pair. IsFresh (seen_of pair.wires.scrape)) }
+    ensures post { IfOk result (λ pair. IsFresh (seen_of pair.wires.post)) }
+{
+    let scrape = wire(alloc, number, false, PAGE)?;
+    let post = match wire(alloc, number, true, TAKEN) {
+        Ok(post) => post,
+        Err(AllocError) => {
+            drop(scrape);
+            return Err(AllocError);
+        }
+    };
+    Ok(MemoryPair {
+        number,
+        wires: Shelved { scrape, post },
+    })
+}
+
+/// A connection over which the page is asked for.
+fn conn(alloc: Global) -> Result<MemoryConn, Memory>
+    ensures { IfOk result IsFreshConn }
+{
+    let request = Bytes::from_slice(alloc, b"GET /federate HTTP/1.1\r\n\r\n")?;
+    let sink = MemorySink::new(alloc, 1_000, List::new(alloc))?;
+    Ok(MemoryConn::new(MemorySource::new(request, List::new(alloc)), sink))
+}
+
+/// A door of the configuration's address, at which one connection comes.
+fn listen(alloc: Global) -> Result<MemoryListen, Memory>
+    ensures { IfOk result (λ listen. IsRightListen (listen_given listen)) }
+{
+    let at = Address {
+        host: Bytes::from_slice(alloc, b"127.0.0.1")?,
+        port: 9464,
+        path: Bytes::from_slice(alloc, b"")?,
+    };
+    let door = MemoryDoor::new(Vec::from_array(alloc, [conn(alloc)?])?);
+    Ok(MemoryListen { at, door })
+}
+
+/// The file of a configuration that begins so.
+fn file(alloc: Global, start: &[u8]) -> Result<List<MemoryFile>, Memory>
+    ensures { IfOk result (λ files. length files ≡ 1) }
+{
+    let mut text = Vec::from_slice(alloc, start)?;
+    text.extend_from_slice(TWO_TARGETS)?;
+    let file = MemoryFile {
+        path: Text::from_str(alloc, "bridge.toml")?,
+        bytes: Bytes::from_vec(text),
+    };
+    List::from_vec(Vec::from_array(alloc, [file])?)
+}
+
+/// A world of a file whose configuration begins so, the wires of its two targets and a door.
+pub(crate) fn world(alloc: Global, start: &[u8]) -> Result<MemoryWorld, Memory>
+    ensures { IfOk result (λ world. IsUnasked (outside_of seen_of world.world (files_of world) (home_of world) (given_in world))) }
+{
+    let (first, second) = (pair(alloc, 1)?, pair(alloc, 2)?);
+    let pairs = Vec::from_array(alloc, [first, second])?;
+    let doors = Vec::from_array(alloc, [listen(alloc)?])?;
+    let files = file(alloc, start)?;
+    Ok(MemoryWorld::new(alloc, files, pairs, doors, List::new(alloc)))
+}
+
+/// The status of a run of the configuration in a world of which nothing was asked, and whether its output is this.
+pub(crate) fn ending_in<R: Threads + Wait + Sync, K: Conn, E: Door<Conn = K>, W: World<Door = E>>(
+    rt: &R,
+    alloc: Global,
+    world: &mut W,
+    wanted: &str,
+) -> Result<(u8, bool), Memory>
+    requires { IsUnasked (outside_of W.Wire.state (W.world world.old) (W.files world.old) (W.home world.old) (W.given world.old)) }
+{
+    let words = strings(alloc, &["run", "bridge.toml"])?;
+    let mut input = MemorySource::new(Bytes::from_slice(alloc, b"")?, List::new(alloc));
+    let mut output = match MemorySink::new(alloc, 1_000, List::new(alloc)) {
+        Ok(output) => output,
+        Err(AllocError) => {
+            drop(input);
+            return Err(AllocError);
+        }
+    };
+    let status = bridge(rt, alloc, words.as_slice(), world, &mut input, &mut output);
+    let is_wanted = output.held() == wanted.as_bytes();
+    drop(output);
+    drop(input);
+    drop(words);
+    Ok((status, is_wanted))
+}
+
+/// The same of a run over wires in memory, beside a door.
+fn ending_beside_a_door<R: Threads + Wait + Sync>(
+    rt: &R,
+    alloc: Global,
+    wanted: &str,
+) -> Result<(u8, bool), Memory> {
+    let mut world = world(alloc, TWO_ROUNDS.as_bytes())?;
+    let ending = ending_in(rt, alloc, &mut world, wanted);
+    drop(world);
+    ending
+}
+
+const TWO_VISITS: &str =
+    "target 1 a h1:80 visits 2 failed 0 points 6 markers 0 accepted 2 refused 0 givenup 0 halted 0
+target 2 b h2:80 visits 2 failed 0 points 6 markers 0 accepted 2 refused 0 givenup 0 halted 0
+all visits 4 failed 0 points 12 markers 0 accepted 4 refused 0 givenup 0 halted 0
+served 1
+";
+
+#[test]
+fn two_targets_are_visited_beside_a_door(rt: HostRuntime) {
+    assert!(rt; ending_beside_a_door(&rt, rt.alloc(), TWO_VISITS) == Ok((0, true)));
+}
