@@ -2,9 +2,9 @@
 use Rattle.std.specs.Prelude.{◌≡◌, ℕ, ◌+◌, ◌<◌, ◌≤◌, ◌^◌, ◌⊎◌, List, length, Option, IfSome}
 use Rattle.std.specs.Io.KnownBytes.{Consumes, IsAtEnd}
 
--- the most bytes that one read takes: 64 KiB
+-- the most bytes that one read takes: 16 KiB
 abbrev pub most_block : ℕ
-most_block = 2 ^ 16
+most_block = 2 ^ 14
 
 -- the bytes that were on the input: where the input tells, what it had left
 abbrev pub IsInput : Option (List ℕ) → List ℕ → Type 0

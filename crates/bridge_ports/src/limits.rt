@@ -1,7 +1,8 @@
 //! Limits and units that several crates go by. The limits are the bridge's own.
 
-/// The most bytes that one read takes: 64 KiB.
-pub const BLOCK_BYTES: usize = 1 << 16;
+/// The most bytes that one read takes: 16 KiB. A block lies on the stack, and what a command has there stays below the
+/// 128 KiB that the system gives a process from the start: more would have to be found behind a limit of memory.
+pub const BLOCK_BYTES: usize = 1 << 14;
 
 /// The most targets of a run.
 pub const MOST_TARGETS: usize = 256;
