@@ -66,5 +66,5 @@ fn endless_input_is_left(rt: HostRuntime) {
     const LINE: &[u8] = b"input too long\n";
     let mut input = Endless { reads: 0 };
     let ended = run(&rt, rt.alloc(), &["check", "text"], &mut input, LINE);
-    assert!(rt; ended == Ok((8, LINE.len(), true)) && input.reads == 1025);
+    assert!(rt; ended == Ok((8, LINE.len(), true)) && input.reads == 4097);
 }
