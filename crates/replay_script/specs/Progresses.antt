@@ -81,6 +81,15 @@ pub record IsClosed (old new : Progress) : Type 0 where
   pub no_scrapes : new.scrapes.items ≡ []
   pub no_posts : new.posts.items ≡ []
 
+-- the reply to a scrape was put behind those of the target that records belong to
+pub record PutsReply (reply : MemoryReply) (old new : Progress) : Type 0 where
+  pub place : new.place ≡ 6
+  pub header : new.header ≡ old.header
+  pub target : new.target ≡ old.target
+  pub scrapes : new.scrapes.items ≡ old.scrapes.items ++ reply ∷ []
+  pub posts : new.posts.items ≡ old.posts.items
+  pub finished : new.finished.items ≡ old.finished.items
+
 -- the answer to a part: whether it may follow, and where it may, what is kept of it too
 abbrev pub TakesPart : Part → Progress → Progress → Bool → Type 0
 TakesPart p old new taken = (earlier : List Part) → AreInOrder earlier → Knows earlier old → (taken ≡ may_stand_behind earlier p) × (taken ≡ true → Knows (p ∷ earlier) new)

@@ -1,7 +1,7 @@
 //! What is kept of the parts that were read.
-ghost use Rattle.std.specs.Prelude.{◌≡◌, ◌*◌, List as Seq, [], length, nat_lt, IfOk};
+ghost use Rattle.std.specs.Prelude.{◌≡◌, ◌*◌, List as Seq, [], length, nat_lt, IfOk, OnOk};
 ghost use Rattle.replay_script.specs.ScriptParts as spec;
-ghost use Rattle.replay_script.specs.Progresses.{part_found_as, words_found_as, has_whole_target, Knows, IsClosed, TakesPart, Ends};
+ghost use Rattle.replay_script.specs.Progresses.{part_found_as, words_found_as, has_whole_target, Knows, IsClosed, PutsReply, TakesPart, Ends};
 
 use crate::header::{Header, HeaderLine};
 use crate::parts::{FoundPart, PageWords, ReplyWords, TargetWords};
@@ -133,6 +133,15 @@ impl Progress {
         Ok(true)
     }
 
+    /// Puts the reply to a scrape behind those of the target that records belong to.
+    fn put_reply(&mut self, reply: MemoryReply) -> Result<(), AllocError>
+        ensures { OnOk result (PutsReply reply self.old self.new) }
+    {
+        self.scrapes.push(reply)?;
+        self.place = BEHIND_HEADER;
+        Ok(())
+    }
+
     /// Takes a record of a page, where it may follow.
     fn page(&mut self, alloc: Global, page: &PageWords<'_>) -> Result<bool, AllocError>
         ensures { IfOk result (TakesPart (spec.page page.now.at page.now.format page.now.body.now) self.old self.new) }
@@ -144,8 +153,7 @@ impl Progress {
             return Ok(false);
         }
         let reply = page_reply(alloc, page.at, page.format, page.body)?;
-        self.scrapes.push(reply)?;
-        self.place = BEHIND_HEADER;
+        self.put_reply(reply)?;
         Ok(true)
     }
 
@@ -163,8 +171,7 @@ impl Progress {
             return Ok(false);
         }
         let reply = raw_reply(alloc, words.at, words.ending, words.got)?;
-        self.scrapes.push(reply)?;
-        self.place = BEHIND_HEADER;
+        self.put_reply(reply)?;
         Ok(true)
     }
 

@@ -6,7 +6,7 @@ ghost use Rattle.run_report.specs.Sums.{added, most_of_target, AreOfTargets};
 use crate::target_end::TargetEnd;
 
 /// The numbers of a line: of one target, or the sums over several.
-#[derive(Clone, Copy)]
+#[derive(Clone, Copy, Default)]
 pub(crate) struct Numbers {
     pub(crate) visits: u128,
     pub(crate) failed: u128,
@@ -28,18 +28,6 @@ fn of_count(count: u64) -> u128
 }
 
 impl Numbers {
-    /// The sums over no targets.
-    const OF_NO_TARGETS: Numbers = Numbers {
-        visits: 0,
-        failed: 0,
-        points: 0,
-        markers: 0,
-        accepted: 0,
-        refused: 0,
-        given_up: 0,
-        halted: 0,
-    };
-
     /// The numbers of a target.
     #[tactic(auto, unfolding(crate::specs::Reports::numbers_of))]
     pub(crate) fn of(end: &TargetEnd) -> Numbers
@@ -83,7 +71,7 @@ impl Numbers {
     pub(crate) fn sums(ends: &[TargetEnd]) -> Numbers
         ensures { result ≡ spec.sums_of ends.now }
     {
-        let mut sums = Numbers::OF_NO_TARGETS;
+        let mut sums = Numbers::default();
         for end in ends {
             sums = sums.and(Numbers::of(end));
         }

@@ -10,5 +10,6 @@ returns-then-page-gt-MOST_BODY_BYTES c = long_page c.args.page.now.at c.args.pag
 
 pub returns : goal.returns
 returns c =
-    page_taken c.args.page.now.at c.args.page.now.format c.args.page.now.body.now c.args.self.now _ (c.is_none.ensures ∙ ap not c.if-is_none.false) (omega arith) (omega (arith, c.if-page-gt-MOST_BODY_BYTES.false)) refl refl refl
-    (c.in_ok-push.ensures.items ∙ ap (λ r. c.args.self.now.scrapes.items ++ r ∷ []) c.in_ok-reply.ensures) refl refl
+    let put = c.in_ok-put_reply.ensures in
+    page_taken c.args.page.now.at c.args.page.now.format c.args.page.now.body.now c.args.self.now _ (c.is_none.ensures ∙ ap not c.if-is_none.false) (omega arith) (omega (arith, c.if-page-gt-MOST_BODY_BYTES.false)) put.place put.header put.target
+    (put.scrapes ∙ ap (λ r. c.args.self.now.scrapes.items ++ r ∷ []) c.in_ok-reply.ensures) put.posts put.finished

@@ -13,6 +13,7 @@ returns-then-not-may_have c = scrape_unfit c.args.words.now.at c.args.words.now.
 
 pub returns : goal.returns
 returns c =
+    let put = c.in_ok-put_reply.ensures in
     scrape_taken c.args.words.now.at c.args.words.now.ending c.args.words.now.got.now c.args.self.now _ (c.is_none.ensures ∙ ap not c.if-is_none.false) (omega arith)
-    (omega (arith, c.if-words-gt-MOST_BODY_BYTES.false)) (sym c.may_have.ensures ∙ c.if-not-may_have.false) refl refl refl
-    (c.in_ok-push.ensures.items ∙ ap (λ r. c.args.self.now.scrapes.items ++ r ∷ []) c.in_ok-reply.ensures) refl refl
+    (omega (arith, c.if-words-gt-MOST_BODY_BYTES.false)) (sym c.may_have.ensures ∙ c.if-not-may_have.false) put.place put.header put.target
+    (put.scrapes ∙ ap (λ r. c.args.self.now.scrapes.items ++ r ∷ []) c.in_ok-reply.ensures) put.posts put.finished
