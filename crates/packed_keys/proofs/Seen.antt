@@ -104,34 +104,35 @@ same_sets ls [] h = refl
 same_sets ls (s ∷ ss) h = rw (same_set ls s h.0.packed) (ap (λ (b : Bool). label_sets_eq ls (labels_in s) || b) (same_sets ls ss h.1))
 
 -- a set stands where its bytes do
-pub set_at : (strings : List (List ℕ)) (ls : List Label) (at : ℕ) → slice_get strings at ≡ Some (labels_bytes ls) → slice_get (map labels_in strings) at ≡ Some ls
-set_at strings ls at e = slice_get-map labels_in strings at ∙ (ap (option_map labels_in) e ∙ ap Some (set_back ls))
+pub set_at : (strings : List (List ℕ)) (string : List ℕ) (at : ℕ) → slice_get strings at ≡ Some string → slice_get (map labels_in strings) at ≡ Some (labels_in string)
+set_at strings string at e = slice_get-map labels_in strings at ∙ ap (option_map labels_in) e
 
 -- the place of the answer
-pub set_placed : (old new : List (List ℕ)) (ls : List Label) (found : Option ℕ) (count : ℕ) → count ≡ length old → Put old new (labels_bytes ls) found → slice_get (map labels_in new) (unwrap_or found count) ≡ Some ls
-set_placed old new ls None count k put = set_at new ls count (rw (put.1, k) (place_new old (labels_bytes ls)))
-set_placed old new ls (Some at) count k put = set_at new ls at (rw put.1 put.0)
+pub set_placed : (old new : List (List ℕ)) (string : List ℕ) (found : Option ℕ) (count : ℕ) → count ≡ length old → Put old new string found → slice_get (map labels_in new) (unwrap_or found count) ≡ Some (labels_in string)
+set_placed old new string None count k put = set_at new string count (rw (put.1, k) (place_new old string))
+set_placed old new string (Some at) count k put = set_at new string at (rw put.1 put.0)
 
 -- the sets with it, where it is new
-pub sets_are : (old new : List (List ℕ)) (ls : List Label) (found : Option ℕ) → All IsPackedSet old → Put old new (labels_bytes ls) found
-    → map labels_in new ≡ with_set (map labels_in old) ls
-sets_are old new ls None is put =
-    rw (sym (same_sets ls old (recursion_from_All IsPackedSet old is)) ∙ put.0)
-    (ap (map labels_in) put.1 ∙ (map-append labels_in old (labels_bytes ls ∷ []) ∙ ap (λ (m : List Label). map labels_in old ++ m ∷ []) (set_back ls)))
-sets_are old new ls (Some at) is put =
-    rw (sym (same_sets ls old (recursion_from_All IsPackedSet old is)) ∙ among old (labels_bytes ls) at put.0) (ap (map labels_in) put.1)
+pub sets_are : (old new : List (List ℕ)) (string : List ℕ) (found : Option ℕ) → All IsPackedSet old → IsPackedSet string → Put old new string found
+    → map labels_in new ≡ with_set (map labels_in old) (labels_in string)
+sets_are old new string found is own put =
+    by found put (ap (λ (s : List ℕ). list_any (bytes_eq s) old) (sym own.packed) ∙ same_sets (labels_in string) old (recursion_from_All IsPackedSet old is))
+  where
+    by : (o : Option ℕ) → Put old new string o → list_any (bytes_eq string) old ≡ list_any (label_sets_eq (labels_in string)) (map labels_in old) → map labels_in new ≡ with_set (map labels_in old) (labels_in string)
+    by None put same = rw (sym same ∙ put.0) (ap (map labels_in) put.1 ∙ map-append labels_in old (string ∷ []))
+    by (Some at) put same = rw (sym same ∙ among old string at put.0) (ap (map labels_in) put.1)
 
 read_equal : (read : Option (Bor (List ℕ))) (string : Bor (List ℕ)) → option_eq (λ (a b : Bor (List ℕ)). bytes_eq a.now b.now) read (Some string) ≡ true → option_copied read ≡ Some string.now
 read_equal None string e = absurd cc
 read_equal (Some read) string e = ap Some ((bytes_decides read.now string.now).0 e)
 
 -- nothing is put in where what was read is found equal
-pub stays_there : (old : List (List ℕ)) (ls : List Label) (at : ℕ) (read : Option (Bor (List ℕ))) (string : Bor (List ℕ)) → All IsPackedSet old → option_copied read ≡ slice_get old at
-    → option_eq (λ (a b : Bor (List ℕ)). bytes_eq a.now b.now) read (Some string) ≡ true → string.now ≡ labels_bytes ls
-    → (slice_get (map labels_in old) at ≡ Some ls) × (map labels_in old ≡ with_set (map labels_in old) ls)
-stays_there old ls at read string is got same packed =
-    let there : slice_get old at ≡ Some (labels_bytes ls) = sym got ∙ (read_equal read string same ∙ ap Some packed) in
-    (set_at old ls at there, sets_are old old ls (Some at) is (there, refl))
+pub stays_there : (old : List (List ℕ)) (at : ℕ) (read : Option (Bor (List ℕ))) (string : Bor (List ℕ)) → All IsPackedSet old → IsPackedSet string.now → option_copied read ≡ slice_get old at
+    → option_eq (λ (a b : Bor (List ℕ)). bytes_eq a.now b.now) read (Some string) ≡ true
+    → (slice_get (map labels_in old) at ≡ Some (labels_in string.now)) × (map labels_in old ≡ with_set (map labels_in old) (labels_in string.now))
+stays_there old at read string is own got same =
+    let there : slice_get old at ≡ Some string.now = sym got ∙ read_equal read string same in
+    (set_at old string.now at there, sets_are old old string.now (Some at) is own (there, refl))
 
 -- the key at a place, by its bytes
 pub key_here : (strings : List (List ℕ)) (at : ℕ) (key : SampleKey) → slice_get (map key_at strings) at ≡ Some key → key_at (get_or strings at []) ≡ key

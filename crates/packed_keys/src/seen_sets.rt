@@ -1,9 +1,11 @@
 //! The label sets that were seen, each once.
-ghost use Rattle.std.specs.Prelude.{◌≡◌, ◌<◌, [], length, IfOk, OnErr, slice_get, Some};
+ghost use Rattle.std.specs.Prelude.{◌≡◌, ◌<◌, [], length, map, IfOk, OnErr, slice_get, Some};
+ghost use Rattle.std.specs.List.{All};
 ghost use Rattle.label_sets.specs.Labels.{without_label};
-ghost use Rattle.packed_keys.specs.Packing.{with_set};
+ghost use Rattle.packed_keys.specs.Packing.{labels_in, with_set};
+ghost use Rattle.packed_keys.specs.Texts.{IsPackedSet};
 
-use crate::packing::put_labels_without;
+use crate::packing::{put_labels, put_labels_without};
 use crate::unpacking::read_set;
 use byte_table::ByteTable;
 use label_sets::{LabelSet, Memory};
@@ -34,6 +36,24 @@ impl Model for SeenSets {
     ghost invariant = { λ s. All IsPackedSet s.table };
 }
 
+/// Adds a packed set, where it is new, and answers its place.
+fn insert_packed(table: &mut ByteTable, last: &mut usize, packed: &[u8]) -> Result<usize, Memory>
+    requires set { IsPackedSet packed.now }
+    requires sets { All IsPackedSet table.old }
+    ensures place { IfOk result (λ at. slice_get (map labels_in table.new) at ≡ Some (labels_in packed.now)) }
+    ensures sets { IfOk result (λ at. map labels_in table.new ≡ with_set (map labels_in table.old) (labels_in packed.now)) }
+    ensures err { OnErr result (map labels_in table.new ≡ map labels_in table.old) }
+    ensures packed { All IsPackedSet table.new }
+{
+    if table.get(*last) == Some(packed) {
+        return Ok(*last);
+    }
+    let count = table.len();
+    let place = table.insert(packed)?.unwrap_or(count);
+    *last = place;
+    Ok(place)
+}
+
 impl SeenSets {
     /// No sets. It takes no memory.
     pub fn new(alloc: Global) -> SeenSets
@@ -53,11 +73,26 @@ impl SeenSets {
         self.table.len()
     }
 
+    /// Adds a set, where it is new, and answers its place.
+    ///
+    /// # Errors
+    ///
+    /// Want of memory: then the sets are those that there were.
+    pub fn insert(&mut self, labels: &LabelSet) -> Result<usize, Memory>
+        ensures place { IfOk result (λ at. slice_get self.new at ≡ Some labels.now) }
+        ensures sets { IfOk result (λ at. self.new ≡ with_set self.old labels.now) }
+        ensures err { OnErr result (self.new ≡ self.old) }
+    {
+        self.packed.clear();
+        put_labels(&mut self.packed, labels)?;
+        insert_packed(&mut self.table, &mut self.last, self.packed.as_slice())
+    }
+
     /// Adds the set without the label of this name, where it is new, and answers its place. No set is made.
     ///
     /// # Errors
     ///
-    /// Want of memory.
+    /// Want of memory: then the sets are those that there were.
     pub fn insert_without(&mut self, labels: &LabelSet, name: &[u8]) -> Result<usize, Memory>
         ensures place { IfOk result (λ at. slice_get self.new at ≡ Some (without_label name.now labels.now)) }
         ensures sets { IfOk result (λ at. self.new ≡ with_set self.old (without_label name.now labels.now)) }
@@ -65,13 +100,7 @@ impl SeenSets {
     {
         self.packed.clear();
         put_labels_without(&mut self.packed, labels, name)?;
-        let packed = self.packed.as_slice();
-        if self.table.get(self.last) == Some(packed) {
-            return Ok(self.last);
-        }
-        let count = self.table.len();
-        self.last = self.table.insert(packed)?.unwrap_or(count);
-        Ok(self.last)
+        insert_packed(&mut self.table, &mut self.last, self.packed.as_slice())
     }
 
     /// The set at a place.

@@ -95,12 +95,7 @@ impl GroupSets {
 
     /// Puts a set behind the others, which is none of them. It need not be packed where a key was seen last that
     /// has it.
-    pub(crate) fn push(
-        &mut self,
-        alloc: Global,
-        labels: &LabelSet,
-        seen: Option<&SeenKeys>,
-    ) -> Result<(), Memory>
+    pub(crate) fn push(&mut self, labels: &LabelSet, seen: Option<&SeenKeys>) -> Result<(), Memory>
         requires new { list_any (label_sets_eq labels.now) self.old ≡ false }
         requires seen { IfSome seen (λ keys. EndsWith keys.now labels.now) }
         ensures ok { OnOk result (self.new ≡ self.old ++ labels.now ∷ []) }
@@ -113,7 +108,7 @@ impl GroupSets {
             }
             Held::Packed(sets) => push_packed(sets, labels, seen)?,
             Held::Seen(sets) => {
-                insert_shared(alloc, sets, Kind::Counter, labels)?;
+                sets.insert(labels)?;
             }
         }
         Ok(())
@@ -127,7 +122,7 @@ impl GroupSets {
         let mut sets = SeenSets::new(alloc);
         for at in 0..self.len() {
             let labels = self.set(alloc, at)?;
-            insert_shared(alloc, &mut sets, Kind::Counter, &labels)?;
+            sets.insert(&labels)?;
         }
         Ok(sets)
     }
@@ -145,10 +140,10 @@ impl GroupSets {
         ensures err { OnErr result (self.new ≡ self.old) }
     {
         if let Held::Seen(sets) = &mut self.held {
-            return insert_shared(alloc, sets, kind, labels);
+            return insert_shared(sets, kind, labels);
         }
         let mut sets = self.seen(alloc)?;
-        match insert_shared(alloc, &mut sets, kind, labels) {
+        match insert_shared(&mut sets, kind, labels) {
             Ok(place) => {
                 drop(mem::replace(&mut self.held, Held::Seen(sets)));
                 Ok(place)

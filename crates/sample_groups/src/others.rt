@@ -198,7 +198,7 @@ impl Others {
         };
         // So that nothing can fail behind the set.
         self.groups.reserve(1)?;
-        self.sets.push(alloc, labels, seen)?;
+        self.sets.push(labels, seen)?;
         put(&mut self.groups, group);
         self.nearest = Some(nearest);
         Ok(())

@@ -1,5 +1,5 @@
 //! The labels that the samples of a group share (OpenMetrics 1.0, "Metric").
-ghost use Rattle.std.specs.Prelude.{◌≡◌, false, Some, IfOk, OnErr, slice_get};
+ghost use Rattle.std.specs.Prelude.{◌≡◌, Some, IfOk, OnErr, slice_get};
 ghost use Rattle.std.specs.Option.{option_copied};
 ghost use Rattle.label_sets.specs.Labels.{label_sets_eq, has_name};
 ghost use Rattle.packed_keys.specs.Packing.{with_set};
@@ -51,20 +51,8 @@ pub(crate) fn has_label(labels: &LabelSet, name: &[u8]) -> bool
     labels.value(name).is_some()
 }
 
-/// A name that no label of the set has. On pages it is the empty one, which takes no memory.
-fn absent_name(alloc: Global, labels: &LabelSet) -> Result<Vec<u8>, Memory>
-    ensures { IfOk result (λ name. has_name labels.now name.items ≡ false) }
-{
-    let mut name = Vec::new(alloc);
-    while has_label(labels, name.as_slice()) {
-        name.push(b'_')?;
-    }
-    Ok(name)
-}
-
 /// Adds the labels that a sample shares with its group, where they are new, and answers their place.
 pub(crate) fn insert_shared(
-    alloc: Global,
     sets: &mut SeenSets,
     kind: Kind,
     labels: &LabelSet,
@@ -75,10 +63,6 @@ pub(crate) fn insert_shared(
 {
     match place_name(kind) {
         Some(name) => sets.insert_without(labels, name),
-        None => {
-            // The sets have no call for a whole one.
-            let name = absent_name(alloc, labels)?;
-            sets.insert_without(labels, name.as_slice())
-        }
+        None => sets.insert(labels),
     }
 }
