@@ -1,15 +1,18 @@
 -- A group that begins: its labels are those of no other.
-use Rattle.std.proofs.Common.{◌≡◌, ℕ, zero, suc, ◌+◌, ◌<◌, Bool, true, false, cond, ◌||◌, List, [], ◌∷◌, ◌++◌, length, take, slice_get, get_or, Some, None, refl, sym, ap, ◌∙◌, arith}
-use Rattle.std.specs.List.{list_any, zip, IsDistinct}
+use Rattle.std.proofs.Common.{◌≡◌, ℕ, zero, suc, ◌+◌, ◌<◌, Bool, true, false, not, cond, ◌&&◌, ◌||◌, List, [], ◌∷◌, ◌++◌, length, take, slice_get, get_or, Some, None, refl, sym, ap, ◌∙◌, arith}
+use Rattle.std.specs.List.{list_any, list_all, zip, IsDistinct}
+use Rattle.std.specs.Prelude.{nat_lt}
 use Rattle.std.proofs.lemmas.List.{take_more}
 use Rattle.label_sets.specs.declared.label_set.LabelSet.{LabelSet}
+use Rattle.label_sets.specs.declared.kind.Kind.{Kind}
 use Rattle.label_sets.specs.Labels.{label_sets_eq}
 use Rattle.label_sets.proofs.Laws.{sets_decide}
 use Rattle.packed_keys.specs.Packing.{with_set}
+use Rattle.sample_groups.specs.declared.added.Added.{Added}
 use Rattle.sample_groups.specs.declared.part.Part.{Part}
 use Rattle.sample_groups.specs.declared.part.Part.TheVariants as parts
 use Rattle.sample_groups.specs.Beside.{AreBeside}
-use Rattle.sample_groups.specs.Groups.{Gathered, empty_group, group_from, with_one, or_empty, known_group, put_group, with_part, breaks_order}
+use Rattle.sample_groups.specs.Groups.{Gathered, empty_group, group_from, with_one, or_empty, known_group, put_group, with_part, breaks_order, is_overtaken, is_whole_group, shared_labels, AddsPart}
 use Rattle.sample_groups.proofs.BesideLaws.{zip-snoc, suc_same, first_apart_from, distinct_rest, beside_more}
 
 -- ---- packing
@@ -61,18 +64,20 @@ put_unknown (e ∷ es) labels g h = by (label_sets_eq labels e.0) h (put_unknown
     by true h more = absurd (let no : Some e.1 ≡ None = h in cc)
     by false h more = ap (λ l. e ∷ l) (more h)
 
--- and then they are the groups with that part
-pub begun_with : (ss after : List LabelSet) (gs grown : List Gathered) (old : List (LabelSet × Gathered)) (labels : LabelSet) (g : Gathered) (part : Part) → zip ss gs ≡ old → length ss ≡ length gs → known_group old labels ≡ None
-    → after ≡ ss ++ labels ∷ [] → grown ≡ gs ++ g ∷ [] → g ≡ with_one empty_group part → zip after grown ≡ with_part old labels part
+-- and then they are the groups with its part
+pub begun : (old new : List (LabelSet × Gathered)) (labels : LabelSet) (g : Gathered) (part : Part) → known_group old labels ≡ None → new ≡ old ++ (labels, g) ∷ [] → g ≡ with_one empty_group part → new ≡ with_part old labels part
 unfolding with_part
-begun_with ss after gs grown old labels g part is many new sets groups first =
-    (λ i. zip (sets i) (groups i)) ∙ zip-snoc ss gs labels g many ∙ ap (λ l. l ++ (labels, g) ∷ []) is ∙ sym (put_unknown old labels g new)
-    ∙ ap (put_group old labels) (first ∙ ap (λ k. with_one (or_empty k) part) (sym new))
+begun old new labels g part unknown more first = more ∙ sym (put_unknown old labels g unknown) ∙ ap (put_group old labels) (first ∙ ap (λ k. with_one (or_empty k) part) (sym unknown))
+
+-- labels and group are put behind those of the others
+pub pushed : (ss after : List LabelSet) (gs grown : List Gathered) (old : List (LabelSet × Gathered)) (labels : LabelSet) (g : Gathered) → zip ss gs ≡ old → length ss ≡ length gs
+    → after ≡ ss ++ labels ∷ [] → grown ≡ gs ++ g ∷ [] → zip after grown ≡ old ++ (labels, g) ∷ []
+pushed ss after gs grown old labels g is many sets groups = (λ i. zip (sets i) (groups i)) ∙ zip-snoc ss gs labels g many ∙ ap (λ l. l ++ (labels, g) ∷ []) is
 
 -- each group still stands beside its labels
-pub begun_beside : (ss after : List LabelSet) (gs grown : List Gathered) (old : List (LabelSet × Gathered)) (labels : LabelSet) (g : Gathered) → AreBeside label_sets_eq ss gs → zip ss gs ≡ old → known_group old labels ≡ None
+pub pushed_beside : (ss after : List LabelSet) (gs grown : List Gathered) (old : List (LabelSet × Gathered)) (labels : LabelSet) (g : Gathered) → AreBeside label_sets_eq ss gs → zip ss gs ≡ old → known_group old labels ≡ None
     → after ≡ ss ++ labels ∷ [] → grown ≡ gs ++ g ∷ [] → AreBeside label_sets_eq after grown
-begun_beside ss after gs grown old labels g b is new sets groups =
+pushed_beside ss after gs grown old labels g b is new sets groups =
     let fresh : list_any (label_sets_eq labels) ss ≡ false = unknown_labels ss gs labels b.many (ap (λ l. known_group l labels) is ∙ new) in
     rw (sets, groups) (beside_more label_sets_eq sets_decide ss gs labels g b fresh)
 
@@ -81,16 +86,51 @@ pub last_labels : (ss : List LabelSet) (labels : LabelSet) → slice_get (ss ++ 
 last_labels [] labels = refl
 last_labels (s ∷ ss) labels = last_labels ss labels
 
--- ---- the first group, and the others
-
-pub unknown_other : (labels first : LabelSet) (g : Gathered) (es : List (LabelSet × Gathered)) → known_group ((first, g) ∷ es) labels ≡ None → (label_sets_eq labels first ≡ false) × (known_group es labels ≡ None)
-unknown_other labels first g es h = by (label_sets_eq labels first) h
+-- a group that has not begun is not overtaken
+unknown_overtaken : (es : List (LabelSet × Gathered)) (labels : LabelSet) → known_group es labels ≡ None → is_overtaken es labels ≡ false
+unknown_overtaken [] labels h = refl
+unknown_overtaken (e ∷ es) labels h = by (label_sets_eq labels e.0) h (unknown_overtaken es labels)
   where
-    by : (b : Bool) → cond b (Some g) (known_group es labels) ≡ None → (b ≡ false) × (known_group es labels ≡ None)
-    by true h = absurd (let no : Some g ≡ None = h in cc)
-    by false h = (refl, h)
+    by : (b : Bool) → cond b (Some e.1) (known_group es labels) ≡ None → (known_group es labels ≡ None → is_overtaken es labels ≡ false) → cond b (nat_lt 0 (length es)) (is_overtaken es labels) ≡ false
+    by true h more = absurd (let no : Some e.1 ≡ None = h in cc)
+    by false h more = more h
 
--- a family's first part
-pub first_with : (labels : LabelSet) (part : Part) → (labels, with_one empty_group part) ∷ [] ≡ with_part [] labels part
+-- its part fits
+pub adds_new : (kind : Kind) (labels : LabelSet) (part : Part) (shared : LabelSet) (old new : List (LabelSet × Gathered)) → shared ≡ shared_labels kind labels → known_group old (shared_labels kind labels) ≡ None → new ≡ with_part old shared part
+    → AddsPart kind labels part old new (record { fits = true; overtaken = false })
+adds_new kind labels part shared old new own unknown is = record {
+  answer = ap not (sym (first_fits part)) ∙ ap (λ k. not (breaks_order (or_empty k) part)) (sym unknown);
+  overtaken = sym (unknown_overtaken old (shared_labels kind labels) unknown);
+  grown = λ e. is ∙ ap (λ l. with_part old l part) own;
+}
+
+-- ---- a family's only group
+
+-- nothing stands behind it
+pub only_overtaken : (labels first : LabelSet) (g : Gathered) → false ≡ is_overtaken ((first, g) ∷ []) labels
+only_overtaken labels first g = by (label_sets_eq labels first)
+  where
+    by : (b : Bool) → false ≡ cond b (nat_lt 0 0) false
+    by true = refl
+    by false = refl
+
+-- a part is added to it
+pub adds_own : (kind : Kind) (labels : LabelSet) (part : Part) (only : LabelSet) (g : Gathered) (added : Added) (grown : Gathered) → label_sets_eq (shared_labels kind labels) only ≡ true → added.fits ≡ not (breaks_order g part)
+    → added.overtaken ≡ false → (added.fits ≡ true → grown ≡ with_one g part) → AddsPart kind labels part ((only, g) ∷ []) ((only, grown) ∷ []) added
 unfolding with_part
-first_with labels part = refl
+adds_own kind labels part only g added grown own answer back more =
+    let shared = shared_labels kind labels in
+    let known : g ≡ or_empty (known_group ((only, g) ∷ []) shared) = ap (λ b. or_empty (cond b (Some g) None)) (sym own) in
+    let after = with_one (or_empty (known_group ((only, g) ∷ []) shared)) part in record {
+      answer = answer ∙ ap (λ h. not (breaks_order h part)) known;
+      overtaken = back ∙ only_overtaken shared only g;
+      grown = λ e. ap (λ h. (only, h) ∷ []) (more e ∙ ap (λ h. with_one h part) known) ∙ ap (λ b. cond b ((only, after) ∷ []) ((only, g) ∷ (shared, after) ∷ [])) (sym own);
+    }
+
+-- it tells whether all groups are whole
+pub only_whole : (labels : LabelSet) (g : Gathered) → is_whole_group g ≡ list_all (λ (e : LabelSet × Gathered). is_whole_group e.1) ((labels, g) ∷ [])
+only_whole labels g = by (is_whole_group g)
+  where
+    by : (b : Bool) → b ≡ (b && true)
+    by true = refl
+    by false = refl

@@ -1,5 +1,5 @@
 -- The place of a group among the groups, and the group with one part more.
-use Rattle.std.proofs.Common.{◌≡◌, ℕ, zero, suc, ◌+◌, ◌<◌, Bool, true, false, cond, not, ◌&&◌, ◌||◌, ◌==◌, List, [], ◌∷◌, ◌++◌, map, filter_map, length, drop, append_assoc, slice_get, slice_set, get_or, Option, Some, None, refl, sym, ap, subst, ◌∙◌, arith}
+use Rattle.std.proofs.Common.{◌≡◌, ℕ, zero, suc, ◌+◌, ◌<◌, Bool, true, false, cond, ◌&&◌, ◌||◌, ◌==◌, List, [], ◌∷◌, ◌++◌, map, filter_map, length, drop, append_assoc, slice_get, slice_set, get_or, Option, Some, None, refl, sym, ap, subst, ◌∙◌, arith}
 use Rattle.std.specs.List.{list_any, list_all, zip, cons_option}
 use Rattle.std.specs.Prelude.{nat_lt}
 use Rattle.std.proofs.lemmas.Bool.{eqb-true, eqb-false}
@@ -9,9 +9,8 @@ use Rattle.label_sets.specs.declared.kind.Kind.{Kind}
 use Rattle.label_sets.proofs.Laws.{sets_decide}
 use Rattle.label_sets.specs.Labels.{label_sets_eq}
 use Rattle.page_model.specs.declared.page.Reading.{Reading}
-use Rattle.sample_groups.specs.declared.added.Added.{Added}
 use Rattle.sample_groups.specs.declared.part.Part.{Part}
-use Rattle.sample_groups.specs.Groups.{Gathered, empty_group, known_group, or_empty, with_one, put_group, with_part, breaks_order, is_overtaken, shared_labels, AddsPart, is_whole_group, reading_named}
+use Rattle.sample_groups.specs.Groups.{Gathered, empty_group, known_group, or_empty, with_one, put_group, with_part, is_overtaken, is_whole_group, reading_named}
 use Rattle.sample_groups.specs.Beside.{AreBeside}
 use Rattle.packed_keys.specs.Packing.{with_set}
 use Rattle.sample_groups.specs.Placing.{HasPlace, with_group_at}
@@ -204,53 +203,6 @@ unfolding with_part
 added_at old new labels place before after part has at is =
     let same : before ≡ or_empty (known_group old labels) = some_same (sym at ∙ has.group) in
     ap (with_group_at new place) (is ∙ ap (λ g. with_one g part) same) ∙ has.put (with_one (or_empty (known_group old labels)) part)
-
--- the first group, and the others
-known_first : (labels first : LabelSet) (g : Gathered) (es : List (LabelSet × Gathered)) → label_sets_eq labels first ≡ true → g ≡ or_empty (known_group ((first, g) ∷ es) labels)
-known_first labels first g es own = ap (λ b. or_empty (cond b (Some g) (known_group es labels))) (sym own)
-
-known_other : (labels first : LabelSet) (g : Gathered) (es : List (LabelSet × Gathered)) → label_sets_eq labels first ≡ false → known_group es labels ≡ known_group ((first, g) ∷ es) labels
-known_other labels first g es other = ap (λ b. cond b (Some g) (known_group es labels)) (sym other)
-
-with_first : (labels first : LabelSet) (g : Gathered) (es : List (LabelSet × Gathered)) (part : Part) → label_sets_eq labels first ≡ true → (first, with_one g part) ∷ es ≡ with_part ((first, g) ∷ es) labels part
-unfolding with_part
-with_first labels first g es part own =
-    ap (λ h. (first, with_one h part) ∷ es) (known_first labels first g es own)
-    ∙ ap (λ b. cond b ((first, with_one (or_empty (known_group ((first, g) ∷ es) labels)) part) ∷ es) ((first, g) ∷ put_group es labels (with_one (or_empty (known_group ((first, g) ∷ es) labels)) part))) (sym own)
-
-pub with_other : (labels first : LabelSet) (g : Gathered) (es : List (LabelSet × Gathered)) (part : Part) → label_sets_eq labels first ≡ false → (first, g) ∷ with_part es labels part ≡ with_part ((first, g) ∷ es) labels part
-unfolding with_part
-with_other labels first g es part other =
-    ap (λ k. (first, g) ∷ put_group es labels (with_one (or_empty k) part)) (known_other labels first g es other)
-    ∙ ap (λ b. cond b ((first, with_one (or_empty (known_group ((first, g) ∷ es) labels)) part) ∷ es) ((first, g) ∷ put_group es labels (with_one (or_empty (known_group ((first, g) ∷ es) labels)) part))) (sym other)
-
--- a part added to the first group, or to one of the others
-pub overtaken_first : (labels first : LabelSet) (g : Gathered) (es : List (LabelSet × Gathered)) → label_sets_eq labels first ≡ true → nat_lt 0 (length es) ≡ is_overtaken ((first, g) ∷ es) labels
-overtaken_first labels first g es own = ap (λ b. cond b (nat_lt 0 (length es)) (is_overtaken es labels)) (sym own)
-
-pub overtaken_other : (labels first : LabelSet) (g : Gathered) (es : List (LabelSet × Gathered)) → label_sets_eq labels first ≡ false → is_overtaken es labels ≡ is_overtaken ((first, g) ∷ es) labels
-overtaken_other labels first g es other = ap (λ b. cond b (nat_lt 0 (length es)) (is_overtaken es labels)) (sym other)
-
-module _ (kind : Kind) (labels : LabelSet) (part : Part) (first : LabelSet) (g : Gathered) (es : List (LabelSet × Gathered)) (added : Added) where
-  pub adds_first : (grown : Gathered) → label_sets_eq (shared_labels kind labels) first ≡ true → added.fits ≡ not (breaks_order g part) → added.overtaken ≡ nat_lt 0 (length es) → (added.fits ≡ true → grown ≡ with_one g part)
-      → AddsPart kind labels part ((first, g) ∷ es) ((first, grown) ∷ es) added
-  adds_first grown own answer back more = record {
-    answer = answer ∙ ap (λ h. not (breaks_order h part)) (known_first (shared_labels kind labels) first g es own);
-    overtaken = back ∙ overtaken_first (shared_labels kind labels) first g es own;
-    grown = λ e. ap (λ h. (first, h) ∷ es) (more e) ∙ with_first (shared_labels kind labels) first g es part own;
-  }
-
-  pub adds_other : (new : List (LabelSet × Gathered)) → label_sets_eq (shared_labels kind labels) first ≡ false → AddsPart kind labels part es new added → AddsPart kind labels part ((first, g) ∷ es) ((first, g) ∷ new) added
-  adds_other new other adds = record {
-    answer = adds.answer ∙ ap (λ k. not (breaks_order (or_empty k) part)) (known_other (shared_labels kind labels) first g es other);
-    overtaken = adds.overtaken ∙ overtaken_other (shared_labels kind labels) first g es other;
-    grown = λ e. ap (λ l. (first, g) ∷ l) (adds.grown e) ∙ with_other (shared_labels kind labels) first g es part other;
-  }
-
--- the first part of a family
-pub with_only : (labels : LabelSet) (part : Part) → with_part ((labels, empty_group) ∷ []) labels part ≡ with_part [] labels part
-unfolding with_part
-with_only labels part = sym (with_first labels labels empty_group [] part ((sets_decide labels labels).1 refl))
 
 -- ---- whole groups
 

@@ -1,12 +1,17 @@
 -- The groups of a family (the bridge's own).
-use Rattle.std.specs.Prelude.{List, [], Option, None, Some}
-use Rattle.std.specs.declared.alloc.Global.{Global}
-use Rattle.std.specs.declared.boxed.Box.{Box}
+use Rattle.std.specs.Prelude.{List, [], ◌∷◌}
 use Rattle.label_sets.specs.declared.label_set.LabelSet.{LabelSet}
 use Rattle.sample_groups.specs.Groups.{Gathered}
-use Rattle.sample_groups.specs.declared.table.Table.{Table}
+use Rattle.sample_groups.specs.declared.groups.OnlyGroup.{OnlyGroup}
+use Rattle.sample_groups.specs.declared.groups.Store.{Store}
+use Rattle.sample_groups.specs.declared.groups.Store.TheVariants.{Nothing, One, Many}
 
--- the groups of a table, or none
-abbrev pub groups_in : Option (Box Table Global) → List (LabelSet × Gathered)
-groups_in None = []
-groups_in (Some b) = b.value
+-- a family's only group
+abbrev pub only_in : OnlyGroup → List (LabelSet × Gathered)
+only_in only = (only.labels, only.group) ∷ []
+
+-- the groups, wherever they lie
+abbrev pub groups_in : Store → List (LabelSet × Gathered)
+groups_in Nothing = []
+groups_in (One only) = only_in only.value
+groups_in (Many table) = table.value

@@ -8,8 +8,7 @@ pub mod Kept
 pub mod Beside
 pub mod PartLists
 pub mod Placing
-pub mod GroupSets
+pub mod GroupLabels
 pub mod LastSeen
 pub mod Nearest
-pub mod Tables
 pub mod Families

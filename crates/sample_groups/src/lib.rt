@@ -4,16 +4,15 @@
 
 mod added;
 mod group;
-mod group_sets;
+mod group_labels;
+mod group_table;
 mod groups;
-mod others;
 mod part;
 mod part_list;
 mod parts;
 mod places;
 mod reading;
 mod shared;
-mod table;
 
 pub use added::Added;
 pub use groups::Groups;

@@ -1,25 +1,28 @@
-use Rattle.std.proofs.Common.{◌≡◌, ◌∙◌, ap, sym, not}
-use Rattle.sample_groups.specs.Groups.{shared_labels, with_part, known_group, or_empty, breaks_order}
+use Rattle.std.proofs.Common.{◌≡◌, ◌∙◌, List, None, ap, sym, subst}
+use Rattle.std.specs.Prelude.{IfSome, IfNone}
+use Rattle.label_sets.specs.declared.label_set.LabelSet.{LabelSet}
 use Rattle.sample_groups.specs.Families.{groups_in}
-use Rattle.sample_groups.proofs.Placing.{with_only}
+use Rattle.sample_groups.specs.Groups.{Gathered, AddsPart, shared_labels, with_part, known_group}
+use Rattle.sample_groups.proofs.Beginning.{adds_new}
 use Rattle.sample_groups.proofs.groups.Groups.add.Goals as goal
-use Rattle.sample_groups.proofs.groups.Groups.add.Goals.{In_ok-added-in-Some}
 
-groups : (c : In_ok-added-in-Some) → c.deref_mut.result.now ≡ c.args.self.now
-groups c = c.deref_mut.ensures.value ∙ sym (ap groups_in c.in-Some.is) ∙ c.self.view_is
+pub returns-in-Some : goal.returns-in-Some
+returns-in-Some c =
+    let adds = subst (λ (old : List (LabelSet × Gathered)). AddsPart c.args.kind c.args.labels.now c.args.part old (groups_in c.add_in.new.store) c.in-Some.added) c.self.view_is
+    (subst (λ o. IfSome o (AddsPart c.args.kind c.args.labels.now c.args.part (groups_in c.self.inside.store) (groups_in c.add_in.new.store))) c.in-Some.is c.in_ok-known.ensures.own) in
+    record { answer = adds.answer; overtaken = adds.overtaken; added = adds.grown }
 
-pub returns-in_ok-added-in-Some-clause-answer : goal.returns-in_ok-added-in-Some-clause-answer
-returns-in_ok-added-in-Some-clause-answer c =
-    c.in_ok-added-in-Some.ensures.answer ∙ (λ i. not (breaks_order (or_empty (known_group (groups c i) (shared_labels c.args.kind c.args.labels.now))) c.args.part))
+pub begin-requires-clause-new : goal.begin-requires-clause-new
+begin-requires-clause-new c =
+    let same = subst (λ o. IfNone o (groups_in c.add_in.new.store ≡ groups_in c.self.inside.store)) c.in-None.is c.in_ok-known.ensures.same in
+    let new = subst (λ o. IfNone o (known_group (groups_in c.self.inside.store) (shared_labels c.args.kind c.args.labels.now) ≡ None)) c.in-None.is c.in_ok-known.ensures.new in
+    (λ i. known_group (same i) (c.in_ok-shared-in-None.ensures i)) ∙ new
 
-pub returns-in_ok-added-in-Some-clause-added : goal.returns-in_ok-added-in-Some-clause-added
-returns-in_ok-added-in-Some-clause-added c = λ added. c.in_ok-added-in-Some.ensures.grown added ∙ (λ i. with_part (groups c i) (shared_labels c.args.kind c.args.labels.now) c.args.part)
-
-pub returns-in_ok-new-in-None-clause-added : goal.returns-in_ok-new-in-None-clause-added
-returns-in_ok-new-in-None-clause-added c = λ added.
-    let none = sym (ap groups_in c.in-None.is) ∙ c.self.view_is in
-    let labels = c.in_ok-shared-in-None.ensures in
-    c.in_ok-new-in-None.ensures.ok ∙ c.in_ok-added-in-None.ensures.grown added
-    ∙ (λ i. with_part (c.of-table.ensures i) (sym labels i) c.args.part)
-    ∙ with_only c.in_ok-shared-in-None.shared c.args.part
-    ∙ (λ i. with_part (none i) (labels i) c.args.part)
+pub returns-in_ok-begin-in-None : goal.returns-in_ok-begin-in-None
+returns-in_ok-begin-in-None c =
+    let same = subst (λ o. IfNone o (groups_in c.add_in.new.store ≡ groups_in c.self.inside.store)) c.in-None.is c.in_ok-known.ensures.same in
+    let new = subst (λ o. IfNone o (known_group (groups_in c.self.inside.store) (shared_labels c.args.kind c.args.labels.now) ≡ None)) c.in-None.is c.in_ok-known.ensures.new in
+    let adds = adds_new c.args.kind c.args.labels.now c.args.part c.in_ok-shared-in-None.shared c.args.self.now c.begin.new.self c.in_ok-shared-in-None.ensures
+    (ap (λ (l : List (LabelSet × Gathered)). known_group l (shared_labels c.args.kind c.args.labels.now)) (sym c.self.view_is) ∙ new)
+    (c.in_ok-begin-in-None.ensures ∙ ap (λ (l : List (LabelSet × Gathered)). with_part l c.in_ok-shared-in-None.shared c.args.part) (same ∙ c.self.view_is)) in
+    record { answer = adds.answer; overtaken = adds.overtaken; added = adds.grown }
