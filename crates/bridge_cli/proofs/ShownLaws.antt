@@ -25,6 +25,7 @@ use Rattle.start_times.specs.Scrapes.{scrape_after}
 use Rattle.target_core.specs.Events.{latest_shown}
 use Rattle.target_core.specs.States.{Following}
 use Rattle.series_table.specs.Records.{IsScrapedWithin}
+use Rattle.series_table.proofs.Laws.{filled_within}
 use Rattle.federation_page.specs.Gathering.{is_one_target, IsTargetName, IsShowable, AreShowable}
 use Rattle.target_table.specs.Paging.{federated_text}
 use Rattle.replay_script.specs.declared.header.Header.{Header}
@@ -84,7 +85,7 @@ shown_within : (h : Header) (replies : List MemoryReply) (target : Scraped) (eve
     → IsScrapedWithin h.limit (latest_shown target events).page
 unfolding latest_shown scrape_after
 shown_within h replies target [] are = nothing_within h.limit
-shown_within h replies target (e ∷ earlier) are = reply_within h are.0.reply e.outcome are.0.is.comes_to
+shown_within h replies target (e ∷ earlier) are = filled_within h.limit (page_of_outcome e.outcome) (reply_within h are.0.reply e.outcome are.0.is.comes_to)
 
 -- what is shown is of this job and instance
 record IsNamedAs (target : Scraped) (s : Shown) : Type 0 where

@@ -52,9 +52,10 @@ thin_values kind (r ∷ rs) (s ∷ ss) (inr thin) have = thin_values kind rs (s 
 thin_families : (fs gs : List Family) → AreThinnerFamilies fs gs → HaveKindValues fs → HaveKindValues gs
 thin_families [] [] thin have = tt
 thin_families [] (g ∷ gs) thin have = absurd thin
-thin_families (f ∷ fs) [] thin have = absurd thin
-thin_families (f ∷ fs) (g ∷ gs) thin have =
+thin_families (f ∷ fs) [] thin have = tt
+thin_families (f ∷ fs) (g ∷ gs) (inl thin) have =
     (subst (λ kind. HaveValuesOf kind g.readings) (sym thin.0.kind) (thin_values f.kind f.readings g.readings thin.0.readings have.0), thin_families fs gs thin.1 have.1)
+thin_families (f ∷ fs) (g ∷ gs) (inr thin) have = thin_families fs (g ∷ gs) thin have.1
 
 -- ---- the page
 

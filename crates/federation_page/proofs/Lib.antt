@@ -15,3 +15,4 @@ pub mod CodeSteps
 pub mod RightGathered
 mod GatherCases
 pub mod FewGathered
+pub mod FilledShown

@@ -21,7 +21,8 @@ use Rattle.page_model.specs.declared.event.Shown.{Shown}
 use Rattle.page_model.specs.PageValues.{PageValue}
 use Rattle.page_model.specs.Written.{Setting, line_limit}
 use Rattle.page_model.specs.Owners.{group_of}
-use Rattle.page_model.specs.Pages.{AreSomeOf, IsThinnerReading, AreThinnerFamilies, IsPageRead}
+use Rattle.page_model.specs.Pages.{IsThinnerReading, AreThinnerFamilies, IsPageRead}
+use Rattle.page_model.proofs.Laws.{some_filtered}
 use Rattle.open_writing.specs.Writing.{reading_samples, family_samples, item_unless_empty, family_items, page_items, item_text, sample_text}
 use Rattle.open_writing.specs.FamilyKeys.{family_key, clash, is_one_family}
 use Rattle.open_writing.specs.Forms.{IsFormedReading, IsFormedFamily, AreFormed, label_sets_of, stand_together}
@@ -247,30 +248,13 @@ module _ (shown : List Shown) (distinct : IsDistinct is_one_target shown) (good 
 
 -- ---- showable targets
 
-some_left : (p : Reading → Bool) (xs ys : List Reading) → AreSomeOf IsThinnerReading xs ys → AreSomeOf IsThinnerReading xs (filter p ys)
-some_left p [] [] h = tt
-some_left p [] (y ∷ ys) h = absurd h
-some_left p (x ∷ xs) [] h = h
-some_left p (x ∷ xs) (y ∷ ys) (inl h) = go (p y) (some_left p xs ys h.1)
-  where
-    go : (b : Bool) → AreSomeOf IsThinnerReading xs (filter p ys) → AreSomeOf IsThinnerReading (x ∷ xs) (cond b (y ∷ filter p ys) (filter p ys))
-    go true ih = inl (h.0, ih)
-    go false ih = behind (filter p ys) ih
-      where
-        behind : (zs : List Reading) → AreSomeOf IsThinnerReading xs zs → AreSomeOf IsThinnerReading (x ∷ xs) zs
-        behind [] k = k
-        behind (z ∷ zs) k = inr k
-some_left p (x ∷ xs) (y ∷ ys) (inr h) = behind (filter p (y ∷ ys)) (some_left p xs (y ∷ ys) h)
-  where
-    behind : (zs : List Reading) → AreSomeOf IsThinnerReading xs zs → AreSomeOf IsThinnerReading (x ∷ xs) zs
-    behind [] k = k
-    behind (z ∷ zs) k = inr k
-
 thinner_left : (fs gs : List Family) → AreThinnerFamilies fs gs → AreThinnerFamilies fs (map kept_family gs)
 thinner_left [] [] h = tt
 thinner_left [] (g ∷ gs) h = absurd h
-thinner_left (f ∷ fs) [] h = absurd h
-thinner_left (f ∷ fs) (g ∷ gs) h = (record { name = h.0.name; kind = h.0.kind; help = h.0.help; unit = h.0.unit; readings = some_left (stays g.kind) f.readings g.readings h.0.readings }, thinner_left fs gs h.1)
+thinner_left (f ∷ fs) [] h = thinner_left fs [] h
+thinner_left (f ∷ fs) (g ∷ gs) (inl h) =
+    inl (record { name = h.0.name; kind = h.0.kind; help = h.0.help; unit = h.0.unit; readings = some_filtered IsThinnerReading (stays g.kind) f.readings g.readings h.0.readings }, thinner_left fs gs h.1)
+thinner_left (f ∷ fs) (g ∷ gs) (inr h) = inr (thinner_left fs (g ∷ gs) h)
 
 sources_of : (form : Format) (fs : List Family) → AllByRecursion (IsFormedFamily form Scraped) (map kept_family fs) → AllByRecursion (IsShort most_scraped_line) (flat_map family_items (map kept_family fs)) → AllByRecursion (IsSource form) fs
 sources_of form [] h k = tt

@@ -1,10 +1,11 @@
 -- Laws of gathering. A call of the crate stands for each that is proved.
 -- The bridge's own.
-use Rattle.std.specs.Prelude.{ℕ, ◌<◌, ◌≤◌, ◌^◌, List}
+use Rattle.std.specs.Prelude.{◌≡◌, ℕ, ◌<◌, ◌≤◌, ◌^◌, List, map}
 use Rattle.page_model.specs.declared.format.Treatment.TheVariants.{Written}
 use Rattle.page_model.specs.declared.event.Shown.{Shown}
 use Rattle.page_model.specs.Written.{open_setting}
 use Rattle.page_model.specs.Pages.{IsPageOf}
+use Rattle.page_model.specs.Presence.{filled_page}
 use Rattle.open_writing.specs.Writing.{sample_lines, written_text}
 use Rattle.open_writing.specs.FamilyKeys.{AreApart}
 use Rattle.open_writing.specs.OpenForms.{IsOpenForm, AreWritable}
@@ -30,3 +31,11 @@ GatheredAreOpenForms = (shown : List Shown) → AreShowable shown → IsOpenForm
 abbrev pub GatheredReadBack : Type 0
 GatheredReadBack = (shown : List Shown) (limit : ℕ) → AreShowable shown → sample_lines (federated_page shown).families ≤ limit
     → IsPageOf (open_setting Written limit) (written_text (federated_page shown)) (federated_page shown)
+
+-- the same, and of its page the families that have readings
+abbrev pub with_filled_page : Shown → Shown
+with_filled_page s = record { job = s.job; instance = s.instance; moment = s.moment; page = filled_page s.page }
+
+-- families that have no reading are nothing on the page, so it is the same where they are not shown
+abbrev pub FilledGatherTheSame : Type 0
+FilledGatherTheSame = (shown : List Shown) → federated_page (map with_filled_page shown) ≡ federated_page shown

@@ -5,6 +5,7 @@ ghost use Rattle.std.specs.Prelude.{◌≡◌, ◌++◌, IfOk, OnOk, OnErr};
 ghost use Rattle.open_writing.specs.Writing.{written_text};
 ghost use Rattle.federation_page.specs.Gathering.{AreShowable, federated_page};
 ghost use Rattle.federation_page.specs.Laws.{
+  FilledGatherTheSame,
   GatheredAreApart,
   GatheredAreFew,
   GatheredAreOpenForms,
@@ -80,4 +81,9 @@ pub fn gathered_pages()
     ensures writable { GatheredAreWritable }
     ensures forms { GatheredAreOpenForms }
     ensures back { GatheredReadBack }
+{}
+
+/// Families that have no reading are nothing on the federation page: it is the same where they are not shown.
+pub fn filled_gathered()
+    ensures { FilledGatherTheSame }
 {}

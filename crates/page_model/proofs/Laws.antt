@@ -8,4 +8,6 @@ pub use Rattle.page_model.proofs.Least.{none_found}
 pub use Rattle.page_model.proofs.KindLaws.{kind_of_page}
 pub use Rattle.page_model.proofs.Texts.{items_make_text, Made, nothing_made, made_more, made_says}
 pub use Rattle.page_model.proofs.DistinctKeys.{page-distinct_keys}
-pub use Rattle.page_model.proofs.RightPages.{text_is_right, nothing_is_right, right-distinct_keys}
+pub use Rattle.page_model.proofs.SomeOf.{some_skipped, some_filtered}
+pub use Rattle.page_model.proofs.RightPages.{whole_family, text_is_right, nothing_is_right, right-distinct_keys}
+pub use Rattle.page_model.proofs.Filled.{no_readings, filled_is_read, filled_readings}

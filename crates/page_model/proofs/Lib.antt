@@ -11,7 +11,9 @@ pub mod DistinctKeys
 pub mod Groups
 pub mod Prefixes
 pub mod Least
+pub mod SomeOf
 pub mod RightPages
+pub mod Filled
 pub mod Texts
 pub mod KindLaws
 pub mod SampleNames

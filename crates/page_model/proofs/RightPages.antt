@@ -17,26 +17,19 @@ use Rattle.page_model.specs.Faults.{end_breaks, end_fault, fault_from, fault_of}
 use Rattle.page_model.specs.Readings.{families_of, page_of}
 use Rattle.page_model.specs.Presence.{empty_page, keys_of}
 use Rattle.page_model.proofs.DistinctKeys.{page-distinct_keys}
+use Rattle.page_model.proofs.SomeOf.{all_of, none_of, some_skipped}
 
 -- ---- nothing is taken out
-
-all_of : {A : Type 0} (IsLeft : A → A → Type 0) → ((x : A) → IsLeft x x) → (xs : List A) → AreSomeOf IsLeft xs xs
-all_of IsLeft same [] = tt
-all_of IsLeft same (x ∷ xs) = inl (same x, all_of IsLeft same xs)
 
 whole_reading : (r : Reading) → IsThinnerReading r r
 whole_reading r = record { key = refl; value = refl; created = refl; stamp = inl refl; exemplars = all_of (λ a b. b ≡ a) (λ x. refl) r.exemplars }
 
-whole_family : (f : Family) → IsThinnerFamily f f
+pub whole_family : (f : Family) → IsThinnerFamily f f
 whole_family f = record { name = refl; kind = refl; help = refl; unit = refl; readings = all_of IsThinnerReading whole_reading f.readings }
-
-whole_families : (fs : List Family) → AreThinnerFamilies fs fs
-whole_families [] = tt
-whole_families (f ∷ fs) = (whole_family f, whole_families fs)
 
 -- the page of a text is right
 pub text_is_right : (st : Setting) (bytes : List ℕ) (page : PageValue) → IsPageOf st bytes page → IsPageRead st page
-text_is_right st bytes page p = record { text = bytes; whole = page; read = p; families = whole_families page.families; samples = refl }
+text_is_right st bytes page p = record { text = bytes; whole = page; read = p; families = all_of IsThinnerFamily whole_family page.families; samples = refl }
 
 nothing_broken : (treatment : Treatment) (limit : ℕ) → fault_of (text_setting treatment limit) [] true ≡ None
 unfolding fault_from end_fault end_breaks is_without_eof owned_lines leaves_incomplete
@@ -72,26 +65,28 @@ keys_left (r ∷ rs) (s ∷ ss) (inr h) = inr (keys_left rs (s ∷ ss) h)
 left_append : (js ks ls ms : List SeriesKey) → AreLeft js ls → AreLeft ks ms → AreLeft (js ++ ks) (ls ++ ms)
 left_append [] ks [] ms g h = h
 left_append [] ks (l ∷ ls) ms g h = absurd g
-left_append (j ∷ js) ks [] ms g h = more ks ms (left_append js ks [] ms g h)
-  where
-    more : (ks ms : List SeriesKey) → AreLeft (js ++ ks) ms → AreLeft (j ∷ js ++ ks) ms
-    more ks [] f = f
-    more ks (m ∷ ms) f = inr f
+left_append (j ∷ js) ks [] ms g h = some_skipped (λ a b. b ≡ a) j (js ++ ks) ms (left_append js ks [] ms g h)
 left_append (j ∷ js) ks (l ∷ ls) ms (inl g) h = inl (g.0, left_append js ks ls ms g.1 h)
 left_append (j ∷ js) ks (l ∷ ls) ms (inr g) h = inr (left_append js ks (l ∷ ls) ms g h)
 
 readings_in : List Family → List Reading
 readings_in fs = flat_map (λ (f : Family). f.readings) fs
 
+-- a family that is taken out
+taken_out : (f : Family) (fs : List Family) (ls : List SeriesKey) → AreLeft (keys (readings_in fs)) ls → AreLeft (keys (readings_in (f ∷ fs))) ls
+unfolding readings_in
+taken_out f fs ls h = rw (map-append (λ (r : Reading). r.key) f.readings (readings_in fs)) (left_append (keys f.readings) (keys (readings_in fs)) [] ls (none_of (λ a b. b ≡ a) (keys f.readings)) h)
+
 families_left : (fs gs : List Family) → AreThinnerFamilies fs gs → AreLeft (keys (readings_in fs)) (keys (readings_in gs))
 unfolding readings_in
 families_left [] [] h = tt
 families_left [] (g ∷ gs) h = absurd h
-families_left (f ∷ fs) [] h = absurd h
-families_left (f ∷ fs) (g ∷ gs) h =
+families_left (f ∷ fs) [] h = taken_out f fs [] (families_left fs [] h)
+families_left (f ∷ fs) (g ∷ gs) (inl h) =
     let here = keys_left f.readings g.readings h.0.readings in
     let both = left_append (keys f.readings) (keys (readings_in fs)) (keys g.readings) (keys (readings_in gs)) here (families_left fs gs h.1) in
     rw (map-append (λ (r : Reading). r.key) f.readings (readings_in fs), map-append (λ (r : Reading). r.key) g.readings (readings_in gs)) both
+families_left (f ∷ fs) (g ∷ gs) (inr h) = taken_out f fs (keys (readings_in (g ∷ gs))) (families_left fs (g ∷ gs) h)
 
 all_left : (P : SeriesKey → Type 0) (ks ls : List SeriesKey) → AreLeft ks ls → AllByRecursion P ks → AllByRecursion P ls
 all_left P [] [] h a = tt

@@ -14,7 +14,7 @@ use Rattle.page_model.specs.Faults.{Line, Fault, end_fault, lines_fault, fault_o
 use Rattle.page_model.specs.Readings.{page_of}
 use Rattle.page_model.specs.Pages.{Spells, FirstFault, IsPageOf, AreItemsOfLines, AreFaultless, IsPageRead, IsRightPage}
 use Rattle.page_model.specs.PageReading.{written_of, line_read, text_fault, text_page}
-use Rattle.page_model.specs.Presence.{empty_page, keys_of}
+use Rattle.page_model.specs.Presence.{empty_page, all_readings, keys_of, filled_page}
 
 -- a line spells at most one item
 abbrev pub SpellsOnce : Type 0
@@ -82,3 +82,11 @@ KindOfPage = (st : Setting) (items : List Item) (family : List ℕ) → AreFault
 -- the page without families is right under either treatment
 abbrev pub NothingIsRight : Type 0
 NothingIsRight = (treatment : Treatment) (limit : ℕ) → IsPageRead (text_setting treatment limit) empty_page
+
+-- a page that was read is still one without the families that have no reading
+abbrev pub FilledAreRead : Type 0
+FilledAreRead = (st : Setting) (page : PageValue) → IsPageRead st page → IsPageRead st (filled_page page)
+
+-- and its readings are the same
+abbrev pub FilledLoseNothing : Type 0
+FilledLoseNothing = (page : PageValue) → all_readings (filled_page page) ≡ all_readings page

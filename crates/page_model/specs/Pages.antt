@@ -98,14 +98,11 @@ pub record IsThinnerFamily (whole thin : Family) : Type 0 where
   pub unit : thin.unit ≡ whole.unit
   pub readings : AreSomeOf IsThinnerReading whole.readings thin.readings
 
--- the same families in order, each perhaps thinner
+-- the same families in order, perhaps without some, each perhaps thinner
 abbrev pub AreThinnerFamilies : List Family → List Family → Type 0
-AreThinnerFamilies [] [] = ⊤
-AreThinnerFamilies [] (g ∷ gs) = ⊥
-AreThinnerFamilies (f ∷ fs) [] = ⊥
-AreThinnerFamilies (f ∷ fs) (g ∷ gs) = IsThinnerFamily f g × AreThinnerFamilies fs gs
+AreThinnerFamilies whole thin = AreSomeOf IsThinnerFamily whole thin
 
--- a page of some text read in this way, or such a page with readings, stamps or exemplars taken out
+-- a page of some text read in this way, or such a page with families, readings, stamps or exemplars taken out
 pub record IsPageRead (st : Setting) (page : PageValue) : Type 0 where
   pub text : List ℕ
   pub whole : PageValue

@@ -1,6 +1,6 @@
 -- The series of a page, and of the page of a scrape.
 -- OpenTelemetry metrics data model, "Timeseries Model".
-use Rattle.std.specs.Prelude.{Bool, List, [], map, find, Option, is_some}
+use Rattle.std.specs.Prelude.{Bool, not, List, [], map, filter, find, length, ◌==◌, Option, is_some}
 use Rattle.std.specs.List.{flat_map}
 use Rattle.label_sets.specs.declared.series_key.SeriesKey.{SeriesKey}
 use Rattle.label_sets.specs.Keys.{key_eq}
@@ -34,3 +34,15 @@ reading_at key page = find (λ (r : Reading). key_eq key r.key) (all_readings pa
 -- the series is present in the page
 abbrev pub is_present : SeriesKey → PageValue → Bool
 is_present key page = is_some (reading_at key page)
+
+-- the family has readings
+abbrev pub has_readings : Family → Bool
+has_readings f = not (length f.readings == 0)
+
+-- the families that have readings
+abbrev pub filled_families : List Family → List Family
+filled_families families = filter has_readings families
+
+-- the page without the families that have no reading: its readings are those of the page
+abbrev pub filled_page : PageValue → PageValue
+filled_page page = record { families = filled_families page.families; samples = page.samples }

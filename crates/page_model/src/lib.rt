@@ -5,6 +5,7 @@
 mod counts;
 mod event;
 mod fault;
+mod filled_pages;
 mod format;
 mod item;
 mod page;

@@ -133,7 +133,7 @@ impl Family {
 }
 
 /// A page without a fault: families in the order of their first lines. That it is right is kept by its type: some
-/// text says it, or it is such a page with readings, stamps or exemplars taken out.
+/// text says it, or it is such a page with families, readings, stamps or exemplars taken out.
 #[derive(Drop)]
 pub struct Page {
     families: List<Family>,

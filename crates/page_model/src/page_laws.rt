@@ -17,6 +17,8 @@ ghost use Rattle.page_model.specs.Laws.{
   KindOfPage,
   KindStays,
   NothingIsRight,
+  FilledAreRead,
+  FilledLoseNothing,
 };
 
 /// A line spells at most one item, and the plain reader of one line finds it.
@@ -56,6 +58,12 @@ pub fn right_pages()
     ensures texts { TextsAreRight }
     ensures items { ItemsMakeTexts }
     ensures nothing { NothingIsRight }
+{}
+
+/// A page that was read is still one without the families that have no reading, and its readings are the same.
+pub fn filled_pages_lose_nothing()
+    ensures read { FilledAreRead }
+    ensures readings { FilledLoseNothing }
 {}
 
 /// A family's kind at one of its samples is its kind on the page.

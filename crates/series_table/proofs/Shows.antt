@@ -5,8 +5,8 @@ use Rattle.page_model.specs.declared.event.Outcome.{Outcome}
 use Rattle.page_model.specs.declared.event.Outcome.TheVariants as outcomes
 use Rattle.page_model.specs.declared.format.Treatment.TheVariants.{Scraped}
 use Rattle.page_model.specs.declared.page.Page.{Page}
-use Rattle.page_model.specs.Presence.{page_of_outcome, empty_page}
-use Rattle.page_model.proofs.Laws.{nothing_is_right, right-distinct_keys}
+use Rattle.page_model.specs.Presence.{page_of_outcome, empty_page, filled_page}
+use Rattle.page_model.proofs.Laws.{nothing_is_right, right-distinct_keys, filled_is_read}
 use Rattle.page_model.specs.Written.{text_setting}
 use Rattle.start_times.specs.Advancing.{HasDistinctKeys}
 use Rattle.start_times.specs.Scrapes.{scrape_after}
@@ -24,14 +24,18 @@ pub page_within : (limit : ℕ) (o : Outcome) → IsWithinLimit limit o → IsSc
 page_within limit (outcomes.Page page) h = record { scraped = h.0; few = h.1 }
 page_within limit (outcomes.Failed cause) h = nothing_within limit
 
--- no two of its readings are of one series
+-- a page within it is so without its families that have no reading
+pub filled_within : (limit : ℕ) (page : Page) → IsScrapedWithin limit page → IsScrapedWithin limit (filled_page page)
+filled_within limit page h = record { scraped = (h.scraped.0, h.scraped.1, filled_is_read h.scraped.0 page h.scraped.2); few = h.few }
+
+-- no two readings of such a page are of one series
 pub keys_differ : (limit : ℕ) (page : Page) → IsScrapedWithin limit page → HasDistinctKeys page
 keys_differ limit page h = right-distinct_keys page (h.scraped.0, h.scraped.2)
 
 -- what a target shows behind an event
 pub shows_event : (f : Followed) (e : Event) (earlier : List Event) → IsScrapedWithin f.settings.limit (page_of_outcome e.outcome) → IsShownOf f (latest_shown f.target (e ∷ earlier))
 unfolding latest_shown scrape_after
-shows_event f e earlier h = record { job = refl; instance = refl; scraped = h }
+shows_event f e earlier h = record { job = refl; instance = refl; scraped = filled_within f.settings.limit (page_of_outcome e.outcome) h }
 
 -- what it shows before the first one
 pub shows_nothing : (f : Followed) → IsShownOf f (latest_shown f.target [])

@@ -2,4 +2,3 @@ pub mod Cases
 pub mod Gone
 pub mod Lacking
 pub mod Laws
-pub mod RightKeys

@@ -1,7 +1,7 @@
 -- One event more: the starts and the markers that a state gives are those of the events for which it stands.
 use Rattle.std.proofs.Common.{◌≡◌, ℕ, ◌+◌, ◌<◌, Bool, true, false, cond, ◌||◌, List, [], ◌∷◌, ◌++◌, map, filter, find, take, length, get_or, Option, Some, None, option_map, option_and_then, refl, sym, ap, subst, ◌∙◌, is_some}
-use Rattle.std.specs.Prelude.{Result, Ok, Err, IfOk}
-use Rattle.std.specs.List.{list_any}
+use Rattle.std.specs.Prelude.{Result, Ok, Err, IfOk, nat_le}
+use Rattle.std.specs.List.{list_any, IsDistinct}
 use Rattle.std.proofs.lemmas.List.{map-append, get_or-map}
 use Rattle.std.proofs.lemmas.Bool.{or_left, or_right}
 use Rattle.label_sets.specs.declared.series_key.SeriesKey.{SeriesKey}
@@ -11,12 +11,13 @@ use Rattle.page_model.specs.declared.page.Reading.{Reading}
 use Rattle.page_model.specs.declared.page.Page.{Page}
 use Rattle.page_model.specs.declared.event.Event.{Event}
 use Rattle.page_model.specs.declared.event.Shown.{Shown}
-use Rattle.page_model.specs.Presence.{all_readings, keys_of, reading_at, is_present, page_of_outcome}
+use Rattle.page_model.specs.Presence.{all_readings, keys_of, reading_at, is_present, page_of_outcome, filled_page}
+use Rattle.page_model.proofs.Laws.{filled_readings}
 use Rattle.start_times.specs.declared.row.Row.{Row}
 use Rattle.start_times.specs.declared.row.Starts.{Starts}
 use Rattle.start_times.specs.Scrapes.{Scrape, last_moment, last_page, moment_after, scrape_after, scrapes_of}
 use Rattle.start_times.specs.Starts.{Tracking, has_start, reading_start, start_there}
-use Rattle.start_times.specs.Rows.{Tracked, Tracks, row_of, kept_row, kept_start}
+use Rattle.start_times.specs.Rows.{Tracked, Tracks, row_of, row_behind, kept_row, kept_start}
 use Rattle.start_times.specs.Advancing.{Advances, HasDistinctKeys, scrape_of}
 use Rattle.start_times.proofs.Laws.{row_of_sight, reading_is_of}
 use Rattle.staleness.specs.Vanished.{is_gone}
@@ -73,6 +74,32 @@ unfolding marker_with
 markers_are_kept t k past now tracks = same_starts (is_gone now.page) (marker_with (kept_start k.rows) now.moment) (marker_with (start_there t past) now.moment) (keys_of (last_page past))
     (λ key among. ap (λ s. record { key = key; start = s; time = now.moment }) (kept_there t k past key tracks (sym (any_of_keys key (all_readings (last_page past))) ∙ among)))
 
+-- ---- what is kept of a page
+
+-- the row of a series behind a scrape with these readings
+abbrev row_among : Tracking → SeriesKey → ℕ → List Scrape → List Reading → Option Row
+row_among t key moment before rs = cond (is_some (find (λ (r : Reading). key_eq key r.key) rs))
+    (cond (nat_le 0 t.keep) (option_map (λ (r : Reading). row_of t 0 moment r before) (find (λ (r : Reading). key_eq key r.key) rs)) None)
+    (row_behind t key (0 + 1) before)
+
+-- so a scrape counts by its moment and its readings
+same_row : (t : Tracking) (key : SeriesKey) (moment : ℕ) (before : List Scrape) (a b : Page) → all_readings a ≡ all_readings b
+    → kept_row t key (scrape_of a moment ∷ before) ≡ kept_row t key (scrape_of b moment ∷ before)
+unfolding kept_row
+same_row t key moment before a b same = ap (λ (rs : List Reading). cond (has_start key.kind) (row_among t key moment before rs) None) same
+
+same_tracks : (t : Tracking) (k : Tracked) (moment : ℕ) (before : List Scrape) (a b : Page) → all_readings a ≡ all_readings b
+    → Tracks t k (scrape_of a moment ∷ before) → Tracks t k (scrape_of b moment ∷ before)
+same_tracks t k moment before a b same tracks = record { keep = tracks.keep; rows = λ key. tracks.rows key ∙ same_row t key moment before a b same; once = tracks.once }
+
+-- the page before counts by its readings
+same_markers : (rows : List (SeriesKey × Row)) (moment : ℕ) (before now : Page) → kept_markers rows moment (filled_page before) now ≡ kept_markers rows moment before now
+same_markers rows moment before now =
+    ap (λ (rs : List Reading). map (marker_with (kept_start rows) moment) (filter (is_gone now) (map (λ (r : Reading). r.key) rs))) (filled_readings before)
+
+filled_distinct : (page : Page) → HasDistinctKeys page → HasDistinctKeys (filled_page page)
+filled_distinct page distinct = subst (λ (rs : List Reading). IsDistinct key_eq (map (λ (r : Reading). r.key) rs)) (sym (filled_readings page)) distinct
+
 -- ---- the rows behind all scrapes
 
 pub told_late : (s : Following) (moment : ℕ) (starts : Starts) (k : Tracked) → s.pending ≡ true → s.moment ≡ Some moment → Advances s.tracked s.page moment starts k
@@ -80,12 +107,13 @@ pub told_late : (s : Following) (moment : ℕ) (starts : Starts) (k : Tracked) �
 told_late s moment starts k pending at step target t events stands =
     by (scrapes_of events) (subst (λ (b : Bool). Tracks t s.tracked (told_scrapes b (scrapes_of events))) pending stands.tracks) stands.page_is (sym at ∙ stands.moment_is)
   where
-    by : (past : List Scrape) → Tracks t s.tracked (told_scrapes true past) → s.page ≡ last_page past → Some moment ≡ last_moment past → Tracks t k past
+    by : (past : List Scrape) → Tracks t s.tracked (told_scrapes true past) → s.page ≡ filled_page (last_page past) → Some moment ≡ last_moment past → Tracks t k past
     by [] tracks page_is moment_is = absurd cc
     by (last ∷ before) tracks page_is moment_is =
         let m : moment ≡ last.moment = cc in
-        let same : scrape_of s.page moment ≡ last = λ i. record { moment = m i; page = page_is i } in
-        subst (λ (x : Scrape). Tracks t k (x ∷ before)) same (step t before tracks (stands.distinct pending)).1
+        let same : scrape_of s.page moment ≡ scrape_of (filled_page last.page) last.moment = λ i. record { moment = m i; page = page_is i } in
+        same_tracks t k last.moment before (filled_page last.page) last.page (filled_readings last.page)
+        (subst (λ (x : Scrape). Tracks t k (x ∷ before)) same (step t before tracks (stands.distinct pending)).1)
 
 -- ---- steps
 
@@ -99,7 +127,7 @@ none_told true = refl
 none_told false = refl
 
 pub first_steps : (old new : Following) (e : Event) (moment up : ℕ) (page : Page) (request : Request) → old.moment ≡ None → ComesTo None e moment up page
-    → request ≡ request_of old.target (first_start moment) [] moment up page → new ≡ record { target = old.target; tracked = old.tracked; pending = true; page = page; moment = Some moment } → Steps old e request new
+    → request ≡ request_of old.target (first_start moment) [] moment up page → new ≡ record { target = old.target; tracked = old.tracked; pending = true; page = filled_page page; moment = Some moment } → Steps old e request new
 unfolding event_request scrape_after
 first_steps old new e moment up page request none comes is then target t earlier stands distinct =
     let nothing : earlier ≡ [] = no_events old target t earlier none stands in
@@ -109,8 +137,8 @@ first_steps old new e moment up page request none comes is then target t earlier
       subst (λ (s : Following). StandsFor target t s (e ∷ [])) (sym then) (record {
         target_is = stands.target_is;
         tracks = subst (Tracks t old.tracked) (none_told old.pending) first.tracks;
-        distinct = λ p. subst HasDistinctKeys (sym comes.page_is) distinct;
-        page_is = comes.page_is;
+        distinct = λ p. filled_distinct page (subst HasDistinctKeys (sym comes.page_is) distinct);
+        page_is = ap filled_page comes.page_is;
         moment_is = ap Some comes.moment_is;
       }),
     )
@@ -119,7 +147,7 @@ pub later_steps : (old new : Following) (e : Event) (before moment up : ℕ) (pa
     → old.moment ≡ Some before → ComesTo (Some before) e moment up page
     → ((target : Scraped) (t : Tracking) (events : List Event) → StandsFor target t old events → Tracks t k (scrapes_of events)) → Advances k page moment starts next
     → IsTreeBehind old k.rows moment up page starts.list request
-    → new ≡ record { target = old.target; tracked = next; pending = false; page = page; moment = Some moment } → Steps old e request new
+    → new ≡ record { target = old.target; tracked = next; pending = false; page = filled_page page; moment = Some moment } → Steps old e request new
 unfolding request_after scrape_after
 later_steps old new e before moment up page request k next starts at comes told step is then target t earlier stands distinct =
     let past = scrapes_of earlier in
@@ -127,14 +155,14 @@ later_steps old new e before moment up page request k next starts at comes told 
     let now : scrape_of page moment ≡ scrape_after past e = λ i. record { moment = (comes.moment_is ∙ ap (λ m. moment_after m e.reading) (sym at ∙ stands.moment_is)) i; page = comes.page_is i } in
     let own = step t past tracks (subst HasDistinctKeys (sym comes.page_is) distinct) in
     let ms_are : kept_markers k.rows moment old.page page ≡ markers_at t past (scrape_of page moment) =
-    ap (λ p. kept_markers k.rows moment p page) stands.page_is ∙ markers_are_kept t k past (scrape_of page moment) tracks in (
+    ap (λ p. kept_markers k.rows moment p page) stands.page_is ∙ same_markers k.rows moment (last_page past) page ∙ markers_are_kept t k past (scrape_of page moment) tracks in (
       is (reading_start t past moment) own.0 tracks.once
           ∙ (λ i. request_of (stands.target_is i) (reading_start t past (now i).moment) ((ms_are ∙ ap (markers_at t past) now) i) (now i).moment (comes.up_is i) (now i).page),
       subst (λ (s : Following). StandsFor target t s (e ∷ earlier)) (sym then) (record {
         target_is = stands.target_is;
         tracks = subst (λ (s : Scrape). Tracks t next (s ∷ past)) now own.1;
         distinct = λ p. absurd cc;
-        page_is = comes.page_is;
+        page_is = ap filled_page comes.page_is;
         moment_is = ap (λ (s : Scrape). Some s.moment) now;
       }),
     )

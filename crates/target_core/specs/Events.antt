@@ -7,6 +7,7 @@ use Rattle.page_model.specs.declared.page.Page.{Page}
 use Rattle.page_model.specs.declared.event.Outcome.{Outcome}
 use Rattle.page_model.specs.declared.event.Event.{Event}
 use Rattle.page_model.specs.declared.event.Shown.{Shown}
+use Rattle.page_model.specs.Presence.{filled_page}
 use Rattle.start_times.specs.declared.row.Row.{Row}
 use Rattle.start_times.specs.Scrapes.{Scrape, last_moment, last_page, scrape_after, scrapes_of}
 use Rattle.start_times.specs.Starts.{Tracking, has_start, created_at, reading_start, start_there}
@@ -41,13 +42,13 @@ abbrev pub requests_of : Scraped → Tracking → List Event → List Request
 requests_of target t [] = []
 requests_of target t (e ∷ earlier) = request_after target t earlier e ∷ requests_of target t earlier
 
--- what a target shows behind these events: the page of the last one, and its moment
+-- what a target shows behind these events: the page of the last one without the families that have no reading, and its moment
 unfoldable pub latest_shown : Scraped → List Event → Shown
 latest_shown target events = record {
   job = target.job;
   instance = target.instance;
   moment = last_moment (scrapes_of events);
-  page = last_page (scrapes_of events);
+  page = filled_page (last_page (scrapes_of events));
 }
 
 -- ---- the first event

@@ -9,7 +9,7 @@ use Rattle.page_model.specs.declared.page.Reading.{Reading}
 use Rattle.page_model.specs.declared.page.Page.{Page}
 use Rattle.page_model.specs.declared.event.Event.{Event}
 use Rattle.page_model.specs.declared.event.Shown.{Shown}
-use Rattle.page_model.specs.Presence.{all_readings, page_of_outcome}
+use Rattle.page_model.specs.Presence.{all_readings, page_of_outcome, filled_page}
 use Rattle.start_times.specs.declared.row.Row.{Row}
 use Rattle.start_times.specs.Scrapes.{Scrape, last_moment, last_page, moment_after, scrapes_of}
 use Rattle.start_times.specs.Starts.{Tracking}
@@ -21,7 +21,7 @@ use Rattle.target_core.specs.Trees.{up_of, request_of}
 use Rattle.target_core.specs.Events.{kept_markers, request_after, event_request, latest_shown}
 
 -- a state as its contracts see it: the target, what is kept of its series, whether its last page is still to be put among that,
--- that page, and its last moment, where there was one
+-- that page without the families that have no reading, and its last moment, where there was one
 pub record Following : Type 0 where
   pub target : Scraped
   pub tracked : Tracked
@@ -40,7 +40,7 @@ pub record StandsFor (target : Scraped) (t : Tracking) (s : Following) (events :
   pub target_is : s.target ≡ target
   pub tracks : Tracks t s.tracked (told_scrapes s.pending (scrapes_of events))
   pub distinct : s.pending ≡ true → HasDistinctKeys s.page
-  pub page_is : s.page ≡ last_page (scrapes_of events)
+  pub page_is : s.page ≡ filled_page (last_page (scrapes_of events))
   pub moment_is : s.moment ≡ last_moment (scrapes_of events)
 
 -- a further moment fits behind the last one
@@ -48,7 +48,7 @@ abbrev pub HasNextMoment : Option ℕ → Type 0
 HasNextMoment None = ⊤
 HasNextMoment (Some moment) = moment < 2 ^ 64 - 1
 
--- the state of the same target behind an event with this page and this moment, of whose series this is kept
+-- the state of the same target behind an event at this moment, of whose series and page this is kept
 abbrev pub next_state : Following → Tracked → Page → ℕ → Following
 next_state before tracked page moment = record { target = before.target; tracked = tracked; pending = false; page = page; moment = Some moment }
 

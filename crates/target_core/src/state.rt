@@ -4,7 +4,7 @@ ghost use Rattle.std.specs.List.{IsDistinct};
 ghost use Rattle.std.specs.Map.{keys_of};
 ghost use Rattle.label_sets.specs.Keys.{key_eq};
 ghost use Rattle.page_model.specs.declared.event.Event.{Event as AnyEvent};
-ghost use Rattle.page_model.specs.Presence.{page_of_outcome};
+ghost use Rattle.page_model.specs.Presence.{filled_page, page_of_outcome};
 ghost use Rattle.start_times.specs.Scrapes as scrapes;
 ghost use Rattle.start_times.specs.Starts.{Tracking};
 ghost use Rattle.start_times.specs.Rows.{Tracks};
@@ -31,7 +31,7 @@ use std::marker::Model;
 const LATEST_READING: u64 = 4_611_686_018_427_387_904;
 
 /// What is kept of a target between its scrapes: a row for each series that can still come back, and the
-/// last page. It has no history.
+/// last page without the families that have no reading. It has no history.
 #[derive(Drop)]
 pub struct TargetState {
     target: Target,
@@ -161,9 +161,10 @@ impl TargetState {
         ensures tree { IfOk result (λ request. request ≡ request_of self.old.target (first_start moment) [] moment up page) }
         ensures err { OnErr result (self.new ≡ self.old) }
     {
+        let kept = page.filled(alloc)?;
         let tree = self.first_tree(alloc, moment, up, &page)?;
         self.pending = true;
-        self.page = page;
+        self.page = kept;
         self.moment = Some(moment);
         Ok(tree)
     }
@@ -196,7 +197,7 @@ impl TargetState {
     ) -> Result<(Request, Tracker), Memory>
         requires { self.now.moment ≡ Some before }
         ensures { (e : AnyEvent) → ComesTo (Some before) e moment up page.now
-            → IfOk result (λ r. Steps self.now e r.0 (next_state self.now r.1 page.now moment)) }
+            → IfOk result (λ r. Steps self.now e r.0 (next_state self.now r.1 (filled_page page.now) moment)) }
     {
         let tracker = self.told_tracker(alloc, before)?;
         let (starts, next) = tracker.advance(alloc, page, moment)?;
@@ -219,10 +220,11 @@ impl TargetState {
         ensures moment { OnOk result (self.new.moment ≡ Some moment) }
         ensures err { OnErr result (self.new ≡ self.old) }
     {
+        let kept = page.filled(alloc)?;
         let (tree, next) = self.later_tree(alloc, before, moment, up, &page)?;
         self.tracker = next;
         self.pending = false;
-        self.page = page;
+        self.page = kept;
         self.moment = Some(moment);
         Ok(tree)
     }
@@ -264,8 +266,8 @@ impl TargetState {
         }
     }
 
-    /// What the target shows: its last page, which is empty where that scrape failed or where there was
-    /// none, and the moment. The page has one owner more.
+    /// What the target shows: its last page without the families that have no reading, which is empty where
+    /// that scrape failed or where there was none, and the moment. The page has one owner more.
     ///
     /// # Errors
     ///

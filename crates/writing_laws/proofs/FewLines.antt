@@ -382,13 +382,14 @@ thinner_readings (r ∷ rs) (q ∷ qs) (inr s) = let rest = thinner_readings rs 
 thinner_families : (fs gs : List Family) → AreThinnerFamilies fs gs → total family_lines gs ≤ total family_lines fs
 thinner_families [] [] t = omega arith
 thinner_families [] (g ∷ gs) t = absurd t
-thinner_families (f ∷ fs) [] t = absurd t
-thinner_families (f ∷ fs) (g ∷ gs) t =
+thinner_families (f ∷ fs) [] t = omega arith
+thinner_families (f ∷ fs) (g ∷ gs) (inl t) =
     let mine = total_is reading_lines g.readings in
     let whole = total_is reading_lines f.readings in
     let fewer = thinner_readings f.readings g.readings t.0.readings in
     let rest = thinner_families fs gs t.1 in
     omega (arith, mine, whole, fewer, rest)
+thinner_families (f ∷ fs) (g ∷ gs) (inr t) = let rest = thinner_families fs (g ∷ gs) t in omega (arith, rest)
 
 pub few_lines : WritesFewLines
 few_lines st page read =
@@ -459,13 +460,17 @@ few_left (r ∷ rs) (q ∷ qs) (inr s) = let rest = few_left rs (q ∷ qs) s in 
 thinner_few : (fs gs : List Family) → AreThinnerFamilies fs gs → length (flat_map (λ (f : Family). f.readings) gs) ≤ length (flat_map (λ (f : Family). f.readings) fs)
 thinner_few [] [] t = omega arith
 thinner_few [] (g ∷ gs) t = absurd t
-thinner_few (f ∷ fs) [] t = absurd t
-thinner_few (f ∷ fs) (g ∷ gs) t =
+thinner_few (f ∷ fs) [] t = omega arith
+thinner_few (f ∷ fs) (g ∷ gs) (inl t) =
     let whole = length-append f.readings (flat_map (λ (h : Family). h.readings) fs) in
     let thin = length-append g.readings (flat_map (λ (h : Family). h.readings) gs) in
     let here = few_left f.readings g.readings t.0.readings in
     let rest = thinner_few fs gs t.1 in
     omega (arith, whole, thin, here, rest)
+thinner_few (f ∷ fs) (g ∷ gs) (inr t) =
+    let whole = length-append f.readings (flat_map (λ (h : Family). h.readings) fs) in
+    let rest = thinner_few fs (g ∷ gs) t in
+    omega (arith, whole, rest)
 
 pub few_readings : ReadsFewReadings
 few_readings st page read =

@@ -1,5 +1,5 @@
 -- Each page that a text says has the form, also where readings, timestamps and exemplars are taken out.
-use Rattle.std.proofs.Common.{◌≡◌, ℕ, ◌≤◌, Bool, true, false, cond, not, ◌&&◌, List, [], ◌∷◌, ◌++◌, map, filter, filter_map, reverse, length, codes, Option, Some, None, option_map, option_and_then, refl, sym, ap, subst, ◌∙◌, arith, inl, inr}
+use Rattle.std.proofs.Common.{◌≡◌, ℕ, ◌≤◌, Bool, true, false, cond, not, ◌&&◌, List, [], ◌∷◌, ◌++◌, map, filter, filter_map, reverse, length, codes, Option, Some, None, option_map, option_and_then, refl, sym, ap, subst, ◌∙◌, arith, inl}
 use Rattle.std.specs.Prelude.{unwrap_or}
 use Rattle.std.specs.List.{list_any, list_all, cons_option, AllByRecursion, IsDistinct}
 use Rattle.std.specs.Str.{bytes_eq}
@@ -38,7 +38,7 @@ use Rattle.page_model.specs.Rules.{is_open_metrics, is_info_or_state_set, is_uni
 use Rattle.page_model.specs.Faults.{end_fault}
 use Rattle.page_model.specs.Readings.{value_with, buckets_of, quantiles_of, sum_of, is_measured, counter_suffix, value_of, key_name, reading_labels, stamp_of, exemplars_of, reading_of, readings_of, unit_in, family_of, families_of, page_of}
 use Rattle.page_model.specs.Pages.{items_of, AreFaultless, IsPageOf, AreSomeOf}
-use Rattle.page_model.proofs.Laws.{label_sets_decide, kind_of_page}
+use Rattle.page_model.proofs.Laws.{label_sets_decide, kind_of_page, some_skipped, some_filtered}
 use Rattle.sample_groups.specs.Sound.{AreSound}
 use Rattle.family_rules.proofs.Laws.{AreFit, fit_lines, sound_samples, reversed_samples, IsValueOf, HaveValuesOf, page_values, AreTogether, together_samples, free_lines}
 use Rattle.open_writing.specs.Writing.{number_sample, with_number_label, bucket_sample, quantile_sample, total_samples, value_samples, reading_samples, written_text}
@@ -48,7 +48,7 @@ use Rattle.writing_laws.proofs.Turned.{all-map, all-of, any-none, none-any, Pair
 use Rattle.writing_laws.proofs.FairParts.{NoPlace}
 use Rattle.writing_laws.proofs.FewLines.{firsts_distinct}
 use Rattle.writing_laws.proofs.ReadBack.{reads_back}
-use Rattle.writing_laws.proofs.ThinnerPages.{some_all, some_distinct, some_mapped, some_together, thin_forms, thin_same}
+use Rattle.writing_laws.proofs.ThinnerPages.{some_all, some_distinct, some_mapped, some_together, thin_forms, thin_distinct}
 use Rattle.writing_laws.proofs.ReadItems.{IsFormedSample, IsFormedItem, IsFormedOwned, formed_lines, formed_owned}
 use Rattle.writing_laws.proofs.ReadFamilies.{pairs-reverse, formed_kind, formed_help, formed_unit, format_unit, sampled, own_unit, allowed_unit, samples_together}
 use Rattle.writing_laws.proofs.ReadParts.{IsKeptSet, kept_reading, no_place_in, IsPart}
@@ -58,24 +58,9 @@ use Rattle.writing_laws.proofs.PutLabels.{without_absent}
 
 -- ---- lists of which some elements are left
 
-some_skip : {A : Type 0} (x : A) (xs ys : List A) → AreSomeOf (λ a b. b ≡ a) xs ys → AreSomeOf (λ a b. b ≡ a) (x ∷ xs) ys
-some_skip x xs [] s = s
-some_skip x xs (y ∷ ys) s = inr s
-
-some_filter : {A : Type 0} (p : A → Bool) (xs ys : List A) → AreSomeOf (λ a b. b ≡ a) xs ys → AreSomeOf (λ a b. b ≡ a) xs (filter p ys)
-some_filter p [] [] s = tt
-some_filter p [] (y ∷ ys) s = absurd s
-some_filter p (x ∷ xs) [] s = some_filter p xs [] s
-some_filter p (x ∷ xs) (y ∷ ys) (inl s) = go (p y) (some_filter p xs ys s.1)
-  where
-    go : (b : Bool) → AreSomeOf (λ a b. b ≡ a) xs (filter p ys) → AreSomeOf (λ a b. b ≡ a) (x ∷ xs) (cond b (y ∷ filter p ys) (filter p ys))
-    go true ih = inl (s.0, ih)
-    go false ih = some_skip x xs (filter p ys) ih
-some_filter p (x ∷ xs) (y ∷ ys) (inr s) = some_skip x xs (filter p (y ∷ ys)) (some_filter p xs (y ∷ ys) s)
-
 pub firsts_some : {A : Type 0} (eq : A → A → Bool) (xs : List A) → AreSomeOf (λ a b. b ≡ a) xs (first_of_each eq xs)
 firsts_some eq [] = tt
-firsts_some eq (x ∷ xs) = inl (refl, some_filter (λ y. not (eq x y)) xs (first_of_each eq xs) (firsts_some eq xs))
+firsts_some eq (x ∷ xs) = inl (refl, some_filtered (λ a b. b ≡ a) (λ y. not (eq x y)) xs (first_of_each eq xs) (firsts_some eq xs))
 
 pairs_filter : {A : Type 0} (R : A → A → Type 0) (p : A → Bool) (xs : List A) → Pairs R xs → Pairs R (filter p xs)
 pairs_filter R p [] h = tt
@@ -256,7 +241,7 @@ module _ (st : Setting) (kind : Kind) (family unit : List ℕ) (samples : List S
     where
       go : (o : Option Reading) → reading_of st kind family unit samples l ≡ o → AreSomeOf (λ a b. b ≡ a) ls (label_sets_of (filter_map (reading_of st kind family unit samples) ls))
           → AreSomeOf (λ a b. b ≡ a) (l ∷ ls) (label_sets_of (cons_option o (filter_map (reading_of st kind family unit samples) ls)))
-      go None e ih = some_skip l ls _ ih
+      go None e ih = some_skipped (λ a b. b ≡ a) l ls _ ih
       go (Some r) e ih = inl (made_labels l r e, ih)
 
 module _ (st : Setting) (kind : Kind) (family unit : List ℕ) (samples : List Sample) (good : AllByRecursion (IsGoodSample st kind family) samples) (places : kind ≡ Summary → Pairs (AreApartQuantiles st family) samples) where
@@ -435,7 +420,7 @@ read_pages st page read =
     record {
       each = All-from_recursion (IsFormedFamily st.format st.treatment) page.families
           (thin_forms st.format st.treatment read.whole.families page.families read.families (recursion_from_All (IsFormedFamily st.format st.treatment) read.whole.families whole.each));
-      names = subst (IsDistinct bytes_eq) (sym (thin_same (λ (f : Family). f.name) (λ f g h. h.name) read.whole.families page.families read.families)) whole.names;
+      names = thin_distinct bytes_eq (λ (f : Family). f.name) (λ f g h. h.name) read.whole.families page.families read.families whole.names;
     }
 
 -- a page in OpenMetrics form can be written

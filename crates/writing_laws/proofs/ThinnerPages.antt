@@ -25,6 +25,7 @@ use Rattle.label_sets.specs.Sets.{IsLabelSet}
 use Rattle.label_sets.proofs.Laws.{all-append, all-front, all-behind, rest-passed, rest-stopped, rest-none}
 use Rattle.page_model.specs.Owners.{group_of}
 use Rattle.page_model.specs.Pages.{AreSomeOf, IsThinnerReading, IsThinnerFamily, AreThinnerFamilies}
+use Rattle.page_model.proofs.Laws.{whole_family}
 use Rattle.open_writing.specs.Writing.{number_sample, value_samples, reading_samples, item_unless_empty, family_samples, family_items, page_items, item_text}
 use Rattle.open_writing.specs.FamilyKeys.{family_key, clash}
 use Rattle.open_writing.specs.Forms.{IsFormedValue, IsFormedTime, is_text_label, is_own_label, IsFormedReading, IsFormedFamily, label_sets_of, stand_together}
@@ -197,33 +198,33 @@ family_lines_kept P f rs s h =
 
 -- ---- pages
 
+-- a thinner family has the form, and bare readings
+formed_left : (form : Format) (treatment : Treatment) (f g : Family) → IsThinnerFamily f g → IsFormedFamily form treatment f → IsFormedFamily form treatment g
+formed_left form treatment f g t h = subst (IsFormedFamily form treatment) (with_readings f g t) (with_some form treatment f g.readings t.readings h)
+
 pub thin_forms : (form : Format) (treatment : Treatment) (fs gs : List Family) → AreThinnerFamilies fs gs → AllByRecursion (IsFormedFamily form treatment) fs → AllByRecursion (IsFormedFamily form treatment) gs
-thin_forms form treatment [] [] t h = tt
-thin_forms form treatment [] (g ∷ gs) t h = absurd t
-thin_forms form treatment (f ∷ fs) [] t h = absurd t
-thin_forms form treatment (f ∷ fs) (g ∷ gs) t h = (subst (IsFormedFamily form treatment) (with_readings f g t.0) (with_some form treatment f g.readings t.0.readings h.0), thin_forms form treatment fs gs t.1 h.1)
+thin_forms form treatment fs gs t h = some_hold IsThinnerFamily (IsFormedFamily form treatment) (formed_left form treatment) fs gs t h
 
-pub thin_same : {B : Type 0} (p : Family → B) → ((f g : Family) → IsThinnerFamily f g → p g ≡ p f) → (fs gs : List Family) → AreThinnerFamilies fs gs → map p gs ≡ map p fs
-thin_same p same [] [] t = refl
-thin_same p same [] (g ∷ gs) t = absurd t
-thin_same p same (f ∷ fs) [] t = absurd t
-thin_same p same (f ∷ fs) (g ∷ gs) t = ap (λ x. x ∷ map p gs) (same f g t.0) ∙ ap (λ xs. p f ∷ xs) (thin_same p same fs gs t.1)
+-- the readings of a family are bare
+abbrev Bare : Family → Type 0
+Bare f = All IsBareReading f.readings
 
-thin_bare : (fs gs : List Family) → AreThinnerFamilies fs gs → AllByRecursion (λ (f : Family). All IsBareReading f.readings) fs → AllByRecursion (λ (f : Family). All IsBareReading f.readings) gs
-thin_bare [] [] t h = tt
-thin_bare [] (g ∷ gs) t h = absurd t
-thin_bare (f ∷ fs) [] t h = absurd t
-thin_bare (f ∷ fs) (g ∷ gs) t h =
-    (All-from_recursion IsBareReading g.readings (some_hold IsThinnerReading IsBareReading bare_thinner f.readings g.readings t.0.readings (recursion_from_All IsBareReading f.readings h.0)), thin_bare fs gs t.1 h.1)
+bare_left : (f g : Family) → IsThinnerFamily f g → Bare f → Bare g
+bare_left f g t h = All-from_recursion IsBareReading g.readings (some_hold IsThinnerReading IsBareReading bare_thinner f.readings g.readings t.readings (recursion_from_All IsBareReading f.readings h))
+
+-- what tells families apart still does, where those that are left have it too
+pub thin_distinct : {B : Type 0} (eq : B → B → Bool) (p : Family → B) → ((f g : Family) → IsThinnerFamily f g → p g ≡ p f) → (fs gs : List Family) → AreThinnerFamilies fs gs → IsDistinct eq (map p fs) → IsDistinct eq (map p gs)
+thin_distinct eq p same fs gs t d = some_distinct eq (map p fs) (map p gs) (some_mapped IsThinnerFamily p same fs gs t) d
 
 pub thin_lines : (P : Item → Type 0) (fs gs : List Family) → AreThinnerFamilies fs gs → AllByRecursion P (flat_map family_items fs) → AllByRecursion P (flat_map family_items gs)
 thin_lines P [] [] t h = tt
 thin_lines P [] (g ∷ gs) t h = absurd t
-thin_lines P (f ∷ fs) [] t h = absurd t
-thin_lines P (f ∷ fs) (g ∷ gs) t h =
+thin_lines P (f ∷ fs) [] t h = tt
+thin_lines P (f ∷ fs) (g ∷ gs) (inl t) h =
     all-append P (family_items g) (flat_map family_items gs)
     (subst (λ x. AllByRecursion P (family_items x)) (with_readings f g t.0) (family_lines_kept P f g.readings t.0.readings (all-front P (family_items f) (flat_map family_items fs) h)))
     (thin_lines P fs gs t.1 (all-behind P (family_items f) (flat_map family_items fs) h))
+thin_lines P (f ∷ fs) (g ∷ gs) (inr t) h = thin_lines P fs (g ∷ gs) t (all-behind P (family_items f) (flat_map family_items fs) h)
 
 key_same : (f g : Family) → IsThinnerFamily f g → family_key g ≡ family_key f
 key_same f g t = λ i. record { name = t.name i; kind = t.kind i; unit = t.unit i }
@@ -238,36 +239,20 @@ pub thinner : ThinnerAreWritable
 thinner fs gs w t = record {
   formed = record {
     each = All-from_recursion _ gs (thin_forms OpenMetrics treatments.Written fs gs t (recursion_from_All _ fs w.formed.each));
-    names = subst (IsDistinct bytes_eq) (sym (thin_same (λ (f : Family). f.name) (λ f g h. h.name) fs gs t)) w.formed.names;
+    names = thin_distinct bytes_eq (λ (f : Family). f.name) (λ f g h. h.name) fs gs t w.formed.names;
   };
-  bare = All-from_recursion _ gs (thin_bare fs gs t (recursion_from_All _ fs w.bare));
-  apart = subst (IsDistinct clash) (sym (thin_same family_key key_same fs gs t)) w.apart;
+  bare = All-from_recursion Bare gs (some_hold IsThinnerFamily Bare bare_left fs gs t (recursion_from_All Bare fs w.bare));
+  apart = thin_distinct clash family_key key_same fs gs t w.apart;
   short_lines = short_kept (λ (item : Item). length (item_text item) ≤ line_limit treatments.Written) fs gs (thin_lines _ fs gs t) w.short_lines;
 }
 
--- the form of a family, and that its readings are bare
-abbrev Formed : Family → Type 0
-Formed f = IsFormedFamily OpenMetrics treatments.Written f
-
-abbrev Bare : Family → Type 0
-Bare f = All IsBareReading f.readings
-
-fewer_lines : (P : Item → Type 0) (fs gs : List Family) → AreSomeOf (λ f g. g ≡ f) fs gs → AllByRecursion P (flat_map family_items fs) → AllByRecursion P (flat_map family_items gs)
-fewer_lines P [] [] s h = tt
-fewer_lines P [] (g ∷ gs) s h = absurd s
-fewer_lines P (f ∷ fs) [] s h = tt
-fewer_lines P (f ∷ fs) (g ∷ gs) (inl s) h =
-    all-append P (family_items g) (flat_map family_items gs) (subst (λ x. AllByRecursion P (family_items x)) (sym s.0) (all-front P (family_items f) (flat_map family_items fs) h))
-    (fewer_lines P fs gs s.1 (all-behind P (family_items f) (flat_map family_items fs) h))
-fewer_lines P (f ∷ fs) (g ∷ gs) (inr s) h = fewer_lines P fs (g ∷ gs) s (all-behind P (family_items f) (flat_map family_items fs) h)
+-- families that are left as they are
+fewer_thin : (fs gs : List Family) → AreSomeOf (λ f g. g ≡ f) fs gs → AreThinnerFamilies fs gs
+fewer_thin [] [] s = tt
+fewer_thin [] (g ∷ gs) s = absurd s
+fewer_thin (f ∷ fs) [] s = fewer_thin fs [] s
+fewer_thin (f ∷ fs) (g ∷ gs) (inl s) = inl (subst (IsThinnerFamily f) (sym s.0) (whole_family f), fewer_thin fs gs s.1)
+fewer_thin (f ∷ fs) (g ∷ gs) (inr s) = inr (fewer_thin fs (g ∷ gs) s)
 
 pub fewer : FewerAreWritable
-fewer fs gs w s = record {
-  formed = record {
-    each = All-from_recursion Formed gs (some_all Formed fs gs s (recursion_from_All Formed fs w.formed.each));
-    names = some_distinct bytes_eq (map (λ (f : Family). f.name) fs) (map (λ (f : Family). f.name) gs) (some_mapped (λ f g. g ≡ f) (λ (f : Family). f.name) (λ f g e. ap (λ (x : Family). x.name) e) fs gs s) w.formed.names;
-  };
-  bare = All-from_recursion Bare gs (some_all Bare fs gs s (recursion_from_All Bare fs w.bare));
-  apart = some_distinct clash (map family_key fs) (map family_key gs) (some_mapped (λ f g. g ≡ f) family_key (λ f g e. ap family_key e) fs gs s) w.apart;
-  short_lines = short_kept (λ (item : Item). length (item_text item) ≤ line_limit treatments.Written) fs gs (fewer_lines _ fs gs s) w.short_lines;
-}
+fewer fs gs w s = thinner fs gs w (fewer_thin fs gs s)

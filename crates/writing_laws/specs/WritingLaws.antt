@@ -11,7 +11,7 @@ use Rattle.open_writing.specs.Writing.{written_text, page_with, sample_lines}
 use Rattle.open_writing.specs.Forms.{AreFormed}
 use Rattle.open_writing.specs.OpenForms.{HaveShortLines, IsOpenForm, AreWritable}
 
--- what a text says has its form, also with readings, timestamps and exemplars taken out
+-- what a text says has its form, also with families, readings, timestamps and exemplars taken out
 abbrev pub ReadPagesAreFormed : Type 0
 ReadPagesAreFormed = (st : Setting) (page : Page) → IsPageRead st page → AreFormed st.format st.treatment page.families
 
@@ -33,11 +33,11 @@ abbrev pub OpenFormsReadBack : Type 0
 OpenFormsReadBack = (page : Page) (limit : ℕ) → IsOpenForm page → sample_lines page.families ≤ limit
     → IsPageOf (open_setting Written limit) (written_text page) (page_with page.families)
 
--- families that can be written can be written without some of their readings
+-- families that can be written can be written without some of them, and without some readings of the others
 abbrev pub ThinnerAreWritable : Type 0
 ThinnerAreWritable = (whole thin : List Family) → AreWritable whole → AreThinnerFamilies whole thin → AreWritable thin
 
--- and without some of the families
+-- so without some of the families
 abbrev pub FewerAreWritable : Type 0
 FewerAreWritable = (whole fewer : List Family) → AreWritable whole → AreSomeOf (λ f g. g ≡ f) whole fewer → AreWritable fewer
 

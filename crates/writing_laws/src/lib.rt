@@ -16,7 +16,7 @@ ghost use Rattle.writing_laws.specs.WritingLaws.{
 
 /// Each page that a text says has the form of such pages, in either format and under either treatment.
 ///
-/// So has a page with readings, timestamps or exemplars taken out.
+/// So has a page with families, readings, timestamps or exemplars taken out.
 pub fn read_pages_are_formed()
     ensures { ReadPagesAreFormed }
 {}
