@@ -6,7 +6,8 @@ use Rattle.page_model.specs.declared.format.Treatment.TheVariants.{Scraped}
 use Rattle.page_model.specs.declared.counts.PageCounts.{PageCounts}
 use Rattle.page_model.specs.declared.page.Page.{Page}
 use Rattle.page_model.specs.Counts.{counts_of}
-use Rattle.page_feeding.specs.PageFeeding.{Stands, Refuses}
+use Rattle.page_feeding.specs.PageFeeding.{Refuses}
+use Rattle.page_reader.specs.AnyReading.{fed_of, StandsIn}
 use Rattle.page_commands.specs.declared.pages.FedPage.{FedPage}
 use Rattle.page_commands.specs.declared.pages.FedPage.TheVariants.{Reading, Faulty}
 use Rattle.program_words.specs.Limits.{most_page, most_samples}
@@ -14,23 +15,23 @@ use Rattle.bridge_ports.specs.Inputs.{IsInput, Took}
 use Rattle.page_commands.specs.PageAnswers.{page_setting, IsPageInput}
 
 -- a page of this format was fed these bytes: it has no fault yet, or this one however the bytes go on
-abbrev pub IsFed : {G : Type 0} → Format → List ℕ → FedPage G → Type 0
-IsFed f bytes (Reading page) = Stands f Scraped most_samples bytes page
+abbrev pub IsFed : Format → List ℕ → FedPage → Type 0
+IsFed f bytes (Reading page) = StandsIn f Scraped most_samples bytes page
 IsFed f bytes (Faulty line rule) = Refuses (page_setting f) bytes (faults.Refused line rule)
 
 -- so many bytes more may be fed to a page
-abbrev pub HasRoomFor : {G : Type 0} → ℕ → FedPage G → Type 0
-HasRoomFor count (Reading page) = page.lines.fed + count < 2 ^ 32 - 1
+abbrev pub HasRoomFor : ℕ → FedPage → Type 0
+HasRoomFor count (Reading page) = (fed_of page).lines.fed + count < 2 ^ 32 - 1
 HasRoomFor count (Faulty line rule) = ⊤
 
 -- so many bytes of an input were taken and fed to its page
-pub record WasFed {G : Type 0} (f : Format) (left after : Option (List ℕ)) (taken : ℕ) (page : FedPage G) : Type 0 where
+pub record WasFed (f : Format) (left after : Option (List ℕ)) (taken : ℕ) (page : FedPage) : Type 0 where
   pub took : Took left after taken
   pub few : taken ≤ most_page
   pub fed : IsFed f took.bytes page
 
 -- all the bytes of an input were fed to its page
-pub record IsFedWhole {G : Type 0} (f : Format) (left : Option (List ℕ)) (page : FedPage G) : Type 0 where
+pub record IsFedWhole (f : Format) (left : Option (List ℕ)) (page : FedPage) : Type 0 where
   pub bytes : List ℕ
   pub on_input : IsInput left bytes
   pub short : length bytes ≤ most_page

@@ -1,8 +1,10 @@
 //! The page on an input.
 ghost use Rattle.std.specs.Prelude.{◌≡◌, ◌++◌, [], ℕ, List, length, IfOk, IfErr};
+ghost use Rattle.page_model.specs.declared.format.Format.{Format as AnyFormat};
 ghost use Rattle.page_model.specs.declared.page.Page.{Page as AnyPage};
 ghost use Rattle.page_model.specs.declared.format.Treatment.TheVariants.{Scraped};
-ghost use Rattle.page_feeding.specs.PageFeeding.{Stands, Answers, CountAnswers};
+ghost use Rattle.page_feeding.specs.PageFeeding.{Answers, CountAnswers};
+ghost use Rattle.page_reader.specs.AnyReading.{format_of, StandsIn};
 ghost use Rattle.program_words.specs.Limits.{most_page, most_samples};
 ghost use Rattle.program_words.specs.declared.stop.Stop.TheVariants.{Memory};
 ghost use Rattle.page_commands.specs.PageAnswers.{page_setting, IsPageAnswer};
@@ -11,12 +13,10 @@ ghost use Rattle.program_words.specs.StopInputs.{Leaves};
 ghost use Rattle.program_words.specs.StopAnswers.{StopsAs};
 
 use bridge_ports::{BLOCK_BYTES, Failed, Source};
-use openmetrics_grammar::OpenLines;
-use page_feeding::{Grammar, PageReader};
 use page_model::{Format, Page, PageCounts, PageFault, Rule, Treatment};
+use page_reader::AnyReader;
 use program_words::Stop;
 use std::alloc::Global;
-use text_grammar::TextLines;
 
 /// The most bytes of a page: 64 MiB.
 const MOST_PAGE_BYTES: usize = 1 << 26;
@@ -25,18 +25,18 @@ const MOST_PAGE_BYTES: usize = 1 << 26;
 const MOST_SAMPLES: u32 = 200_000;
 
 /// A page that is fed while it is read.
-pub(crate) enum FedPage<G: Grammar> {
+pub(crate) enum FedPage {
     /// It has no fault yet.
-    Reading(PageReader<G>),
+    Reading(AnyReader),
     /// It has this first fault, however it goes on.
     Faulty { line: u32, rule: Rule },
 }
 
-impl<G: Grammar> FedPage<G> {
+impl FedPage {
     /// Takes the next bytes of the page.
-    fn take(self, piece: &[u8]) -> Result<FedPage<G>, Stop>
+    fn take(self, piece: &[u8]) -> Result<FedPage, Stop>
         requires { HasRoomFor (length piece.now) self }
-        ensures fed { (bytes : List ℕ) → IsFed G.format bytes self → IfOk result (IsFed G.format (bytes ++ piece.now)) }
+        ensures fed { (format : AnyFormat) (bytes : List ℕ) → IsFed format bytes self → IfOk result (IsFed format (bytes ++ piece.now)) }
         ensures memory { IfErr result (λ stop. stop ≡ Memory) }
     {
         match self {
@@ -65,7 +65,7 @@ impl<G: Grammar> FedPage<G> {
 
     /// The page, or its first fault, once all of its bytes were taken.
     fn finish(self) -> Result<Page, PageFault>
-        ensures { (bytes : List ℕ) → IsFed G.format bytes self → Answers (page_setting G.format) bytes result }
+        ensures { (format : AnyFormat) (bytes : List ℕ) → IsFed format bytes self → Answers (page_setting format) bytes result }
     {
         match self {
             FedPage::Reading(page) => page.finish(),
@@ -75,7 +75,7 @@ impl<G: Grammar> FedPage<G> {
 
     /// How many families and samples the page has, or its first fault, once all of its bytes were taken.
     fn count(self) -> Result<PageCounts, PageFault>
-        ensures { (bytes : List ℕ) → IsFed G.format bytes self → CountAnswers (page_setting G.format) bytes result }
+        ensures { (format : AnyFormat) (bytes : List ℕ) → IsFed format bytes self → CountAnswers (page_setting format) bytes result }
     {
         match self {
             FedPage::Reading(page) => page.count(),
@@ -86,13 +86,10 @@ impl<G: Grammar> FedPage<G> {
 
 /// Reads an input to its end, or until it is too long, and feeds its page. It reads on behind a fault,
 /// since a failed read and too many bytes go before that.
-fn read_page<I: Source, G: Grammar>(
-    input: &mut I,
-    reader: PageReader<G>,
-) -> Result<FedPage<G>, Stop>
-    requires { Stands G.format Scraped most_samples [] reader }
-    ensures fed { IfOk result (IsFedWhole G.format (I.left input.old)) }
-    ensures stop { (text_of : AnyPage → List ℕ) → IfErr result (StopsAs (IsPageAnswer (page_setting G.format) text_of) (I.left input.old)) }
+fn read_page<I: Source>(input: &mut I, reader: AnyReader) -> Result<FedPage, Stop>
+    requires { StandsIn (format_of reader) Scraped most_samples [] reader }
+    ensures fed { IfOk result (IsFedWhole (format_of reader) (I.left input.old)) }
+    ensures stop { (format : AnyFormat) (text_of : AnyPage → List ℕ) → IfErr result (StopsAs (IsPageAnswer (page_setting format) text_of) (I.left input.old)) }
     ensures input { Leaves most_page (I.left input.old) (I.left input.new)
         (I.read_faults input.old) (I.read_faults input.new) result }
 {
@@ -119,30 +116,6 @@ fn read_page<I: Source, G: Grammar>(
     }
 }
 
-/// The page of a grammar that an input holds.
-fn page_of<I: Source, G: Grammar>(alloc: Global, input: &mut I) -> Result<Page, Stop>
-    ensures page { IfOk result (HoldsPage G.format (I.left input.old)) }
-    ensures stop { (text_of : AnyPage → List ℕ) → IfErr result (StopsAs (IsPageAnswer (page_setting G.format) text_of) (I.left input.old)) }
-    ensures input { Leaves most_page (I.left input.old) (I.left input.new)
-        (I.read_faults input.old) (I.read_faults input.new) result }
-{
-    let reader = PageReader::<G>::new(alloc, Treatment::Scraped, MOST_SAMPLES)?;
-    let page = read_page(input, reader)?;
-    Ok(page.finish()?)
-}
-
-/// How many families and samples the page of a grammar has that an input holds.
-fn counts_of<I: Source, G: Grammar>(alloc: Global, input: &mut I) -> Result<PageCounts, Stop>
-    ensures counts { IfOk result (HoldsCounts G.format (I.left input.old)) }
-    ensures stop { (text_of : AnyPage → List ℕ) → IfErr result (StopsAs (IsPageAnswer (page_setting G.format) text_of) (I.left input.old)) }
-    ensures input { Leaves most_page (I.left input.old) (I.left input.new)
-        (I.read_faults input.old) (I.read_faults input.new) result }
-{
-    let reader = PageReader::<G>::counting(alloc, Treatment::Scraped, MOST_SAMPLES)?;
-    let page = read_page(input, reader)?;
-    Ok(page.count()?)
-}
-
 /// The page of this format that an input holds.
 pub(crate) fn whole_page<I: Source>(
     alloc: Global,
@@ -154,10 +127,9 @@ pub(crate) fn whole_page<I: Source>(
     ensures input { Leaves most_page (I.left input.old) (I.left input.new)
         (I.read_faults input.old) (I.read_faults input.new) result }
 {
-    match format {
-        Format::Text => page_of::<I, TextLines>(alloc, input),
-        Format::OpenMetrics => page_of::<I, OpenLines>(alloc, input),
-    }
+    let reader = AnyReader::new(alloc, format, Treatment::Scraped, MOST_SAMPLES)?;
+    let page = read_page(input, reader)?;
+    Ok(page.finish()?)
 }
 
 /// How many families and samples the page of this format has that an input holds. No page is made.
@@ -171,8 +143,7 @@ pub(crate) fn page_counts<I: Source>(
     ensures input { Leaves most_page (I.left input.old) (I.left input.new)
         (I.read_faults input.old) (I.read_faults input.new) result }
 {
-    match format {
-        Format::Text => counts_of::<I, TextLines>(alloc, input),
-        Format::OpenMetrics => counts_of::<I, OpenLines>(alloc, input),
-    }
+    let reader = AnyReader::counting(alloc, format, Treatment::Scraped, MOST_SAMPLES)?;
+    let page = read_page(input, reader)?;
+    Ok(page.count()?)
 }

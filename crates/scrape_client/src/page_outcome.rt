@@ -10,11 +10,9 @@ ghost use Rattle.page_feeding.specs.PageFeeding.{Answers};
 use crate::stop::NoBody;
 use http_talk::Body;
 use label_sets::Memory;
-use openmetrics_grammar::OpenLines;
-use page_feeding::{Grammar, PageReader};
 use page_model::{Cause, Format, Outcome, Page, PageFault, Treatment};
+use page_reader::AnyReader;
 use std::alloc::{AllocError, Global};
-use text_grammar::TextLines;
 
 /// What a talk comes to that gave a body, or none, where a page may have so many samples.
 pub(crate) fn outcome_of(
@@ -38,23 +36,19 @@ fn page_outcome(alloc: Global, body: Body, limit: u32) -> Result<Outcome, Memory
     requires { length body.bytes ≤ most_body_limit }
     ensures { IfOk result (IsPageOutcome limit body.format body.bytes) }
 {
-    let page = match body.format {
-        Format::Text => read_page::<TextLines>(alloc, body.bytes.as_slice(), limit),
-        Format::OpenMetrics => read_page::<OpenLines>(alloc, body.bytes.as_slice(), limit),
-    };
-    match page {
+    match read_page(alloc, body.format, body.bytes.as_slice(), limit) {
         Ok(page) => Ok(Outcome::Page(page)),
         Err(PageFault::Refused { line, rule }) => Ok(Outcome::Failed(Cause::Page { line, rule })),
         Err(PageFault::Memory) => Err(AllocError),
     }
 }
 
-/// The page that these bytes say in the format of a grammar.
-fn read_page<G: Grammar>(alloc: Global, bytes: &[u8], limit: u32) -> Result<Page, PageFault>
+/// The page that these bytes say in a format.
+fn read_page(alloc: Global, format: Format, bytes: &[u8], limit: u32) -> Result<Page, PageFault>
     requires { length bytes.now ≤ most_body_limit }
-    ensures { Answers (setting_of G.format Scraped limit) bytes.now result }
+    ensures { Answers (setting_of format Scraped limit) bytes.now result }
 {
-    let Ok(mut page) = PageReader::<G>::new(alloc, Treatment::Scraped, limit) else {
+    let Ok(mut page) = AnyReader::new(alloc, format, Treatment::Scraped, limit) else {
         return Err(PageFault::Memory);
     };
     match page.feed(bytes) {

@@ -6,40 +6,36 @@ ghost use Rattle.federation_tests.specs.ShortTexts.{most_short_text};
 
 use federation_page::{gather, text};
 use label_sets::{Memory, Text};
-use openmetrics_grammar::OpenLines;
-use page_feeding::{Grammar, PageReader};
 use page_model::page_laws::right_pages;
-use page_model::{Page, PageFault, Shown, Treatment};
+use page_model::{Format, Page, PageFault, Shown, Treatment};
+use page_reader::AnyReader;
 use std::alloc::Global;
-use text_grammar::TextLines;
 
-/// The page of a short text in the format of a grammar.
-fn scraped_page<G: Grammar>(alloc: Global, text: &[u8]) -> Result<Page, PageFault>
+/// The format of a text, which is one of OpenMetrics where it ends as such a page does.
+fn format_of(text: &[u8]) -> Format {
+    if text.ends_with(b"# EOF\n") {
+        return Format::OpenMetrics;
+    }
+    Format::Text
+}
+
+/// The page of a short text.
+fn page_of(alloc: Global, text: &[u8]) -> Result<Page, PageFault>
     requires { length text.now ≤ most_short_text }
     ensures { IfOk result IsScrapedPage }
 {
     right_pages();
-    let Ok(mut page) = PageReader::<G>::new(alloc, Treatment::Scraped, 200_000) else {
+    let format = format_of(text);
+    let Ok(mut page) = AnyReader::new(alloc, format, Treatment::Scraped, 200_000) else {
         return Err(PageFault::Memory);
     };
     match page.feed(text) {
         Ok(()) => page.finish(),
         Err(fault) => {
-            drop(page);
+            page.leave();
             Err(fault)
         }
     }
-}
-
-/// The page of a short text, which is one of OpenMetrics where it ends as such a page does.
-fn page_of(alloc: Global, text: &[u8]) -> Result<Page, PageFault>
-    requires { length text.now ≤ most_short_text }
-    ensures { IfOk result IsScrapedPage }
-{
-    if text.ends_with(b"# EOF\n") {
-        return scraped_page::<OpenLines>(alloc, text);
-    }
-    scraped_page::<TextLines>(alloc, text)
 }
 
 /// What a target of these names shows, whose text this is.

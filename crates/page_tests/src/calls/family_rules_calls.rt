@@ -1,15 +1,12 @@
 //! Pages that break a rule that looks at the lines above, each with the line and the rule, and pages that break none.
 use crate::calls::pages::{counts_of, page_of};
 use label_sets::Memory;
-use openmetrics_grammar::OpenLines;
-use page_feeding::Grammar;
-use page_model::{Page, PageCounts, PageFault, Rule};
+use page_model::{Format, Page, PageCounts, PageFault, Rule};
 use std::alloc::Global;
-use text_grammar::TextLines;
 
 /// The line and the rule of a page's fault.
-fn fault_of<G: Grammar>(alloc: Global, limit: u32, text: &str) -> Option<(u32, Rule)> {
-    match page_of::<G>(alloc, limit, text.as_bytes()) {
+fn fault_of(alloc: Global, format: Format, limit: u32, text: &str) -> Option<(u32, Rule)> {
+    match page_of(alloc, format, limit, text.as_bytes()) {
         Err(PageFault::Refused { line, rule }) => Some((line, rule)),
         _ => None,
     }
@@ -65,7 +62,7 @@ const LEAST: &[(&str, u32, Rule)] = &[
 #[test]
 fn the_least_rule_is_named(rt: HostRuntime) {
     for (page, line, rule) in LEAST {
-        let fault = fault_of::<TextLines>(rt.alloc(), 2, page);
+        let fault = fault_of(rt.alloc(), Format::Text, 2, page);
         assert!(rt; fault == Some((*line, *rule)), "{page}");
     }
 }
@@ -130,7 +127,7 @@ const GROUPED: &[(&str, u32, Rule)] = &[
 #[test]
 fn groups_are_checked(rt: HostRuntime) {
     for (page, line, rule) in GROUPED {
-        let fault = fault_of::<TextLines>(rt.alloc(), 9, page);
+        let fault = fault_of(rt.alloc(), Format::Text, 9, page);
         assert!(rt; fault == Some((*line, *rule)), "{page}");
     }
 }
@@ -183,7 +180,7 @@ const OPEN: &[(&str, u32, Rule)] = &[
 #[test]
 fn open_pages_are_checked(rt: HostRuntime) {
     for (page, line, rule) in OPEN {
-        let fault = fault_of::<OpenLines>(rt.alloc(), 9, page);
+        let fault = fault_of(rt.alloc(), Format::OpenMetrics, 9, page);
         assert!(rt; fault == Some((*line, *rule)), "{page}");
     }
 }
@@ -207,7 +204,7 @@ const NOTED: &[(&str, &str, u32)] = &[
 /// The line and the rule of the fault of such a page.
 fn fault_of_noted(alloc: Global, page: &str, label: &str) -> Result<Option<(u32, Rule)>, Memory> {
     let text = noted(alloc, page, label, "")?;
-    Ok(fault_of::<OpenLines>(alloc, 9, text.as_str()))
+    Ok(fault_of(alloc, Format::OpenMetrics, 9, text.as_str()))
 }
 
 #[test]
@@ -232,13 +229,14 @@ const RIGHT: &str =
     "# HELP b a\n# TYPE h histogram\nh_bucket{le=\"1\"} 2\nh_bucket{le=\"+Inf\"} 2\n# TYPE a counter\na{job=\"2\"} 1\na{job=\"1\"} 1\n";
 
 /// Whether the page of a text with so many samples at most has these families, and this number of samples.
-fn is_built<G: Grammar>(
+fn is_built(
     alloc: Global,
+    format: Format,
     limit: u32,
     text: &str,
     expected: &str,
 ) -> Result<bool, PageFault> {
-    let page = page_of::<G>(alloc, limit, text.as_bytes())?;
+    let page = page_of(alloc, format, limit, text.as_bytes())?;
     let held = held(alloc, &page);
     drop(page);
     Ok(held?.as_str() == expected)
@@ -246,7 +244,7 @@ fn is_built<G: Grammar>(
 
 #[test]
 fn a_page_is_built(rt: HostRuntime) {
-    assert!(rt; is_built::<TextLines>(rt.alloc(), 4, RIGHT, "b 0, h 1, a 2, 4") == Ok(true));
+    assert!(rt; is_built(rt.alloc(), Format::Text, 4, RIGHT, "b 0, h 1, a 2, 4") == Ok(true));
 }
 
 const COUNTED: &[(&str, PageCounts)] = &[
@@ -269,7 +267,7 @@ const COUNTED: &[(&str, PageCounts)] = &[
 #[test]
 fn pages_are_counted(rt: HostRuntime) {
     for (page, counts) in COUNTED {
-        assert!(rt; counts_of::<TextLines>(rt.alloc(), 4, page.as_bytes()) == Ok(*counts));
+        assert!(rt; counts_of(rt.alloc(), Format::Text, 4, page.as_bytes()) == Ok(*counts));
     }
 }
 
@@ -279,7 +277,7 @@ const RIGHT_OPEN: &str =
 /// Whether that page behind a sample with an exemplar has these families, and this number of samples.
 fn is_open_built(alloc: Global, expected: &str) -> Result<bool, PageFault> {
     let text = noted(alloc, "# TYPE c counter\nc_total 1", "id", RIGHT_OPEN)?;
-    is_built::<OpenLines>(alloc, 9, text.as_str(), expected)
+    is_built(alloc, Format::OpenMetrics, 9, text.as_str(), expected)
 }
 
 #[test]

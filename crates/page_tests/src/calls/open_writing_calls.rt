@@ -2,8 +2,7 @@
 use crate::calls::pages::page_of;
 use label_sets::Memory;
 use open_writing::write;
-use openmetrics_grammar::OpenLines;
-use page_model::{Page, PageFault};
+use page_model::{Format, Page, PageFault};
 use std::alloc::Global;
 
 // A page in another order and with other numbers than those that are written, with times and an exemplar.
@@ -53,7 +52,7 @@ const WRITTEN: &str = concat!(
 
 /// A page of OpenMetrics.
 fn open_page(alloc: Global, text: &[u8]) -> Result<Page, PageFault> {
-    page_of::<OpenLines>(alloc, 100, text)
+    page_of(alloc, Format::OpenMetrics, 100, text)
 }
 
 /// A page that is written behind what is there.

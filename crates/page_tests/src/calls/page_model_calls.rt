@@ -1,8 +1,7 @@
 //! Pages without the families that have no reading.
 use crate::calls::pages::page_of;
-use page_model::{Page, PageFault};
+use page_model::{Format, Page, PageFault};
 use std::alloc::Global;
-use text_grammar::TextLines;
 
 /// How many families, readings and samples a page has.
 fn seen(page: &Page) -> (usize, usize, u32) {
@@ -16,7 +15,7 @@ fn seen(page: &Page) -> (usize, usize, u32) {
 
 /// What the page of a text has, and what it has without the families that have no reading.
 fn seen_twice(alloc: Global, text: &[u8]) -> Result<[(usize, usize, u32); 2], PageFault> {
-    let page = page_of::<TextLines>(alloc, 100, text)?;
+    let page = page_of(alloc, Format::Text, 100, text)?;
     let whole = seen(&page);
     let filled = page.filled(alloc);
     drop(page);

@@ -1,9 +1,9 @@
 //! Pages with the answers that the standard and the bridge's rules give.
 
 use crate::calls::pages::page_of;
-use page_model::{Page, PageFault, Rule, Shown, Treatment};
+use page_model::{Format, Page, PageFault, Rule, Shown, Treatment};
 use std::alloc::Global;
-use text_grammar::{TextLines, TextPage};
+use text_grammar::TextPage;
 
 const LIMIT: u32 = 200_000;
 
@@ -192,7 +192,7 @@ fn escapes_across_pieces(rt: HostRuntime) {
 fn shown(alloc: Global, text: &[u8]) -> Result<Shown, PageFault> {
     let job = label_sets::Text::from_str(alloc, "j")?;
     let instance = label_sets::Text::from_str(alloc, "h:1")?;
-    let page = page_of::<TextLines>(alloc, LIMIT, text)?;
+    let page = page_of(alloc, Format::Text, LIMIT, text)?;
     Ok(Shown {
         job,
         instance,

@@ -1,7 +1,23 @@
+use Rattle.std.proofs.Common.{refl}
+use Rattle.page_commands.specs.PageAnswers.{page_setting, IsPageAnswer}
+use Rattle.program_words.specs.StopAnswers.{StopsAs}
+use Rattle.program_words.proofs.Laws.{stop_has}
+use Rattle.page_commands.proofs.PageLaws.{fed_in, count_fault_answer, holds_counts}
 use Rattle.page_commands.proofs.pages.page_counts.Goals as goal
 
-pub returns-in-Text-clause-stop : goal.returns-in-Text-clause-stop
-returns-in-Text-clause-stop g c = rw c.in-Text.is c.counts_of.ensures.stop
+pub read_page-requires : goal.read_page-requires
+read_page-requires g c = record { format = refl; stands = c.in_ok-reader.ensures.stands }
 
-pub returns-in-OpenMetrics-clause-stop : goal.returns-in-OpenMetrics-clause-stop
-returns-in-OpenMetrics-clause-stop g c = rw c.in-OpenMetrics.is c.counts_of-in-OpenMetrics.ensures.stop
+pub returns-in_err-page-clause-stop : goal.returns-in_err-page-clause-stop
+returns-in_err-page-clause-stop g c = λ text_of.
+    stop_has (StopsAs (IsPageAnswer (page_setting c.args.format) text_of) _) _ _ c.from_residual-in_err-page.ensures.1 (c.in_err-page.ensures.stop c.args.format text_of)
+
+pub returns-in_err-count-clause-stop : goal.returns-in_err-count-clause-stop
+returns-in_err-count-clause-stop g c = λ text_of.
+    let fed = fed_in c.args.format (g.I.Source.left c.args.input.now) c.in_ok-reader.reader c.in_ok-page.page c.in_ok-reader.ensures.format c.in_ok-page.ensures.fed in
+    stop_has (StopsAs (IsPageAnswer (page_setting c.args.format) text_of) _) _ _ c.from_residual-in_err-count.ensures.1 (count_fault_answer _ _ c.in_ok-page.page _ text_of fed (c.in_err-count.ensures c.args.format))
+
+pub returns-clause-counts : goal.returns-clause-counts
+returns-clause-counts g c =
+    let fed = fed_in c.args.format (g.I.Source.left c.args.input.now) c.in_ok-reader.reader c.in_ok-page.page c.in_ok-reader.ensures.format c.in_ok-page.ensures.fed in
+    holds_counts _ _ c.in_ok-page.page _ fed (c.in_ok-count.ensures c.args.format)

@@ -1,5 +1,6 @@
 use Rattle.std.proofs.Common.{◌∙◌, refl, arith}
-use Rattle.page_commands.proofs.PageLaws.{fed_nothing, fed_all, fed_too_much, fed_more, read_failed, memory_wanted, too_long_answer}
+use Rattle.page_reader.specs.AnyReading.{format_of}
+use Rattle.page_commands.proofs.PageLaws.{fed_nothing, fed_all, fed_too_much, fed_more, room_left, read_failed, memory_wanted, too_long_answer}
 use Rattle.program_words.proofs.Laws.{stop_leaves}
 use Rattle.page_commands.proofs.pages.read_page.Goals as goal
 
@@ -15,6 +16,13 @@ returns-then-count-eq0-clause-fed g c =
     (fed_all _ _ _ _ c.loop-count.taken c.in-Ok.count c.read.new.into _ c.loop-count.invariant.0 c.in-Ok.ensures.bytes.0 c.if-count-eq0.true
     (c.in-Ok.ensures.bytes.1 c.if-count-eq0.true (omega (arith, c.read.auto.into)))).0
 
+pub returns-then-count-eq0-clause-input : goal.returns-then-count-eq0-clause-input
+returns-then-count-eq0-clause-input g c = (
+  (fed_all _ _ _ _ c.loop-count.taken c.in-Ok.count c.read.new.into _ c.loop-count.invariant.0 c.in-Ok.ensures.bytes.0 c.if-count-eq0.true
+      (c.in-Ok.ensures.bytes.1 c.if-count-eq0.true (omega (arith, c.read.auto.into)))).1,
+  c.in-Ok.ensures.cause.kept ∙ c.loop-count.invariant.1,
+)
+
 pub returns-then-count-taken-clause-input : goal.returns-then-count-taken-clause-input
 returns-then-count-taken-clause-input g c = (
   fed_too_much _ _ _ _ c.loop-count.taken c.in-Ok.count c.read.new.into _ c.loop-count.invariant.0 c.in-Ok.ensures.bytes.0 (omega (arith, c.in-Ok.ensures.bound.0))
@@ -23,7 +31,10 @@ returns-then-count-taken-clause-input g c = (
 )
 
 pub returns-then-count-taken-clause-stop : goal.returns-then-count-taken-clause-stop
-returns-then-count-taken-clause-stop g c = λ text_of. too_long_answer _ _ _ text_of (returns-then-count-taken-clause-input g c).0
+returns-then-count-taken-clause-stop g c = λ format text_of. too_long_answer format _ _ text_of (returns-then-count-taken-clause-input g c).0
+
+pub take-requires : goal.take-requires
+take-requires g c = room_left _ _ _ c.loop-count.taken _ _ c.loop-count.page c.loop-count.invariant.0 (omega arith)
 
 pub returns-in_err-page-clause-input : goal.returns-in_err-page-clause-input
 returns-in_err-page-clause-input g c =
@@ -35,6 +46,6 @@ returns-in_err-page-clause-input g c =
 pub loop-count-preserved : goal.loop-count-preserved
 loop-count-preserved g c = (
   fed_more _ _ _ _ c.loop-count.taken c.in-Ok.count c.read.new.into _ _ c.loop-count.invariant.0 c.in-Ok.ensures.bytes.0 (omega (arith, c.in-Ok.ensures.bound.0)) (omega arith)
-      (c.in_ok-page.ensures.fed c.loop-count.invariant.0.took.bytes c.loop-count.invariant.0.fed),
+      (c.in_ok-page.ensures.fed (format_of c.args.reader) c.loop-count.invariant.0.took.bytes c.loop-count.invariant.0.fed),
   c.in-Ok.ensures.cause.kept ∙ c.loop-count.invariant.1,
 )

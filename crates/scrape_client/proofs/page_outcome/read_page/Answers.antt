@@ -13,7 +13,10 @@ refused_now st bytes (faults.Refused line rule) x = subst (λ (b : List ℕ). Fi
 refused_now st bytes faults.Memory x = tt
 
 pub feed-requires : goal.feed-requires
-feed-requires g c = omega (arith, c.in-Ok.ensures.lines_stand.count, c.requires)
+feed-requires c = omega (arith, c.in-Ok.ensures.stands.lines_stand.count, c.requires)
 
 pub returns-in-Err : goal.returns-in-Err
-returns-in-Err g c = refused_now _ c.args.bytes.now c.in-Err.fault (c.in-Err.ensures.answer Scraped c.args.limit [] c.in-Ok.ensures)
+returns-in-Err c = refused_now _ c.args.bytes.now c.in-Err.fault (c.in-Err.ensures.answer c.args.format Scraped c.args.limit [] c.in-Ok.ensures)
+
+pub returns-in-Ok-feed : goal.returns-in-Ok-feed
+returns-in-Ok-feed c = c.finish.ensures.answer c.args.format Scraped c.args.limit c.args.bytes.now (c.in-Ok-feed.ensures.answer c.args.format Scraped c.args.limit [] c.in-Ok.ensures)
