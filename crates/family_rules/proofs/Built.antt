@@ -8,12 +8,11 @@ use Rattle.std.specs.Cmp.Lexicographic.{bytes_decides}
 use Rattle.std.proofs.lemmas.List.{append-nil, map-append, append_assoc}
 use Rattle.std.proofs.lemmas.List.Elements.{filter-append, filter_map-append}
 use Rattle.std.proofs.lemmas.Grind.{flat_map-append}
-use Rattle.exact_decimal.specs.declared.number.Number.{Number}
 use Rattle.label_sets.specs.declared.kind.Kind.{Kind}
 use Rattle.label_sets.specs.declared.kind.Kind.TheVariants.{Counter, Gauge, StateSet, Info, Unknown}
 use Rattle.label_sets.specs.declared.label_set.LabelSet.{LabelSet}
 use Rattle.label_sets.specs.Labels.{label_sets_eq}
-use Rattle.label_sets.specs.Lists.{first_of_each, first_some, some_passes}
+use Rattle.label_sets.specs.Lists.{first_of_each, first_some, some_passes, ◌>>=◌}
 use Rattle.label_sets.proofs.Laws.{any-map, any-reverse, filter-none}
 use Rattle.page_model.specs.declared.item.Item.{Item}
 use Rattle.page_model.specs.declared.item.Sample.{Sample}
@@ -23,14 +22,15 @@ use Rattle.page_model.specs.Faults.{end_fault, end_breaks}
 use Rattle.page_model.specs.Written.{Setting}
 use Rattle.page_model.specs.Items.{sample_of_line, kind_of_line, help_of_line, unit_of_line}
 use Rattle.page_model.specs.Owners.{Owned, is_of, declared_kind, kind_of, owned_lines, samples_of, kept_labels}
-use Rattle.page_model.specs.Rules.{is_split, is_same_series, is_duplicate, is_open_metrics, is_without_eof, has_suffix}
-use Rattle.page_model.specs.Readings.{value_with, counter_suffix, value_of, stamp_of, exemplars_of, reading_labels, key_name, reading_of, readings_of, help_in, unit_in, family_of, families_of, page_of}
+use Rattle.page_model.specs.Rules.{is_split, is_same_series, is_duplicate, is_open_metrics, is_without_eof, has_suffix, may_have_exemplar}
+use Rattle.page_model.specs.Readings.{value_with, counter_suffix, value_of, stamp_nanos, within_time, stamp_of, exemplars_of, reading_labels, key_name, reading_of, readings_of, help_in, unit_in, family_of, families_of, page_of}
 use Rattle.packed_keys.specs.declared.sample_key.SampleKey.{SampleKey}
 use Rattle.sample_groups.specs.Groups.{groups_from, reading_from}
-use Rattle.sample_groups.specs.Parts.{is_grouped, entry_of}
+use Rattle.sample_groups.specs.Parts.{is_grouped, entry_of, sample_time}
 use Rattle.sample_groups.specs.Sound.{AreSound}
-use Rattle.sample_groups.proofs.Laws.{readings_made}
-use Rattle.family_rules.specs.Checking.{groups_so_far, so_far, left_before, key_of, keyed, seen_above, Checking, Stands, left_families, current_family}
+use Rattle.sample_groups.proofs.Laws.{same_time, readings_made}
+use Rattle.family_rules.specs.declared.timed_values.TimedValue.{TimedValue}
+use Rattle.family_rules.specs.Checking.{groups_so_far, so_far, left_before, key_of, timed, keyed, seen_above, Checking, Stands, left_families, current_family}
 use Rattle.family_rules.specs.Steps.{with_left, end_stop}
 use Rattle.family_rules.specs.Made.{page_at, plain_reading, readings_at, readings_in, family_at, families_at}
 use Rattle.page_model.specs.declared.page.Value.TheVariants as values
@@ -145,7 +145,7 @@ module _ (st : Setting) where
     key = record { name = key_name st.format k F; kind = k; unit = unit; labels = labels };
     value = value;
     created = value_with F (codes "_created") own;
-    stamp = stamp_of st.format k F own;
+    stamp = stamp_of st.format F own;
     exemplars = exemplars_of k F own;
   }) (value_of st.format k F own)
 
@@ -158,15 +158,33 @@ module _ (st : Setting) where
       by true = refl
       by false = refl
 
+  -- the time of one sample
+  own_time : (F : List ℕ) (s : Sample) → has_suffix F (codes "_created") s ≡ false → stamp_of st.format F (s ∷ []) ≡ sample_time st.format s
+  unfolding stamp_of
+  own_time F s e = ap (λ b. cond (not b) (Some s) None >>= (λ (t : Sample). t.stamp >>= stamp_nanos st.format >>= within_time)) e ∙ same_time st.format s.stamp
+
+  -- a plain one gives no exemplar
+  none_borne : (k : Kind) (F : List ℕ) (s : Sample) → is_grouped st.format k ≡ false → s.name ≡ F ++ single_suffix k → may_have_exemplar k F s ≡ false
+  none_borne Counter F s h name = suffix_is F [] (codes "_total") s name
+  none_borne Gauge F s h name = refl
+  none_borne Unknown F s h name = refl
+  none_borne StateSet F s h name = refl
+  none_borne Info F s h name = refl
+  none_borne _ F s h name = absurd (let e : true ≡ false = h in cc)
+
+  no_exemplars : (k : Kind) (F : List ℕ) (s : Sample) → may_have_exemplar k F s ≡ false → exemplars_of k F (s ∷ []) ≡ []
+  unfolding exemplars_of
+  no_exemplars k F s e = ap (λ b. filter_map (λ (t : Sample). t.exemplar) (cond b (s ∷ []) [])) e
+
   -- that of one plain sample
-  own_made : (k : Kind) (F unit : List ℕ) (s : Sample) → is_grouped st.format k ≡ false → s.name ≡ F ++ single_suffix k → made k F unit (s ∷ []) (kept s) ≡ Some (plain_reading k unit (key_of st s) s.value)
-  unfolding value_of stamp_of exemplars_of
+  own_made : (k : Kind) (F unit : List ℕ) (s : Sample) → is_grouped st.format k ≡ false → s.name ≡ F ++ single_suffix k → made k F unit (s ∷ []) (kept s) ≡ Some (plain_reading k unit (key_of st s) (timed st s))
+  unfolding value_of
   own_made k F unit s h name = λ i. option_map (λ value. record {
     key = record { name = (key_is k h ∙ sym name) i; kind = k; unit = unit; labels = kept s };
     value = value;
     created = (one_value F (codes "_created") s false (suffix_is F (single_suffix k) (codes "_created") s name ∙ no_created k)) i;
-    stamp = None;
-    exemplars = [];
+    stamp = own_time F s (suffix_is F (single_suffix k) (codes "_created") s name ∙ no_created k) i;
+    exemplars = no_exemplars k F s (none_borne k F s h name) i;
   }) (valued k h name i)
     where
       key_is : (k : Kind) → is_grouped st.format k ≡ false → key_name st.format k F ≡ F ++ single_suffix k
@@ -213,7 +231,7 @@ module _ (st : Setting) where
 
     -- the reading of one sample
     abbrev read : Sample → Reading
-    read s = plain_reading k unit (key_of st s) s.value
+    read s = plain_reading k unit (key_of st s) (timed st s)
 
     one_made : (s : Sample) → s.name ≡ own_name → made k F unit (s ∷ []) (kept s) ≡ Some (read s)
     one_made s name = own_made k F unit s plain name
@@ -261,7 +279,7 @@ samples_none above F none = reversed_samples above F ∙ ap reverse (no_samples 
 
 module _ (st : Setting) where
   -- a family's samples, each as its key and its value
-  abbrev pub seen_in : List Owned → List ℕ → List (SampleKey × Number)
+  abbrev pub seen_in : List Owned → List ℕ → List (SampleKey × TimedValue)
   seen_in above F = map (keyed st) (samples_of (reverse above) F)
 
   seen_other : (o : Owned) (above : List Owned) (F : List ℕ) → bytes_eq o.family F ≡ false → seen_in (o ∷ above) F ≡ seen_in above F
@@ -275,7 +293,7 @@ module _ (st : Setting) where
       by None = refl
       by (Some s) = refl
 
-  one_flat : (f : List ℕ → List (SampleKey × Number)) (F : List ℕ) → flat_map f (F ∷ []) ≡ f F
+  one_flat : (f : List ℕ → List (SampleKey × TimedValue)) (F : List ℕ) → flat_map f (F ∷ []) ≡ f F
   one_flat f F = append-nil (f F)
 
   -- the samples of the left families and of the next line's
@@ -300,7 +318,7 @@ module _ (st : Setting) where
   unfolding seen_above left_before families_of
   together [] fit = refl
   together (o ∷ above) fit =
-      let own : List (SampleKey × Number) = option_to_list (option_map (keyed st) (sample_of_line o.item)) in
+      let own : List (SampleKey × TimedValue) = option_to_list (option_map (keyed st) (sample_of_line o.item)) in
       let before : seen_above st above ≡ flat_map (seen_in above) (left_before o.family above) ++ seen_in above o.family = together above fit.1 ∙ seen_before o.family o.item above fit.1 fit.0.together in
       ap (λ l. l ++ own) before ∙ append_assoc (flat_map (seen_in above) (left_before o.family above)) (seen_in above o.family) own
       ∙ ap (λ l. flat_map (seen_in above) (left_before o.family above) ++ l) (sym (seen_own o above))
@@ -311,17 +329,17 @@ module _ (st : Setting) where
 
 -- ---- families
 
-taken : (st : Setting) (k : Kind) (unit : List ℕ) (samples : List Sample) (more : List (SampleKey × Number))
-    → readings_at k unit (length samples) (map (keyed st) samples ++ more) ≡ map (λ s. plain_reading k unit (key_of st s) s.value) samples
+taken : (st : Setting) (k : Kind) (unit : List ℕ) (samples : List Sample) (more : List (SampleKey × TimedValue))
+    → readings_at k unit (length samples) (map (keyed st) samples ++ more) ≡ map (λ s. plain_reading k unit (key_of st s) (timed st s)) samples
 taken st k unit [] more = refl
-taken st k unit (s ∷ samples) more = ap (λ l. plain_reading k unit (key_of st s) s.value ∷ l) (taken st k unit samples more)
+taken st k unit (s ∷ samples) more = ap (λ l. plain_reading k unit (key_of st s) (timed st s) ∷ l) (taken st k unit samples more)
 
-dropped : (st : Setting) (samples : List Sample) (more : List (SampleKey × Number)) → drop (length samples) (map (keyed st) samples ++ more) ≡ more
+dropped : (st : Setting) (samples : List Sample) (more : List (SampleKey × TimedValue)) → drop (length samples) (map (keyed st) samples ++ more) ≡ more
 dropped st [] more = refl
 dropped st (s ∷ samples) more = dropped st samples more
 
 -- the readings of what is known of a family are those of its samples
-made_readings : (st : Setting) (above : List Owned) (F : List ℕ) (more : List (SampleKey × Number)) → AreFit st above
+made_readings : (st : Setting) (above : List Owned) (F : List ℕ) (more : List (SampleKey × TimedValue)) → AreFit st above
     → readings_in st.format F (so_far st above F) (seen_in st above F ++ more) ≡ readings_of st (kind_of above F) F (unwrap_or (first_some (unit_in F) above) []) (samples_of (reverse above) F)
 unfolding so_far kind_of groups_so_far
 made_readings st above F more fit = by (is_grouped st.format (kind_of above F)) refl
@@ -343,7 +361,7 @@ made_readings st above F more fit = by (is_grouped st.format (kind_of above F)) 
         taken st k unit (samples_of (reverse above) F) more
         ∙ sym (readings_read st k e F unit above fit (sound_samples st above F fit))
 
-one_family : (st : Setting) (above : List Owned) (F : List ℕ) (more : List (SampleKey × Number)) → AreFit st above
+one_family : (st : Setting) (above : List Owned) (F : List ℕ) (more : List (SampleKey × TimedValue)) → AreFit st above
     → family_at st.format F (so_far st above F) (seen_in st above F ++ more) ≡ family_of st (reverse above) F
 unfolding family_of so_far kind_of
 one_family st above F more fit =

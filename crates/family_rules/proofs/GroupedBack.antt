@@ -16,8 +16,8 @@ use Rattle.page_model.specs.declared.item.Sample.{Sample}
 use Rattle.page_model.specs.Written.{Setting}
 use Rattle.page_model.specs.Rules.{is_open_metrics, sample_group, in_one_group, is_interleaved}
 use Rattle.page_model.proofs.Laws.{label_sets_decide}
-use Rattle.sample_groups.specs.declared.part.Part.{Part}
-use Rattle.sample_groups.specs.Groups.{Gathered, groups_from, group_from, parts_in, is_overtaken}
+use Rattle.sample_groups.specs.declared.member.Member.{Member}
+use Rattle.sample_groups.specs.Groups.{Gathered, groups_from, group_from, members_in, is_overtaken}
 use Rattle.sample_groups.specs.Parts.{is_grouped, entry_of}
 use Rattle.family_rules.specs.GroupRuns.{is_alone, has_own_runs}
 use Rattle.family_rules.proofs.Lists.{label_sets_swap, any_firsts, first_of_each-snoc}
@@ -136,10 +136,10 @@ module _ (st : Setting) (K : Kind) (F : List ℕ) where
     pub overtaken_kept : (samples : List Sample) → AreTogether st K F samples → (s : Sample) → is_overtaken (groups_from (map (entry_of st K F) (reverse samples))) (group s) ≡ is_interleaved st K F samples s
     unfolding groups_from
     overtaken_kept samples h s =
-        overtaken_labels (λ l. group_from (parts_in l (map (entry_of st K F) (reverse samples)))) (first_of_each label_sets_eq (map (λ (e : LabelSet × Part). e.0) (map (entry_of st K F) (reverse samples)))) (group s)
+        overtaken_labels (λ l. group_from (members_in l (map (entry_of st K F) (reverse samples)))) (first_of_each label_sets_eq (map (λ (e : LabelSet × Member). e.0) (map (entry_of st K F) (reverse samples)))) (group s)
         ∙ ap (λ l. has_later (first_of_each label_sets_eq l) (group s)) (labels_are (reverse samples)) ∙ later_kept samples h s
       where
-        labels_are : (ss : List Sample) → map (λ (e : LabelSet × Part). e.0) (map (entry_of st K F) ss) ≡ map group ss
+        labels_are : (ss : List Sample) → map (λ (e : LabelSet × Member). e.0) (map (entry_of st K F) ss) ≡ map group ss
         labels_are [] = refl
         labels_are (t ∷ ss) = ap (λ l. group t ∷ l) (labels_are ss)
 

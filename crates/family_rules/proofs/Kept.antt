@@ -22,7 +22,7 @@ use Rattle.page_model.specs.Owners.{Owned, is_of, kind_of, samples_of, sample_in
 use Rattle.page_model.specs.Rules.{is_late_descriptor, is_split, sample_group}
 use Rattle.page_model.specs.Readings.{families_of}
 use Rattle.sample_groups.specs.Groups.{Gathered, groups_from, with_part}
-use Rattle.sample_groups.specs.Parts.{is_grouped, entry_of, part_of}
+use Rattle.sample_groups.specs.Parts.{is_grouped, entry_of, member_of}
 use Rattle.sample_groups.proofs.Laws.{one_part_more}
 use Rattle.family_rules.specs.declared.family.FamilySoFar.{FamilySoFar}
 use Rattle.family_rules.specs.declared.family.Descriptor.{Descriptor}
@@ -148,14 +148,14 @@ no_groups st k F = by (is_grouped st.format k)
 
 -- the groups of a kind with one sample more
 abbrev pub grown : Setting → Kind → List ℕ → Sample → List (LabelSet × Gathered) → List (LabelSet × Gathered)
-grown st k F s groups = cond (is_grouped st.format k) (with_part groups (sample_group st k F s) (part_of F s)) []
+grown st k F s groups = cond (is_grouped st.format k) (with_part groups (sample_group st k F s) (member_of st.format F s)) []
 
 groups_more : (st : Setting) (k : Kind) (F : List ℕ) (samples : List Sample) (s : Sample) → groups_so_far st k F (samples ++ s ∷ []) ≡ grown st k F s (groups_so_far st k F samples)
 unfolding groups_so_far
 groups_more st k F samples s = by (is_grouped st.format k)
   where
     by : (b : Bool) → cond b (groups_from (map (entry_of st k F) (samples ++ s ∷ []))) []
-        ≡ cond b (with_part (cond b (groups_from (map (entry_of st k F) samples)) []) (sample_group st k F s) (part_of F s)) []
+        ≡ cond b (with_part (cond b (groups_from (map (entry_of st k F) samples)) []) (sample_group st k F s) (member_of st.format F s)) []
     by true = ap groups_from (map-append (entry_of st k F) samples (s ∷ [])) ∙ one_part_more (map (entry_of st k F) samples) (entry_of st k F s)
     by false = refl
 

@@ -12,9 +12,11 @@ pub mod NewGroups
 pub mod Standing
 pub mod Endings
 pub mod Taking
+pub mod Timed
 pub mod Loops
 pub mod Built
 pub mod Passed
+pub mod LastRules
 pub mod Sampled
 pub mod Complete
 pub mod Values

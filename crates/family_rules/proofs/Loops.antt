@@ -1,5 +1,5 @@
 -- The loops that build readings and families.
-use Rattle.std.proofs.Common.{◌≡◌, ◌+◌, ℕ, zero, suc, arith, Bool, true, cond, List, [], ◌∷◌, ◌++◌, drop, length, Option, Some, None, refl, sym, ap, ◌∙◌}
+use Rattle.std.proofs.Common.{◌≡◌, ◌+◌, ℕ, zero, suc, arith, ◌≤◌, Bool, true, cond, List, [], ◌∷◌, ◌++◌, drop, length, Option, Some, None, refl, sym, ap, ◌∙◌}
 use Rattle.std.specs.Prelude.{◌||◌, slice_get}
 use Rattle.std.specs.List.{list_any, zip}
 use Rattle.std.specs.Vec.Iter.{into_iter_items, into_iter_steps}
@@ -15,11 +15,14 @@ use Rattle.family_rules.specs.declared.family.FamilySoFar.{FamilySoFar}
 use Rattle.exact_decimal.specs.declared.number.Number.{Number}
 use Rattle.packed_keys.specs.declared.sample_key.SampleKey.{SampleKey}
 use Rattle.packed_keys.specs.Packing.{sample_key_eq}
-use Rattle.family_rules.specs.KeyedValues.{is_key_of, ComesNext}
+use Rattle.family_rules.specs.declared.timed_values.TimedValue.{TimedValue}
+use Rattle.family_rules.specs.KeyedValues.{is_key_of}
+use Rattle.family_rules.specs.TimedValues.{timed_values, with_time, ComesNext}
 use Rattle.family_rules.specs.Made.{plain_reading, readings_at, family_at, families_at}
+use Rattle.family_rules.proofs.Timed.{timed-length, timed-snoc}
 
 -- one family more
-pub families_step : (format : Format) (it next : List (List ℕ × FamilySoFar)) (name : List ℕ) (known : FamilySoFar) (keys rest : List (SampleKey × Number)) (f : Family) (fs new whole : List Family)
+pub families_step : (format : Format) (it next : List (List ℕ × FamilySoFar)) (name : List ℕ) (known : FamilySoFar) (keys rest : List (SampleKey × TimedValue)) (f : Family) (fs new whole : List Family)
     → it ≡ (name, known) ∷ next → f ≡ family_at format name known keys → rest ≡ drop known.samples keys → new ≡ fs ++ f ∷ [] → fs ++ families_at format it keys ≡ whole
     → new ++ families_at format next rest ≡ whole
 unfolding families_at
@@ -28,12 +31,12 @@ families_step format it next name known keys rest f fs new whole items family_is
     ∙ (λ i. fs ++ (family_is i ∷ families_at format next (rest_is i)))
     ∙ ap (λ es. fs ++ families_at format es keys) (sym items) ∙ h
 
-pub families_end : (format : Format) (it : List (List ℕ × FamilySoFar)) (keys : List (SampleKey × Number)) (fs whole : List Family) → it ≡ [] → fs ++ families_at format it keys ≡ whole → fs ≡ whole
+pub families_end : (format : Format) (it : List (List ℕ × FamilySoFar)) (keys : List (SampleKey × TimedValue)) (fs whole : List Family) → it ≡ [] → fs ++ families_at format it keys ≡ whole → fs ≡ whole
 unfolding families_at
 families_end format it keys fs whole none h = sym (append-nil fs) ∙ ap (λ es. fs ++ families_at format es keys) (sym none) ∙ h
 
 -- each family that is kept is one of the page
-pub families_count : (format : Format) (es : List (List ℕ × FamilySoFar)) (keys : List (SampleKey × Number)) → length (families_at format es keys) ≡ length es
+pub families_count : (format : Format) (es : List (List ℕ × FamilySoFar)) (keys : List (SampleKey × TimedValue)) → length (families_at format es keys) ≡ length es
 unfolding families_at
 families_count format [] keys = refl
 families_count format (e ∷ es) keys = ap suc (families_count format es (drop e.1.samples keys))
@@ -89,13 +92,13 @@ zip-more (l ∷ ks) [] k v h = absurd (omega (arith, h))
 zip-more (l ∷ ks) (w ∷ vs) k v h = ap (λ es. (l, w) ∷ es) (zip-more ks vs k v (omega (arith, h)))
 
 -- a key of the pairs is one of the keys
-pub key_in_zip : (key : SampleKey) (ks : List SampleKey) (vs : List Number) → length vs ≡ length ks → is_key_of key (zip ks vs) ≡ list_any (sample_key_eq key) ks
+pub key_in_zip : (key : SampleKey) (ks : List SampleKey) (vs : List TimedValue) → length vs ≡ length ks → is_key_of key (zip ks vs) ≡ list_any (sample_key_eq key) ks
 key_in_zip key [] vs h = refl
 key_in_zip key (k ∷ ks) [] h = absurd (omega (arith, h))
 key_in_zip key (k ∷ ks) (v ∷ vs) h = ap (λ b. sample_key_eq key k || b) (key_in_zip key ks vs (omega (arith, h)))
 
 -- one reading more
-pub readings_step : (kind : Kind) (unit : List ℕ) (n m : ℕ) (it next : List (SampleKey × Number)) (key : SampleKey) (value : Number) (rs new whole : List Reading)
+pub readings_step : (kind : Kind) (unit : List ℕ) (n m : ℕ) (it next : List (SampleKey × TimedValue)) (key : SampleKey) (value : TimedValue) (rs new whole : List Reading)
     → n ≡ suc m → it ≡ (key, value) ∷ next → new ≡ rs ++ plain_reading kind unit key value ∷ [] → rs ++ readings_at kind unit n it ≡ whole
     → new ++ readings_at kind unit m next ≡ whole
 readings_step kind unit n m it next key value rs new whole count items new_is h =
@@ -106,15 +109,25 @@ readings_step kind unit n m it next key value rs new whole count items new_is h 
 pub rest_step : {A : Type 0} (n m : ℕ) (it next whole : List A) (x : A) → n ≡ suc m → it ≡ x ∷ next → drop n it ≡ whole → drop m next ≡ whole
 rest_step n m it next whole x count items h = sym (λ i. drop (count i) (items i)) ∙ h
 
+-- a value with its time for each key
+pub timed_each : (vs : List Number) (ts : List (Option ℕ)) (ks : List SampleKey) → length vs ≡ length ks → length ts ≤ length vs → length (timed_values vs ts) ≡ length ks
+timed_each vs ts ks each few = timed-length vs ts few ∙ each
+
 -- a sample that was added stands behind the others
-pub sample_more : (key : SampleKey) (value : Number) (ks new : List SampleKey) (vs more : List Number) (now : List (SampleKey × Number)) (added : Bool)
-    → zip ks vs ≡ now → length vs ≡ length ks → added ≡ true → new ≡ cond added (ks ++ key ∷ []) ks → more ≡ vs ++ value ∷ []
-    → zip new more ≡ now ++ (key, value) ∷ []
-sample_more key value ks new vs more now added view each h keys values =
+pub sample_more : (key : SampleKey) (value : TimedValue) (ks new : List SampleKey) (vs more : List Number) (ts later : List (Option ℕ)) (now : List (SampleKey × TimedValue)) (added : Bool)
+    → zip ks (timed_values vs ts) ≡ now → length vs ≡ length ks → length ts ≤ length vs → added ≡ true → new ≡ cond added (ks ++ key ∷ []) ks → more ≡ vs ++ value.value ∷ [] → later ≡ with_time ts value.time
+    → zip new (timed_values more later) ≡ now ++ (key, value) ∷ []
+sample_more key value ks new vs more ts later now added view each few h keys values times =
     let new_is : new ≡ ks ++ key ∷ [] = keys ∙ ap (λ b. cond b (ks ++ key ∷ []) ks) h in
-    (λ i. zip (new_is i) (values i)) ∙ zip-more ks vs key value each ∙ ap (λ l. l ++ (key, value) ∷ []) view
+    let timed : timed_values more later ≡ timed_values vs ts ++ value ∷ [] = (λ i. timed_values (values i) (times i)) ∙ timed-snoc vs ts value few in
+    (λ i. zip (new_is i) (timed i)) ∙ zip-more ks (timed_values vs ts) key value (timed_each vs ts ks each few) ∙ ap (λ l. l ++ (key, value) ∷ []) view
 
 -- no values come any more
 pub values_done : {A : Type 0} (s t : IntoIter A Global) (o : Option A) → o ≡ None → into_iter_steps s o t → (into_iter_items s ≡ []) × (into_iter_items t ≡ [])
 values_done s t None e step = (nil_from_length (into_iter_items s) (omega (arith, s.rest.ok, step.0)), nil_from_length (into_iter_items t) (omega (arith, t.rest.ok, step.1)))
 values_done s t (Some x) e step = absurd (let f : Some x ≡ None = e in cc)
+
+-- nothing comes any more
+pub nothing_left : {A : Type 0} (o : Option A) (old new : List A) → o ≡ None → ComesNext o old new → (old ≡ []) × (new ≡ [])
+nothing_left None old new e h = h
+nothing_left (Some x) old new e h = absurd (let f : Some x ≡ None = e in cc)

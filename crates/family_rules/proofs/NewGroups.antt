@@ -6,7 +6,6 @@ use Rattle.std.specs.Cmp.Lexicographic.{bytes_decides}
 use Rattle.std.specs.List.{zip}
 use Rattle.std.proofs.lemmas.List.{map-append}
 use Rattle.std.proofs.lemmas.List.Folds.{list_any-append}
-use Rattle.exact_decimal.specs.declared.number.Number.{Number}
 use Rattle.label_sets.specs.declared.kind.Kind.TheVariants.{Counter}
 use Rattle.label_sets.specs.declared.label_set.LabelSet.{LabelSet}
 use Rattle.label_sets.specs.Labels.{label_sets_eq}
@@ -18,12 +17,13 @@ use Rattle.page_model.specs.declared.format.Format.TheVariants as formats
 use Rattle.page_model.specs.declared.rule.Rule.{Rule}
 use Rattle.page_model.specs.declared.rule.Rule.TheVariants as rules
 use Rattle.page_model.specs.Rules.{is_open_metrics}
-use Rattle.sample_groups.specs.declared.part.Part.{Part}
+use Rattle.sample_groups.specs.declared.member.Member.{Member}
 use Rattle.sample_groups.specs.Groups.{Gathered, known_group, or_empty, put_group, with_one, with_part, breaks_order, is_overtaken}
 use Rattle.sample_groups.specs.LastSeen.{EndsWith}
 use Rattle.sample_groups.proofs.Laws.{first_fits}
 use Rattle.family_rules.specs.declared.family.Current.{Current}
 use Rattle.family_rules.specs.declared.group_keys.GroupKeys.TheVariants as told
+use Rattle.family_rules.specs.declared.timed_values.TimedValue.{TimedValue}
 use Rattle.family_rules.specs.GroupRuns.{group_key}
 use Rattle.family_rules.specs.KeyedValues.{is_key_of}
 use Rattle.family_rules.specs.GroupKeys.{IsNewGroup, NameTells, TellTrue}
@@ -33,8 +33,8 @@ use Rattle.family_rules.specs.Samples.{family_with_sample, current_samples, runs
 
 -- ---- a sample more
 
-key_in_front : (key : SampleKey) (seen more : List (SampleKey × Number)) → is_key_of key (seen ++ more) ≡ false → is_key_of key seen ≡ false
-key_in_front key seen more h = by (is_key_of key seen) (sym (list_any-append (λ (e : SampleKey × Number). sample_key_eq key e.0) seen more) ∙ h)
+key_in_front : (key : SampleKey) (seen more : List (SampleKey × TimedValue)) → is_key_of key (seen ++ more) ≡ false → is_key_of key seen ≡ false
+key_in_front key seen more h = by (is_key_of key seen) (sym (list_any-append (λ (e : SampleKey × TimedValue). sample_key_eq key e.0) seen more) ∙ h)
   where
     by : (b : Bool) → (b || is_key_of key more) ≡ false → b ≡ false
     by true e = e
@@ -44,8 +44,8 @@ keys_same : (key : SampleKey) → sample_key_eq key key ≡ true
 keys_same key = rw ((bytes_decides key.name key.name).1 refl, (sets_decide key.labels key.labels).1 refl) refl
 
 -- the key of the last sample is seen
-pub last_seen : (key : SampleKey) (seen : List (SampleKey × Number)) (value : Number) → is_key_of key (seen ++ (key, value) ∷ []) ≡ true
-last_seen key seen value = list_any-append (λ (e : SampleKey × Number). sample_key_eq key e.0) seen ((key, value) ∷ []) ∙ ap (λ b. is_key_of key seen || (b || false)) (keys_same key) ∙ by (is_key_of key seen)
+pub last_seen : (key : SampleKey) (seen : List (SampleKey × TimedValue)) (value : TimedValue) → is_key_of key (seen ++ (key, value) ∷ []) ≡ true
+last_seen key seen value = list_any-append (λ (e : SampleKey × TimedValue). sample_key_eq key e.0) seen ((key, value) ∷ []) ∙ ap (λ b. is_key_of key seen || (b || false)) (keys_same key) ∙ by (is_key_of key seen)
   where
     by : (b : Bool) → (b || true) ≡ true
     by true = refl
@@ -62,20 +62,20 @@ last_at {A = A} xs y =
     here (z ∷ zs) = here zs
 
 -- and it is the last one
-pub last_labels : (key : SampleKey) (seen : List (SampleKey × Number)) (value : Number) → EndsWith (map (λ (e : SampleKey × Number). e.0) (seen ++ (key, value) ∷ [])) key.labels
+pub last_labels : (key : SampleKey) (seen : List (SampleKey × TimedValue)) (value : TimedValue) → EndsWith (map (λ (e : SampleKey × TimedValue). e.0) (seen ++ (key, value) ∷ [])) key.labels
 last_labels key seen value =
-    let keys : List SampleKey = map (λ (e : SampleKey × Number). e.0) seen in
-    ap (λ (l : List SampleKey). option_map (λ (k : SampleKey). k.labels) (slice_get l (length l - 1))) (map-append (λ (e : SampleKey × Number). e.0) seen ((key, value) ∷ []))
+    let keys : List SampleKey = map (λ (e : SampleKey × TimedValue). e.0) seen in
+    ap (λ (l : List SampleKey). option_map (λ (k : SampleKey). k.labels) (slice_get l (length l - 1))) (map-append (λ (e : SampleKey × TimedValue). e.0) seen ((key, value) ∷ []))
     ∙ ap (option_map (λ (k : SampleKey). k.labels)) (last_at keys key)
 
 -- the keys of keys and values
-pub zipped_keys : (keys : List SampleKey) (values : List Number) → length values ≡ length keys → map (λ (e : SampleKey × Number). e.0) (zip keys values) ≡ keys
+pub zipped_keys : (keys : List SampleKey) (values : List TimedValue) → length values ≡ length keys → map (λ (e : SampleKey × TimedValue). e.0) (zip keys values) ≡ keys
 zipped_keys [] values e = refl
 zipped_keys (k ∷ keys) [] e = absurd (omega arith)
 zipped_keys (k ∷ keys) (v ∷ values) e = ap (λ (l : List SampleKey). k ∷ l) (zipped_keys keys values (omega (arith, e)))
 
 -- a sample more tells no less
-pub more_tells : (name : List ℕ) (current : Option Current) (seen more : List (SampleKey × Number)) → NameTells name current seen → NameTells name (current_with family_with_sample current) (seen ++ more)
+pub more_tells : (name : List ℕ) (current : Option Current) (seen more : List (SampleKey × TimedValue)) → NameTells name current seen → NameTells name (current_with family_with_sample current) (seen ++ more)
 more_tells name None seen more old labels unseen = tt
 more_tells name (Some k) seen more old labels unseen = old labels (key_in_front (group_key name labels) seen more unseen)
 
@@ -97,7 +97,7 @@ known_put (e ∷ es) labels other g apart h = by (label_sets_eq labels e.0) (lab
     by false false at h more = rw at (more h)
 
 -- labels of no sample are not those of one
-apart_labels : (key : SampleKey) (labels : LabelSet) (seen : List (SampleKey × Number)) → is_key_of key seen ≡ true → is_key_of (group_key key.name labels) seen ≡ false → label_sets_eq labels key.labels ≡ false
+apart_labels : (key : SampleKey) (labels : LabelSet) (seen : List (SampleKey × TimedValue)) → is_key_of key seen ≡ true → is_key_of (group_key key.name labels) seen ≡ false → label_sets_eq labels key.labels ≡ false
 apart_labels key labels seen here unseen = by (label_sets_eq labels key.labels) refl
   where
     by : (b : Bool) → label_sets_eq labels key.labels ≡ b → b ≡ false
@@ -106,23 +106,23 @@ apart_labels key labels seen here unseen = by (label_sets_eq labels key.labels) 
         let same : labels ≡ key.labels = (sets_decide labels key.labels).0 e in
         sym here ∙ sym (ap (λ l. is_key_of (group_key key.name l) seen) same) ∙ unseen
 
-begun_in : (key : SampleKey) (part : Part) (current : Option Current) (seen : List (SampleKey × Number)) → is_key_of key seen ≡ true → NameTells key.name current seen
-    → NameTells key.name (current_with (with_part_in Counter key.labels part) current) seen
+begun_in : (key : SampleKey) (member : Member) (current : Option Current) (seen : List (SampleKey × TimedValue)) → is_key_of key seen ≡ true → NameTells key.name current seen
+    → NameTells key.name (current_with (with_part_in Counter key.labels member) current) seen
 unfolding with_part
-begun_in key part None seen here old labels unseen = tt
-begun_in key part (Some k) seen here old labels unseen =
-    known_put k.family.groups key.labels labels (with_one (or_empty (known_group k.family.groups key.labels)) part) (apart_labels key labels seen here unseen) (old labels unseen)
+begun_in key member None seen here old labels unseen = tt
+begun_in key member (Some k) seen here old labels unseen =
+    known_put k.family.groups key.labels labels (with_one (or_empty (known_group k.family.groups key.labels)) member) (apart_labels key labels seen here unseen) (old labels unseen)
 
-pub begun_tells : (key : SampleKey) (part : Part) (current grown : Option Current) (seen : List (SampleKey × Number)) → is_key_of key seen ≡ true → NameTells key.name current seen
-    → grown ≡ current_with (with_part_in Counter key.labels part) current → TellTrue (told.Of key.name) grown seen
-begun_tells key part current grown seen here old is name t =
-    subst (λ n. NameTells n grown seen) ((bytes_decides key.name name).0 t) (subst (λ (o : Option Current). NameTells key.name o seen) (sym is) (begun_in key part current seen here old))
+pub begun_tells : (key : SampleKey) (member : Member) (current grown : Option Current) (seen : List (SampleKey × TimedValue)) → is_key_of key seen ≡ true → NameTells key.name current seen
+    → grown ≡ current_with (with_part_in Counter key.labels member) current → TellTrue (told.Of key.name) grown seen
+begun_tells key member current grown seen here old is name t =
+    subst (λ n. NameTells n grown seen) ((bytes_decides key.name name).0 t) (subst (λ (o : Option Current). NameTells key.name o seen) (sym is) (begun_in key member current seen here old))
 
 -- ---- what a key answers that tells whether its group is new
 
-new_fits : (current : Option Current) (labels : LabelSet) (part : Part) → IsNewGroup current labels → order_stop Counter labels part current ≡ None
-new_fits None labels part h = refl
-new_fits (Some k) labels part h = ap (λ b. cond (not b) None (Some rules.Order)) (ap (λ g. breaks_order (or_empty g) part) h ∙ first_fits part)
+new_fits : (current : Option Current) (labels : LabelSet) (member : Member) → IsNewGroup current labels → order_stop Counter labels member.part current ≡ None
+new_fits None labels member h = refl
+new_fits (Some k) labels member h = ap (λ b. cond (not b) None (Some rules.Order)) (ap (λ g. breaks_order (or_empty g) member.part) h ∙ first_fits member.part)
 
 not_overtaken : (es : List (LabelSet × Gathered)) (labels : LabelSet) → known_group es labels ≡ None → is_overtaken es labels ≡ false
 not_overtaken [] labels h = refl
@@ -145,40 +145,40 @@ none_own c = by (is_open_metrics c.setting.format)
     by false = refl
 
 -- a counter's sample goes back to its group by the groups of its family, where the format has the rule
-back_in : (f : Format) (labels : LabelSet) (part : Part) (current : Option Current) → is_back_in_groups f Counter labels current ≡ is_told_back f Counter labels (Ok (Some part)) current
-back_in formats.Text labels part current = by (is_overtaken_in Counter labels current)
+back_in : (f : Format) (labels : LabelSet) (member : Member) (current : Option Current) → is_back_in_groups f Counter labels current ≡ is_told_back f Counter labels (Ok (Some member)) current
+back_in formats.Text labels member current = by (is_overtaken_in Counter labels current)
   where
     by : (b : Bool) → false ≡ (b && false)
     by true = refl
     by false = refl
-back_in formats.OpenMetrics labels part current = by (is_overtaken_in Counter labels current)
+back_in formats.OpenMetrics labels member current = by (is_overtaken_in Counter labels current)
   where
     by : (b : Bool) → b ≡ (b && true)
     by true = refl
     by false = refl
 
 -- where it doesn't go back, it answers what its key does
-key_alone : (c : Checking) (key : SampleKey) (part : Part) → NameTells key.name c.current c.seen
-    → sample_stop c (own_samples c Counter) key (order_stop Counter key.labels part c.current) ≡ sample_stop c 0 key None
+key_alone : (c : Checking) (key : SampleKey) (member : Member) → NameTells key.name c.current c.seen
+    → sample_stop c (own_samples c Counter) key (order_stop Counter key.labels member.part c.current) ≡ sample_stop c 0 key None
 unfolding sample_stop
-key_alone c key part old = ap (λ n. sample_stop c n key (order_stop Counter key.labels part c.current)) (none_own c) ∙ by (is_key_of key c.seen) refl
+key_alone c key member old = ap (λ n. sample_stop c n key (order_stop Counter key.labels member.part c.current)) (none_own c) ∙ by (is_key_of key c.seen) refl
   where
     past : Option Rule
     past = cond (nat_le c.setting.limit c.samples) (Some rules.TooMany) None
 
-    by : (b : Bool) → is_key_of key c.seen ≡ b → cond b (Some (seen_rule 0 key.labels c.seen)) (option_or (order_stop Counter key.labels part c.current) past) ≡ cond b (Some (seen_rule 0 key.labels c.seen)) past
+    by : (b : Bool) → is_key_of key c.seen ≡ b → cond b (Some (seen_rule 0 key.labels c.seen)) (option_or (order_stop Counter key.labels member.part c.current) past) ≡ cond b (Some (seen_rule 0 key.labels c.seen)) past
     by true e = refl
-    by false e = ap (λ o. option_or o past) (new_fits c.current key.labels part (old key.labels e))
+    by false e = ap (λ o. option_or o past) (new_fits c.current key.labels member (old key.labels e))
 
-stop_cond : (c : Checking) (key : SampleKey) (part : Part) (back : Bool) → NameTells key.name c.current c.seen → is_told_back c.setting.format Counter key.labels (Ok (Some part)) c.current ≡ back
-    → key_stop c Counter key (Ok (Some part)) ≡ cond back (Some rules.Interleaved) (sample_stop c 0 key None)
-stop_cond c key part back old told = ap (λ b. cond b (Some rules.Interleaved) (sample_stop c (own_samples c Counter) key (order_stop Counter key.labels part c.current))) told
-    ∙ ap (λ (o : Option Rule). cond back (Some rules.Interleaved) o) (key_alone c key part old)
+stop_cond : (c : Checking) (key : SampleKey) (member : Member) (back : Bool) → NameTells key.name c.current c.seen → is_told_back c.setting.format Counter key.labels (Ok (Some member)) c.current ≡ back
+    → key_stop c Counter key (Ok (Some member)) ≡ cond back (Some rules.Interleaved) (sample_stop c 0 key None)
+stop_cond c key member back old told = ap (λ b. cond b (Some rules.Interleaved) (sample_stop c (own_samples c Counter) key (order_stop Counter key.labels member.part c.current))) told
+    ∙ ap (λ (o : Option Rule). cond back (Some rules.Interleaved) o) (key_alone c key member old)
 
 -- it goes back, or answers what its key does
-pub first_stop : (c : Checking) (key : SampleKey) (part : Part) (back : Bool) → NameTells key.name c.current c.seen → back ≡ is_back_in_groups c.setting.format Counter key.labels c.current
-    → cond back (Some rules.Interleaved) (sample_stop c 0 key None) ≡ key_stop c Counter key (Ok (Some part))
-first_stop c key part back old told = sym (stop_cond c key part back old (sym (back_in c.setting.format key.labels part c.current) ∙ sym told))
+pub first_stop : (c : Checking) (key : SampleKey) (member : Member) (back : Bool) → NameTells key.name c.current c.seen → back ≡ is_back_in_groups c.setting.format Counter key.labels c.current
+    → cond back (Some rules.Interleaved) (sample_stop c 0 key None) ≡ key_stop c Counter key (Ok (Some member))
+first_stop c key member back old told = sym (stop_cond c key member back old (sym (back_in c.setting.format key.labels member c.current) ∙ sym told))
 
 -- a key that breaks no rule is new
 unseen_here : (c : Checking) (key : SampleKey) → sample_stop c 0 key None ≡ None → is_key_of key c.seen ≡ false
@@ -189,7 +189,7 @@ unseen_here c key h = by (is_key_of key c.seen) h
     by true e = absurd (let f : Some (seen_rule 0 key.labels c.seen) ≡ None = e in cc)
     by false e = refl
 
-module _ (c mid : Checking) (key : SampleKey) (value : Number) (part : Part) (old : NameTells key.name c.current c.seen) (stop : None ≡ sample_stop c 0 key None) (step : mid ≡ with_sample c key value) where
+module _ (c mid : Checking) (key : SampleKey) (value : TimedValue) (member : Member) (old : NameTells key.name c.current c.seen) (stop : None ≡ sample_stop c 0 key None) (step : mid ≡ with_sample c key value) where
   unseen : is_key_of key c.seen ≡ false
   unseen = unseen_here c key (sym stop)
 
@@ -201,23 +201,23 @@ module _ (c mid : Checking) (key : SampleKey) (value : Number) (part : Part) (ol
   unfolding with_sample
   key_seen = ap (λ (m : Checking). is_key_of key m.seen) step ∙ last_seen key c.seen value
 
-  pub key_last : EndsWith (map (λ (e : SampleKey × Number). e.0) mid.seen) key.labels
+  pub key_last : EndsWith (map (λ (e : SampleKey × TimedValue). e.0) mid.seen) key.labels
   unfolding with_sample
-  key_last = subst (λ (m : Checking). EndsWith (map (λ (e : SampleKey × Number). e.0) m.seen) key.labels) (sym step) (last_labels key c.seen value)
+  key_last = subst (λ (m : Checking). EndsWith (map (λ (e : SampleKey × TimedValue). e.0) m.seen) key.labels) (sym step) (last_labels key c.seen value)
 
   pub name_tells : NameTells key.name mid.current mid.seen
   unfolding with_sample
   name_tells = subst (λ (m : Checking). NameTells key.name m.current m.seen) (sym step) (more_tells key.name c.current c.seen ((key, value) ∷ []) old)
 
-  pub first_none : None ≡ key_stop c Counter key (Ok (Some part))
-  first_none = stop ∙ sym (stop_cond c key part false old (by (new_stays c.current key.labels (old key.labels unseen))))
+  pub first_none : None ≡ key_stop c Counter key (Ok (Some member))
+  first_none = stop ∙ sym (stop_cond c key member false old (by (new_stays c.current key.labels (old key.labels unseen))))
     where
-      by : is_overtaken_in Counter key.labels c.current ≡ false → is_told_back c.setting.format Counter key.labels (Ok (Some part)) c.current ≡ false
+      by : is_overtaken_in Counter key.labels c.current ≡ false → is_told_back c.setting.format Counter key.labels (Ok (Some member)) c.current ≡ false
       by e = ap (λ b. b && is_open_metrics c.setting.format) e
 
-  pub first_added : (d : Checking) → d ≡ with_part_at mid Counter key.labels part → d ≡ with_key c Counter key value (Ok (Some part))
+  pub first_added : (d : Checking) → d ≡ with_part_at mid Counter key.labels member → d ≡ with_key c Counter key value (Ok (Some member))
   unfolding with_sample
-  first_added d grown = grown ∙ ap (λ (m : Checking). with_part_at m Counter key.labels part) step ∙ (λ i. record {
+  first_added d grown = grown ∙ ap (λ (m : Checking). with_part_at m Counter key.labels member) step ∙ (λ i. record {
     setting = c.setting;
     left = c.left;
     current = swapped c.current i;
@@ -226,9 +226,9 @@ module _ (c mid : Checking) (key : SampleKey) (value : Number) (part : Part) (ol
     samples = c.samples + 1;
     ended = c.ended;
     stopped = c.stopped;
-  }) ∙ ap (λ r. with_sample (record c { runs = r; current = current_with (with_part_in Counter key.labels part) c.current }) key value) (sym (same_runs c.current))
+  }) ∙ ap (λ r. with_sample (record c { runs = r; current = current_with (with_part_in Counter key.labels member) c.current }) key value) (sym (same_runs c.current))
     where
-      swapped : (o : Option Current) → current_with (with_part_in Counter key.labels part) (current_with family_with_sample o) ≡ current_with family_with_sample (current_with (with_part_in Counter key.labels part) o)
+      swapped : (o : Option Current) → current_with (with_part_in Counter key.labels member) (current_with family_with_sample o) ≡ current_with family_with_sample (current_with (with_part_in Counter key.labels member) o)
       swapped None = refl
       swapped (Some k) = refl
 

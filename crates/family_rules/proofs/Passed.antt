@@ -4,7 +4,6 @@ use Rattle.std.specs.List.{list_any, flat_map}
 use Rattle.std.proofs.lemmas.List.{map-append, drop_all, drop_at, length-map}
 use Rattle.std.proofs.lemmas.Bool.{or_parts}
 use Rattle.std.proofs.Math.Bool.{and-false}
-use Rattle.exact_decimal.specs.declared.number.Number.{Number}
 use Rattle.label_sets.specs.declared.kind.Kind.{Kind}
 use Rattle.label_sets.specs.declared.kind.Kind.TheVariants.{Gauge, Unknown, Info}
 use Rattle.label_sets.specs.declared.label_set.LabelSet.{LabelSet}
@@ -18,6 +17,7 @@ use Rattle.page_model.specs.Written.{Setting}
 use Rattle.page_model.specs.Owners.{Owned, kind_of, samples_of, group_of}
 use Rattle.page_model.specs.Rules.{is_open_metrics, is_split, is_interleaved, is_duplicate, in_one_group, has_wrong_suffix}
 use Rattle.sample_groups.specs.Parts.{is_grouped}
+use Rattle.family_rules.specs.declared.timed_values.TimedValue.{TimedValue}
 use Rattle.family_rules.specs.GroupRuns.{is_alone}
 use Rattle.family_rules.specs.KeyedValues.{samples_at_end, passed_from, is_passed}
 use Rattle.family_rules.specs.Checking.{keyed, seen_above, left_before}
@@ -29,10 +29,10 @@ use mathlib.Core.List.{reverse-cons}
 
 -- ---- samples at the end
 
-pub last_none : (samples : List (SampleKey × Number)) → samples_at_end 0 samples ≡ []
+pub last_none : (samples : List (SampleKey × TimedValue)) → samples_at_end 0 samples ≡ []
 last_none samples = drop_all (length samples - 0) samples (omega arith)
 
-last_own : (front own : List (SampleKey × Number)) (count : ℕ) → length own ≡ count → samples_at_end count (front ++ own) ≡ own
+last_own : (front own : List (SampleKey × TimedValue)) (count : ℕ) → length own ≡ count → samples_at_end count (front ++ own) ≡ own
 last_own front own count h = let both : length (front ++ own) ≡ length front + length own = length-append front own in
     drop_at front own (length (front ++ own) - count) (omega (arith, both, h))
 
@@ -40,7 +40,7 @@ last_own front own count h = let both : length (front ++ own) ≡ length front +
 last_samples : (st : Setting) (above : List Owned) (F : List ℕ) (s : Sample) → AreFit st above → is_split above (record { family = F; item = items.Sample s }) ≡ false
     → samples_at_end (length (samples_of (reverse above) F)) (seen_above st above) ≡ map (keyed st) (reverse (samples_of above F))
 last_samples st above F s fit free =
-    let front : List (SampleKey × Number) = flat_map (seen_in st above) (left_before F above) in
+    let front : List (SampleKey × TimedValue) = flat_map (seen_in st above) (left_before F above) in
     let seen : seen_above st above ≡ front ++ seen_in st above F = together st above fit ∙ seen_before st F (items.Sample s) above fit free in
     ap (samples_at_end (length (samples_of (reverse above) F))) seen
     ∙ last_own front (seen_in st above F) (length (samples_of (reverse above) F)) (length-map (samples_of (reverse above) F) (keyed st))
@@ -53,11 +53,11 @@ regrouped true s l e = refl
 regrouped false true l e = refl
 regrouped false false l e = refl
 
-passed_more : (labels : LabelSet) (any last : Bool) (xs : List (SampleKey × Number)) (e : SampleKey × Number) → passed_from labels any last (xs ++ e ∷ [])
-    ≡ ((any || (list_any (λ (t : SampleKey × Number). label_sets_eq t.0.labels labels) xs || label_sets_eq e.0.labels labels)) && not (label_sets_eq e.0.labels labels))
+passed_more : (labels : LabelSet) (any last : Bool) (xs : List (SampleKey × TimedValue)) (e : SampleKey × TimedValue) → passed_from labels any last (xs ++ e ∷ [])
+    ≡ ((any || (list_any (λ (t : SampleKey × TimedValue). label_sets_eq t.0.labels labels) xs || label_sets_eq e.0.labels labels)) && not (label_sets_eq e.0.labels labels))
 passed_more labels any last [] e = refl
 passed_more labels any last (x ∷ xs) e = passed_more labels (any || label_sets_eq x.0.labels labels) (label_sets_eq x.0.labels labels) xs e
-    ∙ ap (λ b. b && not (label_sets_eq e.0.labels labels)) (regrouped any (label_sets_eq x.0.labels labels) (list_any (λ (t : SampleKey × Number). label_sets_eq t.0.labels labels) xs) (label_sets_eq e.0.labels labels))
+    ∙ ap (λ b. b && not (label_sets_eq e.0.labels labels)) (regrouped any (label_sets_eq x.0.labels labels) (list_any (λ (t : SampleKey × TimedValue). label_sets_eq t.0.labels labels) xs) (label_sets_eq e.0.labels labels))
 
 turned : (l n : Bool) → ((l || n) && not n) ≡ (not n && l)
 turned true true = refl
@@ -89,7 +89,7 @@ module _ (st : Setting) where
       ∙ ap (is_passed labels) (map-append (keyed st) (reverse samples) (n ∷ []))
       ∙ passed_more labels false false (map (keyed st) (reverse samples)) (keyed st n)
       ∙ ap (λ l. (l || label_sets_eq (kept st n) labels) && not (label_sets_eq (kept st n) labels))
-      (any-map (λ (t : SampleKey × Number). label_sets_eq t.0.labels labels) (keyed st) (reverse samples) ∙ any-reverse (λ t. label_sets_eq (kept st t) labels) samples)
+      (any-map (λ (t : SampleKey × TimedValue). label_sets_eq t.0.labels labels) (keyed st) (reverse samples) ∙ any-reverse (λ t. label_sets_eq (kept st t) labels) samples)
       ∙ turned (list_any (λ t. label_sets_eq (kept st t) labels) samples) (label_sets_eq (kept st n) labels)
 
   module _ (k : Kind) (F : List ℕ) (s : Sample) (alone : is_alone k ≡ true) where

@@ -1,11 +1,9 @@
 -- What the functions of a checker prove of a sample, from what each of their steps did.
-use Rattle.std.proofs.Common.{◌≡◌, ℕ, Bool, true, false, cond, not, ◌&&◌, ◌||◌, List, [], ◌∷◌, ◌++◌, map, reverse, codes, Option, Some, None, Result, Ok, Err, refl, sym, ap, subst, ◌∙◌, is_some, count_by}
-use Rattle.std.specs.Prelude.{nat_le, nat_lt}
+use Rattle.std.proofs.Common.{◌≡◌, ℕ, Bool, true, false, cond, not, ◌&&◌, ◌||◌, List, [], ◌∷◌, ◌++◌, map, reverse, codes, Option, Some, None, Result, Ok, Err, refl, sym, ap, subst, ◌∙◌, is_some}
+use Rattle.std.specs.Prelude.{nat_lt}
 use Rattle.std.specs.Map.{lookup}
-use Rattle.std.specs.Option.{option_or}
 use Rattle.std.specs.Str.{bytes_eq}
 use Rattle.std.proofs.lemmas.List.{append-nil}
-use Rattle.exact_decimal.specs.declared.number.Number.{Number}
 use Rattle.label_sets.specs.declared.kind.Kind.{Kind}
 use Rattle.label_sets.specs.declared.kind.Kind.TheVariants.{Counter, Histogram, GaugeHistogram, Unknown}
 use Rattle.label_sets.specs.declared.label_set.LabelSet.{LabelSet}
@@ -17,103 +15,36 @@ use Rattle.page_model.specs.declared.item.Sample.{Sample}
 use Rattle.page_model.specs.declared.rule.Rule.{Rule}
 use Rattle.page_model.specs.declared.rule.Rule.TheVariants as rules
 use Rattle.page_model.specs.Written.{Setting}
-use Rattle.page_model.specs.Items.{is_sample}
 use Rattle.page_model.specs.Suffixes.{is_sample_name}
 use Rattle.page_model.specs.Owners.{Owned, kind_of, sample_owner, owned_lines, samples_of, kept_labels}
-use Rattle.page_model.specs.Rules.{is_open_metrics, is_after_eof, is_split, is_interleaved, has_suffix, may_have_exemplar, exemplar_characters, is_bad_exemplar, has_wrong_suffix, has_bad_value, has_bad_threshold, is_out_of_order, is_duplicate, is_past_limit, sample_group}
+use Rattle.page_model.specs.Rules.{is_open_metrics, is_after_eof, is_split, is_interleaved, has_suffix, may_have_exemplar, exemplar_characters, is_bad_exemplar, has_wrong_suffix, has_bad_value, has_bad_threshold, is_out_of_order, is_duplicate, sample_group}
 use Rattle.page_model.specs.Faults.{item_fault}
+use Rattle.sample_groups.specs.declared.member.Member.{Member}
 use Rattle.sample_groups.specs.declared.part.Part.{Part}
 use Rattle.sample_groups.specs.Groups.{groups_from, known_group, or_empty, breaks_order, is_overtaken, shared_labels}
-use Rattle.sample_groups.specs.Parts.{is_grouped, entry_of, part_of}
+use Rattle.sample_groups.specs.Parts.{is_grouped, entry_of, part_of, sample_time, member_of}
 use Rattle.sample_groups.proofs.Laws.{shared_group, order_kept}
-use Rattle.family_rules.specs.KeyedValues.{is_key_of, samples_at_end, is_passed}
+use Rattle.family_rules.specs.declared.timed_values.TimedValue.{TimedValue}
+use Rattle.family_rules.specs.KeyedValues.{samples_at_end, is_passed}
 use Rattle.packed_keys.specs.declared.sample_key.SampleKey.{SampleKey}
 use Rattle.family_rules.specs.GroupRuns.{is_alone, has_own_runs, has_runs, goes_back}
-use Rattle.family_rules.specs.Checking.{Checking, groups_so_far, so_far, key_of, Stands}
+use Rattle.family_rules.specs.Checking.{Checking, groups_so_far, so_far, key_of, timed, Stands}
 use Rattle.family_rules.specs.Steps.{is_current_family, current_kind, with_current, begun, left_stop, Takes, IsReady}
-use Rattle.family_rules.specs.Samples.{is_current_sample, TellsPart, told_part, told_left, has_bad_exemplar, is_bad_plain_value, current_samples, own_samples, seen_rule, key_in, is_overtaken_in, is_back_in_groups, is_told_back, is_back, entered_by, part_stop, order_stop, with_told, with_sample, with_added, sample_stop, add_stop, name_stop}
+use Rattle.family_rules.specs.Samples.{is_current_sample, TellsPart, told_part, with_member, told_member, told_left, has_bad_exemplar, is_bad_plain_value, current_samples, own_samples, key_in, is_overtaken_in, is_back_in_groups, is_told_back, is_back, entered_by, part_stop, order_stop, with_told, with_sample, with_added, sample_stop, add_stop, name_stop}
 use Rattle.family_rules.proofs.Lists.{bytes_same}
+use Rattle.family_rules.proofs.LastRules.{or_none, stop_some, last_fault, rest_kept, back_first, back_or_suffix, either_refuses, no_own, not_wrong, member_told}
 use Rattle.family_rules.proofs.Faults.{fit_lines, together_samples, sound_samples, left_fault, measure_fault, rest_fault, sample_fault}
 use Rattle.family_rules.proofs.Plain.{suffix_is, plain_value, plain_threshold, plain_order}
 use Rattle.family_rules.proofs.RunLaws.{interleaved_kept}
 use Rattle.family_rules.proofs.GroupedBack.{overtaken_kept, never_back, back_by_kind}
 use Rattle.family_rules.proofs.Passed.{last_none, back_seen, interleaved_passed}
-use Rattle.family_rules.proofs.Seen.{duplicate_seen}
 use Rattle.family_rules.proofs.Kept.{reversed_samples}
 use Rattle.family_rules.proofs.Standing.{ready_reached, ready_kind, stands_sample, split_left, split_own, left_kept, stays, own_owner, current_owner, ready_current_owner}
 use Rattle.family_rules.proofs.Taking.{refused, reached_same, reached_other}
 
--- ---- the rules that come last
-
-or_none : (a : Option Rule) → option_or a None ≡ a
-or_none None = refl
-or_none (Some r) = refl
-
--- Interleaved or Duplicate, then what else is broken, then TooMany, by the lists
-stop_kept : (st : Setting) (c : Checking) (earlier : List Item) (s : Sample) (own : ℕ) (broken : Option Rule) → Stands st c earlier
-    → sample_stop c own (key_of c.setting s) broken
-    ≡ cond (is_duplicate st (owned_lines st.format earlier) s) (Some (seen_rule own (kept_labels c.setting.treatment s.labels) c.seen)) (option_or broken (cond (is_past_limit st earlier) (Some rules.TooMany) None))
-unfolding sample_stop is_past_limit
-stop_kept st c earlier s own broken stands =
-    let double : is_key_of (key_of c.setting s) c.seen ≡ is_duplicate st (owned_lines st.format earlier) s =
-    (λ i. is_key_of (key_of (stands.setting i) s) (stands.seen i)) ∙ duplicate_seen st (owned_lines st.format earlier) s in
-    let past : nat_le c.setting.limit c.samples ≡ nat_le st.limit (count_by is_sample earlier) = λ i. nat_le (stands.setting i).limit (stands.samples i) in
-    λ i. cond (double i) (Some (seen_rule own (kept_labels c.setting.treatment s.labels) c.seen)) (option_or broken (cond (past i) (Some rules.TooMany) None))
-
--- a rule that is broken refuses the sample
-stop_some : (c : Checking) (own : ℕ) (key : SampleKey) (rule : Rule) → sample_stop c own key (Some rule) ≡ None → ⊥
-unfolding sample_stop
-stop_some c own key rule h = by (is_key_of key c.seen) h
-  where
-    by : (b : Bool) → cond b (Some (seen_rule own key.labels c.seen)) (Some rule) ≡ None → ⊥
-    by true e = cc
-    by false e = cc
-
--- the rules behind Duplicate
-abbrev last_fault : Setting → List Item → List ℕ → Sample → Option Rule
-last_fault st earlier F s = let above = owned_lines st.format earlier in
-    option_or (option_or (measure_fault st (kind_of above F) F (samples_of above F) s) (left_fault st above (Some F))) (cond (is_past_limit st earlier) (Some rules.TooMany) None)
-
--- the rest of the rules, by what the kind forbids and by what is left
-rest_kept : (st : Setting) (c : Checking) (earlier : List Item) (s : Sample) (F : List ℕ) (own : ℕ) (back : Bool) (measure left : Option Rule) → Stands st c earlier
-    → is_passed (kept_labels c.setting.treatment s.labels) (samples_at_end own c.seen) ≡ back → measure ≡ measure_fault st (kind_of (owned_lines st.format earlier) F) F (samples_of (owned_lines st.format earlier) F) s → left ≡ left_fault st (owned_lines st.format earlier) (Some F)
-    → sample_stop c own (key_of c.setting s) (option_or measure left) ≡ cond (is_duplicate st (owned_lines st.format earlier) s) (Some (cond back rules.Interleaved rules.Duplicate)) (last_fault st earlier F s)
-rest_kept st c earlier s F own back measure left stands b m l = stop_kept st c earlier s own (option_or measure left) stands
-    ∙ (λ i. cond (is_duplicate st (owned_lines st.format earlier) s) (Some (cond (b i) rules.Interleaved rules.Duplicate)) (option_or (option_or (m i) (l i)) (cond (is_past_limit st earlier) (Some rules.TooMany) None)))
-
--- Interleaved by the groups that have begun or by the samples that were seen, which alone tell it where each has a group of its own
-back_first : (alone back double : Bool) (rest : Option Rule) → (alone ≡ true → double ≡ false → back ≡ false)
-    → cond (not alone && back) (Some rules.Interleaved) (cond double (Some (cond (alone && back) rules.Interleaved rules.Duplicate)) rest) ≡ cond back (Some rules.Interleaved) (cond double (Some rules.Duplicate) rest)
-back_first false true double rest h = refl
-back_first false false double rest h = refl
-back_first true true true rest h = refl
-back_first true false true rest h = refl
-back_first true false false rest h = refl
-back_first true true false rest h = absurd (let f : true ≡ false = h refl refl in cc)
-
-back_or_suffix : (alone back : Bool) → cond (not alone && back) rules.Interleaved (cond (alone && back) rules.Interleaved rules.Suffix) ≡ cond back rules.Interleaved rules.Suffix
-back_or_suffix true true = refl
-back_or_suffix true false = refl
-back_or_suffix false true = refl
-back_or_suffix false false = refl
-
--- either of two tests refuses
-either_refuses : {A : Type 0} (a b : Bool) (x r : A) → cond a x (cond b x r) ≡ cond (a || b) x r
-either_refuses true b x r = refl
-either_refuses false b x r = refl
-
--- no samples are asked
-no_own : (b : Bool) → ◌≡◌ {A = ℕ} (cond b 0 0) 0
-no_own true = refl
-no_own false = refl
-
-not_wrong : (st : Setting) (k : Kind) (F : List ℕ) (s : Sample) → is_sample_name st.format k F s.name ≡ true → has_wrong_suffix st k F s ≡ false
-unfolding has_wrong_suffix
-not_wrong st k F s h = ap not h
-
 -- ---- what the steps of one sample did
 
-module _ (c mid after : Checking) (k : Kind) (labels : LabelSet) (told : Result (Option Part) Rule) (own : ℕ) (key : SampleKey) (broken : Option Rule) (entered : mid ≡ entered_by c k labels) where
+module _ (c mid after : Checking) (k : Kind) (labels : LabelSet) (told : Result (Option Member) Rule) (own : ℕ) (key : SampleKey) (broken : Option Rule) (entered : mid ≡ entered_by c k labels) where
   pub added_stop : after ≡ with_current mid after.current → broken ≡ part_stop k labels told mid.current → (answer : Option Rule) → answer ≡ sample_stop after own key broken → is_back c k labels ≡ false
       → is_told_back mid.setting.format k labels told mid.current ≡ false
       → answer ≡ cond (is_back c k labels) (Some rules.Interleaved) (cond (is_told_back c.setting.format k labels told c.current) (Some rules.Interleaved) (sample_stop c own key (part_stop k labels told c.current)))
@@ -134,7 +65,7 @@ module _ (c mid after : Checking) (k : Kind) (labels : LabelSet) (told : Result 
       here : is_told_back c.setting.format k labels told c.current ≡ true
       here = sym (ap (λ (m : Checking). is_told_back m.setting.format k labels told m.current) entered) ∙ back
 
-  pub added_more : (broken ≡ None → after ≡ with_told mid k labels told) → (d : Checking) (value : Number) (answer : Option Rule) → answer ≡ sample_stop after own key broken
+  pub added_more : (broken ≡ None → after ≡ with_told mid k labels told) → (d : Checking) (value : TimedValue) (answer : Option Rule) → answer ≡ sample_stop after own key broken
       → (answer ≡ None → d ≡ with_sample after key value) → answer ≡ None → d ≡ with_sample (with_told (entered_by c k labels) k labels told) key value
   added_more taken d value answer stop step none = step none ∙ (λ i. with_sample ((taken (right broken (sym stop ∙ none)) ∙ ap (λ m. with_told m k labels told) entered) i) key value)
     where
@@ -182,7 +113,7 @@ module _ (st : Setting) (c : Checking) (earlier : List Item) (F : List ℕ) (r :
           ∙ overtaken_kept st K F format_is (samples_of above F) (together_samples st above F (fit_lines st earlier r.faultless)) s
 
   -- the same, where something is told of the sample
-  told_back_here : is_told_back c.setting.format k labels (told_part st (kind_of above F) F s) c.current ≡ (is_grouped st.format (kind_of above F) && is_interleaved st (kind_of above F) F (samples_of above F) s)
+  told_back_here : is_told_back c.setting.format k labels (told_member st (kind_of above F) F s) c.current ≡ (is_grouped st.format (kind_of above F) && is_interleaved st (kind_of above F) F (samples_of above F) s)
   told_back_here = by (has_bad_value st.format (kind_of above F) F s) (has_bad_threshold (kind_of above F) F s) (is_grouped st.format (kind_of above F)) refl
     where
       I : Bool
@@ -201,7 +132,7 @@ module _ (st : Setting) (c : Checking) (earlier : List Item) (F : List ℕ) (r :
           swapped false false = refl
 
       by : (v t g : Bool) → is_grouped st.format (kind_of above F) ≡ g
-          → is_told_back c.setting.format k labels (cond v (Err rules.Value) (cond t (Err rules.Threshold) (Ok (cond g (Some (part_of F s)) None)))) c.current ≡ (g && I)
+          → is_told_back c.setting.format k labels (cond v (Err rules.Value) (cond t (Err rules.Threshold) (Ok (cond g (Some (member_of st.format F s)) None)))) c.current ≡ (g && I)
       by true t g here = grouped_here ∙ ap (λ b. b && I) here
       by false true g here = grouped_here ∙ ap (λ b. b && I) here
       by false false true here = grouped_told here
@@ -233,11 +164,11 @@ module _ (st : Setting) (c : Checking) (earlier : List Item) (F : List ℕ) (r :
       flip false = refl
 
   -- Value, Threshold or Order, by what was told
-  measure_here : has_wrong_suffix st (kind_of above F) F s ≡ false → part_stop k labels (told_part st (kind_of above F) F s) c.current ≡ measure_fault st (kind_of above F) F (samples_of above F) s
+  measure_here : has_wrong_suffix st (kind_of above F) F s ≡ false → part_stop k labels (told_member st (kind_of above F) F s) c.current ≡ measure_fault st (kind_of above F) F (samples_of above F) s
   measure_here named = by (has_bad_value st.format (kind_of above F) F s) (has_bad_threshold (kind_of above F) F s) (is_grouped st.format (kind_of above F)) refl refl refl
     where
       by : (v t g : Bool) → has_bad_value st.format (kind_of above F) F s ≡ v → has_bad_threshold (kind_of above F) F s ≡ t → is_grouped st.format (kind_of above F) ≡ g
-          → part_stop k labels (cond v (Err rules.Value) (cond t (Err rules.Threshold) (Ok (cond g (Some (part_of F s)) None)))) c.current
+          → part_stop k labels (cond v (Err rules.Value) (cond t (Err rules.Threshold) (Ok (cond g (Some (member_of st.format F s)) None)))) c.current
           ≡ cond v (Some rules.Value) (cond t (Some rules.Threshold) (cond (is_out_of_order st (kind_of above F) F (samples_of above F) s) (Some rules.Order) None))
       by true t g e f h = refl
       by false true g e f h = refl
@@ -283,6 +214,10 @@ module _ (s : Sample) (c : Checking) (d : Checking) (own : is_current_sample c.s
       ∙ ap (λ b. cond b (Some rules.Exemplar) (cond (is_interleaved st (kind_here st earlier stands) (owner st earlier stands) (samples_of (lines st earlier stands) (owner st earlier stands)) s) (Some rules.Interleaved) (rest_fault st earlier (owner st earlier stands) s))) bad))
 
   module _ (good : has_bad_exemplar c.current s ≡ false) (told : Result (Option Part) Rule) (tells : TellsPart c k s told) where
+    -- what the sample gives its group, where nothing is told against it
+    abbrev given : Result (Option Member) Rule
+    given = with_member (sample_time c.setting.format s) s.exemplar told
+
     -- what a call told of the sample
     told_here : (st : Setting) (earlier : List Item) (stands : Stands st c earlier) → told ≡ told_part st (kind_here st earlier stands) (owner st earlier stands) s
     told_here st earlier stands =
@@ -291,6 +226,10 @@ module _ (s : Sample) (c : Checking) (d : Checking) (own : is_current_sample c.s
         let named : has_wrong_suffix st k F s ≡ false = ap (λ k. has_wrong_suffix st k F s) kind ∙ own_named st earlier stands in
         tells F (so_far st (owned_lines st.format earlier) F) (own_ready st earlier stands).current st (ap (λ (x : Setting). x.format) (sym stands.setting)) named ∙ ap (λ k. told_part st k F s) kind
 
+    given_here : (st : Setting) (earlier : List Item) (stands : Stands st c earlier) → given ≡ told_member st (kind_here st earlier stands) (owner st earlier stands) s
+    given_here st earlier stands = (λ i. with_member (sample_time (stands.setting i).format s) s.exemplar (told_here st earlier stands i))
+        ∙ member_told st (kind_here st earlier stands) (owner st earlier stands) s
+
     stop_here : (st : Setting) (earlier : List Item) (stands : Stands st c earlier) → is_after_eof st earlier ≡ false → add_stop c k s told ≡ item_fault st earlier (items.Sample s)
     stop_here st earlier stands before =
         let F : List ℕ = owner st earlier stands in
@@ -298,18 +237,18 @@ module _ (s : Sample) (c : Checking) (d : Checking) (own : is_current_sample c.s
         let above : List Owned = owned_lines st.format earlier in
         let ready = own_ready st earlier stands in
         let kind = own_kind st earlier stands in
-        let measure : part_stop k (kept_labels c.setting.treatment s.labels) told c.current ≡ measure_fault st K F (samples_of above F) s =
-        ap (λ t. part_stop k (kept_labels c.setting.treatment s.labels) t c.current) (told_here st earlier stands) ∙ measure_here st c earlier F ready s k kind (own_named st earlier stands) in
+        let measure : part_stop k (kept_labels c.setting.treatment s.labels) given c.current ≡ measure_fault st K F (samples_of above F) s =
+        ap (λ t. part_stop k (kept_labels c.setting.treatment s.labels) t c.current) (given_here st earlier stands) ∙ measure_here st c earlier F ready s k kind (own_named st earlier stands) in
         let left : None ≡ left_fault st above (Some F) = sym (ap (λ b. cond b (Some rules.Incomplete) None) (stays st c earlier stands F (ap (λ k. is_current_family k F) stands.current ∙ (current_owner st c earlier stands s.name own).current))) in
         let back : Bool = is_interleaved st K F (samples_of above F) s in
         let passed : is_passed (kept_labels c.setting.treatment s.labels) (samples_at_end (own_samples c k) c.seen) ≡ (is_alone K && back) =
         passed_here st c earlier F ready s k kind ((current_owner st c earlier stands s.name own).together (items.Sample s)) in
-        let rest : sample_stop c (own_samples c k) (key_of c.setting s) (part_stop k (kept_labels c.setting.treatment s.labels) told c.current)
+        let rest : sample_stop c (own_samples c k) (key_of c.setting s) (part_stop k (kept_labels c.setting.treatment s.labels) given c.current)
         ≡ cond (is_duplicate st above s) (Some (cond (is_alone K && back) rules.Interleaved rules.Duplicate)) (last_fault st earlier F s) =
         ap (sample_stop c (own_samples c k) (key_of c.setting s)) (measure ∙ sym (or_none (measure_fault st K F (samples_of above F) s)))
         ∙ rest_kept st c earlier s F (own_samples c k) (is_alone K && back) (measure_fault st K F (samples_of above F) s) None stands passed refl left in
-        let told_back : is_told_back c.setting.format k (kept_labels c.setting.treatment s.labels) told c.current ≡ (is_grouped st.format K && back) =
-        ap (λ t. is_told_back c.setting.format k (kept_labels c.setting.treatment s.labels) t c.current) (told_here st earlier stands) ∙ told_back_here st c earlier F ready s k kind in
+        let told_back : is_told_back c.setting.format k (kept_labels c.setting.treatment s.labels) given c.current ≡ (is_grouped st.format K && back) =
+        ap (λ t. is_told_back c.setting.format k (kept_labels c.setting.treatment s.labels) t c.current) (given_here st earlier stands) ∙ told_back_here st c earlier F ready s k kind in
         let last : Option Rule = cond (is_duplicate st above s) (Some (cond (is_alone K && back) rules.Interleaved rules.Duplicate)) (last_fault st earlier F s) in
         (λ i. cond (back_here st c earlier F ready s k kind i) (Some rules.Interleaved) (cond (told_back i) (Some rules.Interleaved) (rest i)))
         ∙ either_refuses (has_own_runs K && back) (is_grouped st.format K && back) (Some rules.Interleaved) last
@@ -330,10 +269,10 @@ module _ (s : Sample) (c : Checking) (d : Checking) (own : is_current_sample c.s
             let K : Kind = kind_here st earlier stands in
             let kind = own_kind st earlier stands in
             let sound = (fit_lines st (items.Sample s ∷ earlier) (free, stands.faultless)).0.sound in
-            let told_is : told ≡ Ok (cond (is_grouped st.format k) (Some (part_of F s)) None) = told_here st earlier stands
-            ∙ (λ i. cond (sound.valued i) (Err rules.Value) (cond (sound.placed i) (Err rules.Threshold) (Ok (cond (is_grouped st.format (sym kind i)) (Some (part_of F s)) None)))) in
-            let after : d ≡ with_sample (with_told (entered_by c k (kept_labels st.treatment s.labels)) k (kept_labels st.treatment s.labels) (Ok (cond (is_grouped st.format k) (Some (part_of F s)) None))) (key_of st s) s.value =
-            step none ∙ (λ i. with_sample (with_told (entered_by c k (kept_labels (stands.setting i).treatment s.labels)) k (kept_labels (stands.setting i).treatment s.labels) (told_is i)) (key_of (stands.setting i) s) s.value) in
+            let told_is : given ≡ Ok (cond (is_grouped st.format k) (Some (member_of st.format F s)) None) = given_here st earlier stands
+            ∙ (λ i. cond (sound.valued i) (Err rules.Value) (cond (sound.placed i) (Err rules.Threshold) (Ok (cond (is_grouped st.format (sym kind i)) (Some (member_of st.format F s)) None)))) in
+            let after : d ≡ with_sample (with_told (entered_by c k (kept_labels st.treatment s.labels)) k (kept_labels st.treatment s.labels) (Ok (cond (is_grouped st.format k) (Some (member_of st.format F s)) None))) (key_of st s) (timed st s) =
+            step none ∙ (λ i. with_sample (with_told (entered_by c k (kept_labels (stands.setting i).treatment s.labels)) k (kept_labels (stands.setting i).treatment s.labels) (told_is i)) (key_of (stands.setting i) s) (timed (stands.setting i) s)) in
             subst (λ e. Stands st e (items.Sample s ∷ earlier)) (sym after)
             (stands_sample st c earlier F (own_ready st earlier stands) s refl free k kind (is_grouped st.format k) refl)
 
@@ -449,19 +388,23 @@ module _ (s : Sample) (c : Checking) (d : Checking) (other : is_current_sample c
           sym (ap (λ k. measure_fault st k s.name samples s) (sym (unknown st earlier stands))
           ∙ (λ i. cond (value i) (Some rules.Value) (cond (plain_threshold st.format Unknown s.name s refl i) (Some rules.Threshold) (cond (plain_order st Unknown s.name samples s refl i) (Some rules.Order) None))))
 
-      told_back : (o : Option Rule) (labels : LabelSet) → part_stop Unknown labels (told_left o) (begun c s.name).current ≡ o
-      told_back None labels = refl
-      told_back (Some rule) labels = refl
+      -- what the sample gives its group, where this rule is broken: nothing
+      abbrev given_left : Option Rule → Result (Option Member) Rule
+      given_left o = with_member (sample_time c.setting.format s) s.exemplar (told_left o)
+
+      told_back : (o : Option Rule) (labels : LabelSet) → part_stop Unknown labels (given_left o) (begun c s.name).current ≡ o
+      told_back None _ = refl
+      told_back (Some rule) _ = refl
 
       -- nor does it go back
-      unmet : (o : Option Rule) (labels : LabelSet) → is_told_back c.setting.format Unknown labels (told_left o) (begun c s.name).current ≡ false
-      unmet None labels = refl
-      unmet (Some rule) labels = refl
+      unmet : (o : Option Rule) (labels : LabelSet) → is_told_back c.setting.format Unknown labels (given_left o) (begun c s.name).current ≡ false
+      unmet None _ = refl
+      unmet (Some rule) _ = refl
 
       begin_stop : add_stop (begun c s.name) Unknown s (told_left (left_stop c.current)) ≡ sample_stop c 0 (key_of c.setting s) (left_stop c.current)
       unfolding sample_stop
       begin_stop =
-          ap (λ b. cond b (Some rules.Interleaved) (sample_stop (begun c s.name) (own_samples (begun c s.name) Unknown) (key_of c.setting s) (part_stop Unknown (kept_labels c.setting.treatment s.labels) (told_left (left_stop c.current)) (begun c s.name).current)))
+          ap (λ b. cond b (Some rules.Interleaved) (sample_stop (begun c s.name) (own_samples (begun c s.name) Unknown) (key_of c.setting s) (part_stop Unknown (kept_labels c.setting.treatment s.labels) (given_left (left_stop c.current)) (begun c s.name).current)))
           (unmet (left_stop c.current) (kept_labels c.setting.treatment s.labels))
           ∙ (λ i. sample_stop c (no_own (is_open_metrics c.setting.format && true) i) (key_of c.setting s) (told_back (left_stop c.current) (kept_labels c.setting.treatment s.labels) i))
 
@@ -470,8 +413,8 @@ module _ (s : Sample) (c : Checking) (d : Checking) (other : is_current_sample c
       other_begins answer stop step = record {
         broken_is = fault;
         stands = λ st earlier stands before none.
-            let after : d ≡ with_sample (with_told (entered_by (begun c s.name) Unknown (kept_labels st.treatment s.labels)) Unknown (kept_labels st.treatment s.labels) (Ok None)) (key_of st s) s.value =
-            step none ∙ (λ i. with_sample (with_told (entered_by (begun c s.name) Unknown (kept_labels (stands.setting i).treatment s.labels)) Unknown (kept_labels (stands.setting i).treatment s.labels) (told_left (nothing none i))) (key_of (stands.setting i) s) s.value) in
+            let after : d ≡ with_sample (with_told (entered_by (begun c s.name) Unknown (kept_labels st.treatment s.labels)) Unknown (kept_labels st.treatment s.labels) (Ok None)) (key_of st s) (timed st s) =
+            step none ∙ (λ i. with_sample (with_told (entered_by (begun c s.name) Unknown (kept_labels (stands.setting i).treatment s.labels)) Unknown (kept_labels (stands.setting i).treatment s.labels) (with_member (sample_time (stands.setting i).format s) s.exemplar (told_left (nothing none i)))) (key_of (stands.setting i) s) (timed (stands.setting i) s)) in
             subst (λ e. Stands st e (items.Sample s ∷ earlier)) (sym after)
             (stands_sample st (begun c s.name) earlier s.name (begins st earlier stands) s (other_owner st earlier stands) (sym (fault st earlier stands before) ∙ none) Unknown (unknown st earlier stands) false refl);
       }

@@ -13,9 +13,9 @@ use Rattle.page_model.specs.Written.{Setting}
 use Rattle.page_model.specs.Items.{sample_of_line}
 use Rattle.page_model.specs.Owners.{Owned, kept_labels}
 use Rattle.page_model.specs.Rules.{is_same_series, is_duplicate}
-use Rattle.exact_decimal.specs.declared.number.Number.{Number}
 use Rattle.packed_keys.specs.declared.sample_key.SampleKey.{SampleKey}
 use Rattle.packed_keys.specs.Packing.{sample_key_eq}
+use Rattle.family_rules.specs.declared.timed_values.TimedValue.{TimedValue}
 use Rattle.family_rules.specs.KeyedValues.{is_key_of}
 use Rattle.family_rules.specs.Checking.{key_of, keyed, seen_above}
 use Rattle.family_rules.proofs.Lists.{or_comm, label_sets_swap}
@@ -29,7 +29,7 @@ pub duplicate_seen : (st : Setting) (above : List Owned) (s : Sample) → is_key
 unfolding seen_above is_duplicate
 duplicate_seen st [] s = refl
 duplicate_seen st (o ∷ above) s =
-    list_any-append (λ (e : SampleKey × Number). sample_key_eq (key_of st s) e.0) (seen_above st above) (option_to_list (option_map (keyed st) (sample_of_line o.item)))
+    list_any-append (λ (e : SampleKey × TimedValue). sample_key_eq (key_of st s) e.0) (seen_above st above) (option_to_list (option_map (keyed st) (sample_of_line o.item)))
     ∙ or_comm (is_key_of (key_of st s) (seen_above st above)) (is_key_of (key_of st s) (option_to_list (option_map (keyed st) (sample_of_line o.item))))
     ∙ ap (λ b. b || is_key_of (key_of st s) (seen_above st above)) (by (sample_of_line o.item))
     ∙ ap (λ b. some_passes (is_same_series st s) (sample_of_line o.item) || b) (duplicate_seen st above s)

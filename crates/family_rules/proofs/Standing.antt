@@ -24,14 +24,14 @@ use Rattle.page_model.specs.Owners.{Owned, is_of, kind_of, sample_owner, owner_o
 use Rattle.page_model.specs.Rules.{is_histogram, is_late_descriptor, is_split, is_complete_at, is_incomplete, leaves_incomplete, sample_group}
 use Rattle.page_model.specs.Faults.{item_fault}
 use Rattle.sample_groups.specs.Groups.{Gathered, groups_from, shared_labels, with_part, is_whole_group}
-use Rattle.sample_groups.specs.Parts.{is_grouped, entry_of, part_of}
+use Rattle.sample_groups.specs.Parts.{is_grouped, entry_of, member_of}
 use Rattle.sample_groups.specs.Sound.{AreSound}
 use Rattle.sample_groups.proofs.Laws.{shared_group, whole_kept}
 use Rattle.family_rules.specs.declared.family.Current.{Current}
 use Rattle.family_rules.specs.declared.family.Descriptor.{Descriptor}
 use Rattle.family_rules.specs.declared.family.Descriptor.TheVariants as sorts
 use Rattle.family_rules.specs.declared.family.FamilySoFar.{FamilySoFar}
-use Rattle.family_rules.specs.Checking.{Checking, no_lines, has_samples, groups_so_far, so_far, left_before, left_families, current_family, key_of, keyed, seen_above, Stands}
+use Rattle.family_rules.specs.Checking.{Checking, no_lines, has_samples, groups_so_far, so_far, left_before, left_families, current_family, key_of, timed, keyed, seen_above, Stands}
 use Rattle.family_rules.specs.Steps.{has, line_of, unit_stop, family_with, with_descriptor, is_late_in, current_kind, is_current_family, known_in, has_incomplete, left_stop, place_stop, with_left, begun, reached, current_with, IsReady}
 use Rattle.family_rules.specs.Samples.{is_current_sample, family_with_sample, with_part_in, with_part_at, with_told, runs_with, entered_by, with_sample}
 use Rattle.family_rules.specs.GroupRuns.{no_runs, runs_of, nearest_runs}
@@ -328,14 +328,14 @@ module _ (st : Setting) (c : Checking) (earlier : List Item) (F : List ℕ) (r :
       → d.runs ≡ runs_of st (record { family = F; item = items.Sample s } ∷ owned_lines st.format earlier) F
       → d.current ≡ current_with (λ f. record f { groups = groups }) c.current
       → groups ≡ grown st (kind_of (owned_lines st.format earlier) F) F s (so_far st (owned_lines st.format earlier) F).groups
-      → Stands st (with_sample d (key_of st s) s.value) (items.Sample s ∷ earlier)
+      → Stands st (with_sample d (key_of st s) (timed st s)) (items.Sample s ∷ earlier)
   unfolding with_sample seen_above
   sampled s groups owner none d setting left seen samples ended stopped runs current groups_are =
       let above : List Owned = owned_lines st.format earlier in
       let change : FamilySoFar → FamilySoFar = λ f. record f { samples = f.samples + 1; groups = groups } in
       let more : count_by is_sample (items.Sample s ∷ earlier) ≡ 1 + count_by is_sample earlier = sum_by-cons (λ x. cond (is_sample x) 1 0) (items.Sample s) earlier in
       let counted : c.samples ≡ count_by is_sample earlier = r.samples in
-      stands_with (items.Sample s) none refl (ap Some owner) (with_sample d (key_of st s) s.value) setting left
+      stands_with (items.Sample s) none refl (ap Some owner) (with_sample d (key_of st s) (timed st s)) setting left
       (ap (current_with family_with_sample) current ∙ twice c.current
       ∙ changed change (so_far st (record { family = F; item = items.Sample s } ∷ above) F)
       (so_far-sample st F s above ∙ ap (λ g. record (so_far st above F) { samples = (so_far st above F).samples + 1; groups = g }) (sym groups_are)))
@@ -356,7 +356,7 @@ module _ (st : Setting) (c : Checking) (earlier : List Item) (F : List ℕ) (r :
   -- a sample more, in its group where its kind has groups
   pub stands_sample : (s : Sample) → sample_owner st.format (owned_lines st.format earlier) s.name ≡ F → item_fault st earlier (items.Sample s) ≡ None
       → (k : Kind) → k ≡ kind_of (owned_lines st.format earlier) F → (b : Bool) → is_grouped st.format k ≡ b
-      → Stands st (with_sample (with_told (entered_by c k (kept_labels st.treatment s.labels)) k (kept_labels st.treatment s.labels) (Ok (cond b (Some (part_of F s)) None))) (key_of st s) s.value) (items.Sample s ∷ earlier)
+      → Stands st (with_sample (with_told (entered_by c k (kept_labels st.treatment s.labels)) k (kept_labels st.treatment s.labels) (Ok (cond b (Some (member_of st.format F s)) None))) (key_of st s) (timed st s)) (items.Sample s ∷ earlier)
   unfolding so_far groups_so_far
   stands_sample s owner none k kind false plain =
       let above : List Owned = owned_lines st.format earlier in
@@ -368,14 +368,14 @@ module _ (st : Setting) (c : Checking) (earlier : List Item) (F : List ℕ) (r :
       let above : List Owned = owned_lines st.format earlier in
       let labels : LabelSet = kept_labels st.treatment s.labels in
       let f : FamilySoFar = so_far st above F in
-      let groups : List (LabelSet × Gathered) = with_part f.groups (shared_labels k labels) (part_of F s) in
+      let groups : List (LabelSet × Gathered) = with_part f.groups (shared_labels k labels) (member_of st.format F s) in
       let here : is_grouped st.format (kind_of above F) ≡ true = ap (is_grouped st.format) (sym kind) ∙ grouped in
       let label_is : shared_labels k labels ≡ sample_group st (kind_of above F) F s = ap (λ k. shared_labels k labels) kind ∙ sym (shared_group st (kind_of above F) F s here) in
-      let groups_are : groups ≡ grown st (kind_of above F) F s f.groups = (λ i. with_part f.groups (label_is i) (part_of F s))
-      ∙ ap (λ b. cond b (with_part f.groups (sample_group st (kind_of above F) F s) (part_of F s)) []) (sym here) in
-      let current : current_with (with_part_in k labels (part_of F s)) c.current ≡ current_with (λ f. record f { groups = groups }) c.current =
-      ap (current_with (with_part_in k labels (part_of F s))) r.current ∙ sym (ap (current_with (λ f. record f { groups = groups })) r.current) in
-      sampled s groups owner none (with_part_at (entered_by c k labels) k labels (part_of F s)) refl refl refl refl refl refl (entered_runs s k kind) current groups_are
+      let groups_are : groups ≡ grown st (kind_of above F) F s f.groups = (λ i. with_part f.groups (label_is i) (member_of st.format F s))
+      ∙ ap (λ b. cond b (with_part f.groups (sample_group st (kind_of above F) F s) (member_of st.format F s)) []) (sym here) in
+      let current : current_with (with_part_in k labels (member_of st.format F s)) c.current ≡ current_with (λ f. record f { groups = groups }) c.current =
+      ap (current_with (with_part_in k labels (member_of st.format F s))) r.current ∙ sym (ap (current_with (λ f. record f { groups = groups })) r.current) in
+      sampled s groups owner none (with_part_at (entered_by c k labels) k labels (member_of st.format F s)) refl refl refl refl refl refl (entered_runs s k kind) current groups_are
 
 -- ---- the place of a descriptor
 

@@ -4,7 +4,6 @@ use Rattle.std.proofs.lemmas.Bool.Decides.{nat_tests}
 use Rattle.std.proofs.Common.{◌≡◌, ◌≤◌, ◌<◌, ◌⊎◌, arith, ℕ, Bool, true, false, cond, not, ◌&&◌, ◌||◌, List, [], ◌∷◌, ◌++◌, Option, Some, None, Result, Ok, Err, refl, sym, ap, subst, ◌∙◌, inl, inr, ◌+◌, is_some, count_by}
 use Rattle.std.specs.Prelude.{OnOk, IfOk, IfSome, nat_le}
 use Rattle.std.specs.Option.{option_or}
-use Rattle.exact_decimal.specs.declared.number.Number.{Number}
 use Rattle.page_model.specs.declared.item.Item.{Item}
 use Rattle.page_model.specs.declared.item.Item.TheVariants as items
 use Rattle.page_model.specs.declared.rule.Rule.{Rule}
@@ -15,6 +14,7 @@ use Rattle.page_model.specs.Owners.{Owned, owned_lines}
 use Rattle.page_model.specs.Rules.{is_open_metrics, is_after_eof, is_late_descriptor, is_split}
 use Rattle.page_model.specs.Faults.{item_fault}
 use Rattle.family_rules.specs.declared.family.Descriptor.{Descriptor}
+use Rattle.family_rules.specs.declared.timed_values.TimedValue.{TimedValue}
 use Rattle.packed_keys.specs.declared.sample_key.SampleKey.{SampleKey}
 use Rattle.family_rules.specs.KeyedValues.{is_key_of}
 use Rattle.family_rules.specs.GroupRuns.{nearest_runs}
@@ -201,7 +201,7 @@ is_no_rule None h = refl
 is_no_rule (Some rule) h = absurd (let f : true ≡ false = h in cc)
 
 -- the sample is added where it breaks no rule
-pub sample_added : (c d e : Checking) (key : SampleKey) (value : Number) (seen : List (SampleKey × Number)) → d ≡ record c { seen = seen; samples = c.samples + 1 } → seen ≡ c.seen ++ (key, value) ∷ []
+pub sample_added : (c d e : Checking) (key : SampleKey) (value : TimedValue) (seen : List (SampleKey × TimedValue)) → d ≡ record c { seen = seen; samples = c.samples + 1 } → seen ≡ c.seen ++ (key, value) ∷ []
     → e ≡ with_counted d → e ≡ with_sample c key value
 unfolding with_sample
 sample_added c d e key value seen step new counted =

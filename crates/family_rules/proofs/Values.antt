@@ -69,7 +69,7 @@ module _ (P : Value → Type 0) (st : Setting) (kind : Kind) (family unit : List
         key = record { name = key_name st.format kind family; kind = kind; unit = unit; labels = labels };
         value = value;
         created = value_with family (codes "_created") own;
-        stamp = stamp_of st.format kind family own;
+        stamp = stamp_of st.format family own;
         exemplars = exemplars_of kind family own;
       }) (value_of st.format kind family own)) (λ (r : Reading). P r.value)
       by own = of (value_of st.format kind family own) (each own)
@@ -78,7 +78,7 @@ module _ (P : Value → Type 0) (st : Setting) (kind : Kind) (family unit : List
             key = record { name = key_name st.format kind family; kind = kind; unit = unit; labels = labels };
             value = value;
             created = value_with family (codes "_created") own;
-            stamp = stamp_of st.format kind family own;
+            stamp = stamp_of st.format family own;
             exemplars = exemplars_of kind family own;
           }) o) (λ (r : Reading). P r.value)
           of None h = tt

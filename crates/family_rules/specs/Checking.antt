@@ -18,11 +18,11 @@ use Rattle.page_model.specs.Owners.{Owned, is_of, declared_kind, kind_of, owned_
 use Rattle.page_model.specs.Pages.{AreFaultless}
 use Rattle.page_model.specs.Readings.{help_in, unit_in}
 use Rattle.sample_groups.specs.Groups.{Gathered, groups_from}
-use Rattle.sample_groups.specs.Parts.{is_grouped, entry_of}
+use Rattle.sample_groups.specs.Parts.{is_grouped, sample_time, entry_of}
 use Rattle.family_rules.specs.declared.family.Current.{Current}
 use Rattle.family_rules.specs.declared.family.FamilySoFar.{FamilySoFar}
 use Rattle.family_rules.specs.GroupRuns.{Runs, nearest_runs}
-use Rattle.exact_decimal.specs.declared.number.Number.{Number}
+use Rattle.family_rules.specs.declared.timed_values.TimedValue.{TimedValue}
 use Rattle.packed_keys.specs.declared.sample_key.SampleKey.{SampleKey}
 
 -- ---- what is kept
@@ -33,7 +33,7 @@ pub record Checking : Type 0 where
   pub left : List (List ℕ × FamilySoFar)
   pub current : Option Current
   pub runs : Runs
-  pub seen : List (SampleKey × Number)
+  pub seen : List (SampleKey × TimedValue)
   pub samples : ℕ
   pub ended : Bool
   pub stopped : Option PageFault
@@ -86,12 +86,16 @@ current_family st (nearest ∷ above) = Some (record { name = nearest.family; fa
 abbrev pub key_of : Setting → Sample → SampleKey
 key_of st s = record { name = s.name; labels = kept_labels st.treatment s.labels }
 
--- a sample as its key and its value
-abbrev pub keyed : Setting → Sample → SampleKey × Number
-keyed st s = (key_of st s, s.value)
+-- its value with its time
+abbrev pub timed : Setting → Sample → TimedValue
+timed st s = record { value = s.value; time = sample_time st.format s }
 
--- the samples in the order of their lines, each as its key and its value
-unfoldable pub seen_above : Setting → List Owned → List (SampleKey × Number)
+-- a sample as its key and its value with its time
+abbrev pub keyed : Setting → Sample → SampleKey × TimedValue
+keyed st s = (key_of st s, timed st s)
+
+-- the samples in the order of their lines, each as its key and its value with its time
+unfoldable pub seen_above : Setting → List Owned → List (SampleKey × TimedValue)
 seen_above st [] = []
 seen_above st (o ∷ above) = seen_above st above ++ option_to_list (option_map (keyed st) (sample_of_line o.item))
 

@@ -1,5 +1,6 @@
 pub mod LeftFamilies
 pub mod Rare
+pub mod TimedValues
 pub mod KeyedValues
 pub mod GroupRuns
 pub mod GroupKeys

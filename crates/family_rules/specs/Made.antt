@@ -1,6 +1,5 @@
 -- The page of what a checker keeps (the bridge's own).
 use Rattle.std.specs.Prelude.{◌≡◌, ℕ, List, [], ◌∷◌, map, filter_map, None, unwrap_or, drop, take, if◌then◌else◌}
-use Rattle.exact_decimal.specs.declared.number.Number.{Number}
 use Rattle.label_sets.specs.declared.kind.Kind.{Kind}
 use Rattle.page_model.specs.declared.format.Format.{Format}
 use Rattle.page_model.specs.declared.item.Item.{Item}
@@ -14,31 +13,32 @@ use Rattle.sample_groups.specs.Groups.{reading_from}
 use Rattle.sample_groups.specs.Parts.{is_grouped}
 use Rattle.packed_keys.specs.declared.sample_key.SampleKey.{SampleKey}
 use Rattle.family_rules.specs.declared.family.FamilySoFar.{FamilySoFar}
+use Rattle.family_rules.specs.declared.timed_values.TimedValue.{TimedValue}
 use Rattle.family_rules.specs.Checking.{Checking, kind_in}
 use Rattle.family_rules.specs.Steps.{with_left}
 
--- the reading of a sample
-abbrev pub plain_reading : Kind → List ℕ → SampleKey → Number → Reading
+-- the reading of a sample; a page without a fault gives such a sample no exemplar
+abbrev pub plain_reading : Kind → List ℕ → SampleKey → TimedValue → Reading
 plain_reading kind unit key value = record {
   key = record { name = key.name; kind = kind; unit = unit; labels = key.labels };
-  value = values.Plain value;
+  value = values.Plain value.value;
   created = None;
-  stamp = None;
+  stamp = value.time;
   exemplars = [];
 }
 
 -- the readings of so many samples, which stand in front
-abbrev pub readings_at : Kind → List ℕ → ℕ → List (SampleKey × Number) → List Reading
-readings_at kind unit count samples = map (λ (e : SampleKey × Number). plain_reading kind unit e.0 e.1) (take count samples)
+abbrev pub readings_at : Kind → List ℕ → ℕ → List (SampleKey × TimedValue) → List Reading
+readings_at kind unit count samples = map (λ (e : SampleKey × TimedValue). plain_reading kind unit e.0 e.1) (take count samples)
 
 -- the readings of what is known of a family; its samples stand in front
-abbrev pub readings_in : Format → List ℕ → FamilySoFar → List (SampleKey × Number) → List Reading
+abbrev pub readings_in : Format → List ℕ → FamilySoFar → List (SampleKey × TimedValue) → List Reading
 readings_in format name f samples =
     if is_grouped format (kind_in f) then filter_map (reading_from format (kind_in f) name (unwrap_or f.unit [])) f.groups
     else readings_at (kind_in f) (unwrap_or f.unit []) f.samples samples
 
 -- the family of what is known of it; its samples stand in front
-abbrev pub family_at : Format → List ℕ → FamilySoFar → List (SampleKey × Number) → Family
+abbrev pub family_at : Format → List ℕ → FamilySoFar → List (SampleKey × TimedValue) → Family
 family_at format name f samples = record {
   name = name;
   kind = kind_in f;
@@ -48,7 +48,7 @@ family_at format name f samples = record {
 }
 
 -- the families of what is known of each; their samples stand one family behind the other
-unfoldable pub families_at : Format → List (List ℕ × FamilySoFar) → List (SampleKey × Number) → List Family
+unfoldable pub families_at : Format → List (List ℕ × FamilySoFar) → List (SampleKey × TimedValue) → List Family
 families_at format [] samples = []
 families_at format (e ∷ es) samples = family_at format e.0 e.1 samples ∷ families_at format es (drop e.1.samples samples)
 

@@ -11,6 +11,7 @@ use Rattle.label_sets.specs.Labels.{has_name}
 use Rattle.label_sets.specs.declared.label_set.LabelSet.{LabelSet}
 use Rattle.label_sets.specs.Lists.{some_passes}
 use Rattle.page_model.specs.declared.format.Format.{Format}
+use Rattle.page_model.specs.declared.item.Exemplar.{Exemplar}
 use Rattle.page_model.specs.declared.item.Sample.{Sample}
 use Rattle.page_model.specs.declared.rule.Rule.{Rule}
 use Rattle.page_model.specs.declared.rule.Rule.TheVariants as rules
@@ -18,16 +19,19 @@ use Rattle.page_model.specs.Written.{Setting}
 use Rattle.page_model.specs.Suffixes.{is_sample_name}
 use Rattle.page_model.specs.Owners.{kept_labels, group_of}
 use Rattle.page_model.specs.Rules.{characters, is_open_metrics, is_bad_exemplar, has_wrong_suffix, has_bad_value, has_bad_threshold}
+use Rattle.sample_groups.specs.declared.member.Member.{Member}
 use Rattle.sample_groups.specs.declared.part.Part.{Part}
 use Rattle.sample_groups.specs.Groups.{shared_labels, known_group, or_empty, with_part, breaks_order, is_overtaken}
-use Rattle.sample_groups.specs.Parts.{is_grouped, part_of}
+use Rattle.sample_groups.specs.Parts.{is_grouped, part_of, sample_time, member_of}
 use Rattle.packed_keys.specs.declared.sample_key.SampleKey.{SampleKey}
 use Rattle.family_rules.specs.declared.checker.samples.Told.{Told}
 use Rattle.family_rules.specs.declared.family.Current.{Current}
 use Rattle.family_rules.specs.declared.family.FamilySoFar.{FamilySoFar}
+use Rattle.family_rules.specs.declared.keyed_sample.KeyedSample.{KeyedSample}
+use Rattle.family_rules.specs.declared.timed_values.TimedValue.{TimedValue}
 use Rattle.family_rules.specs.KeyedValues.{is_key_of, samples_at_end, is_passed}
 use Rattle.family_rules.specs.GroupRuns.{Runs, is_alone, has_runs, group_key, goes_back, with_group}
-use Rattle.family_rules.specs.Checking.{Checking, kind_in, key_of}
+use Rattle.family_rules.specs.Checking.{Checking, kind_in, key_of, timed}
 use Rattle.family_rules.specs.Steps.{current_with, with_current, current_kind}
 
 -- ---- owners and values
@@ -46,24 +50,24 @@ abbrev pub with_counted : Checking → Checking
 with_counted c = with_current c (current_with family_with_sample c.current)
 
 -- one sample more, of the current family
-unfoldable pub with_sample : Checking → SampleKey → Number → Checking
+unfoldable pub with_sample : Checking → SampleKey → TimedValue → Checking
 with_sample c key value = record c {
   current = current_with family_with_sample c.current;
   seen = c.seen ++ (key, value) ∷ [];
   samples = c.samples + 1;
 }
 
--- a family with a part more in its groups
-abbrev pub with_part_in : Kind → LabelSet → Part → FamilySoFar → FamilySoFar
-with_part_in kind labels part f = record f { groups = with_part f.groups (shared_labels kind labels) part }
+-- a family with a member more in its groups
+abbrev pub with_part_in : Kind → LabelSet → Member → FamilySoFar → FamilySoFar
+with_part_in kind labels member f = record f { groups = with_part f.groups (shared_labels kind labels) member }
 
 -- the checker with other samples that it has seen
-abbrev pub with_seen : Checking → List (SampleKey × Number) → Checking
+abbrev pub with_seen : Checking → List (SampleKey × TimedValue) → Checking
 with_seen c seen = record c { seen = seen }
 
--- the current family has a part more in its groups
-abbrev pub with_part_at : Checking → Kind → LabelSet → Part → Checking
-with_part_at c kind labels part = with_current c (current_with (with_part_in kind labels part) c.current)
+-- the current family has a member more in its groups
+abbrev pub with_part_at : Checking → Kind → LabelSet → Member → Checking
+with_part_at c kind labels member = with_current c (current_with (with_part_in kind labels member) c.current)
 
 -- the part keeps the order of its group in the current family
 abbrev pub fits_order : Kind → LabelSet → Part → Option Current → Bool
@@ -84,7 +88,7 @@ abbrev pub own_samples : Checking → Kind → ℕ
 own_samples c kind = if is_open_metrics c.setting.format && is_alone kind then current_samples c.current else 0
 
 -- Interleaved or Duplicate, of a key that was seen: it goes back to one of so many samples at the end, or not
-abbrev pub seen_rule : ℕ → LabelSet → List (SampleKey × Number) → Rule
+abbrev pub seen_rule : ℕ → LabelSet → List (SampleKey × TimedValue) → Rule
 seen_rule own labels seen = if is_passed labels (samples_at_end own seen) then rules.Interleaved else rules.Duplicate
 
 -- Interleaved or Duplicate, then what else is broken, then TooMany
@@ -117,17 +121,39 @@ abbrev pub TellsPart : Checking → Kind → Sample → Result (Option Part) Rul
 TellsPart c kind s told = (family : List ℕ) (f : FamilySoFar) → c.current ≡ Some (record { name = family; family = f })
     → (st : Setting) → st.format ≡ c.setting.format → has_wrong_suffix st kind family s ≡ false → told ≡ told_part st kind family s
 
+-- what was told of a sample, where it has a part with what else the sample gives its group
+abbrev pub with_member : Option ℕ → Option Exemplar → Result (Option Part) Rule → Result (Option Member) Rule
+with_member time exemplar (Err rule) = Err rule
+with_member time exemplar (Ok None) = Ok None
+with_member time exemplar (Ok (Some part)) = Ok (Some (record { part = part; time = time; exemplar = exemplar }))
+
+-- Value or Threshold, or else what a sample gives its group, where its kind has groups
+abbrev pub told_member : Setting → Kind → List ℕ → Sample → Result (Option Member) Rule
+told_member st kind family s =
+    if has_bad_value st.format kind family s then Err rules.Value
+    else if has_bad_threshold kind family s then Err rules.Threshold
+    else Ok (if is_grouped st.format kind then Some (member_of st.format family s) else None)
+
+-- a sample of this kind, of which this was told, on its way through a checker
+abbrev pub keyed_sample : Checking → Kind → Sample → Result (Option Part) Rule → KeyedSample
+keyed_sample c kind s told = record {
+  kind = kind;
+  key = key_of c.setting s;
+  value = timed c.setting s;
+  told = with_member (sample_time c.setting.format s) s.exemplar told;
+}
+
 -- what was told of a sample, or Order
-abbrev pub part_stop : Kind → LabelSet → Result (Option Part) Rule → Option Current → Option Rule
+abbrev pub part_stop : Kind → LabelSet → Result (Option Member) Rule → Option Current → Option Rule
 part_stop kind labels (Err rule) current = Some rule
 part_stop kind labels (Ok None) current = None
-part_stop kind labels (Ok (Some part)) current = order_stop kind labels part current
+part_stop kind labels (Ok (Some member)) current = order_stop kind labels member.part current
 
 -- the current family has what was told of a sample
-abbrev pub with_told : Checking → Kind → LabelSet → Result (Option Part) Rule → Checking
+abbrev pub with_told : Checking → Kind → LabelSet → Result (Option Member) Rule → Checking
 with_told c kind labels (Err rule) = c
 with_told c kind labels (Ok None) = c
-with_told c kind labels (Ok (Some part)) = with_part_at c kind labels part
+with_told c kind labels (Ok (Some member)) = with_part_at c kind labels member
 
 -- nothing is told of a sample that begins a family, but Incomplete where it leaves one
 abbrev pub told_left : Option Rule → Result (Option Part) Rule
@@ -159,13 +185,13 @@ abbrev pub is_back_in_groups : Format → Kind → LabelSet → Option Current �
 is_back_in_groups f kind labels current = is_grouped f kind && is_open_metrics f && is_overtaken_in kind labels current
 
 -- Interleaved, where something is told of a sample by the groups
-abbrev pub is_told_back : Format → Kind → LabelSet → Result (Option Part) Rule → Option Current → Bool
+abbrev pub is_told_back : Format → Kind → LabelSet → Result (Option Member) Rule → Option Current → Bool
 is_told_back f kind labels (Ok None) current = false
-is_told_back f kind labels (Ok (Some part)) current = is_overtaken_in kind labels current && is_open_metrics f
+is_told_back f kind labels (Ok (Some member)) current = is_overtaken_in kind labels current && is_open_metrics f
 is_told_back f kind labels (Err rule) current = is_back_in_groups f kind labels current
 
 -- the answer to what was told of a sample
-pub record AnswersTold (c : Checking) (kind : Kind) (labels : LabelSet) (told : Result (Option Part) Rule) (answer : Told) : Type 0 where
+pub record AnswersTold (c : Checking) (kind : Kind) (labels : LabelSet) (told : Result (Option Member) Rule) (answer : Told) : Type 0 where
   pub back : answer.back ≡ is_told_back c.setting.format kind labels told c.current
   pub broken : answer.broken ≡ part_stop kind labels told c.current
 
@@ -185,23 +211,23 @@ entered_by c kind labels = record c { runs = runs_with c.setting.format c.curren
 -- ---- a sample more
 
 -- Interleaved or Duplicate, then what was told or Order, then TooMany, of a sample with this key
-abbrev pub key_stop : Checking → Kind → SampleKey → Result (Option Part) Rule → Option Rule
+abbrev pub key_stop : Checking → Kind → SampleKey → Result (Option Member) Rule → Option Rule
 key_stop c kind key told =
     if is_back c kind key.labels then Some rules.Interleaved
     else if is_told_back c.setting.format kind key.labels told c.current then Some rules.Interleaved
     else sample_stop c (own_samples c kind) key (part_stop kind key.labels told c.current)
 
 -- the current family has a sample with this key more
-abbrev pub with_key : Checking → Kind → SampleKey → Number → Result (Option Part) Rule → Checking
+abbrev pub with_key : Checking → Kind → SampleKey → TimedValue → Result (Option Member) Rule → Checking
 with_key c kind key value told = with_sample (with_told (entered_by c kind key.labels) kind key.labels told) key value
 
 -- Interleaved or Duplicate, then what was told or Order, then TooMany, of a sample
 abbrev pub add_stop : Checking → Kind → Sample → Result (Option Part) Rule → Option Rule
-add_stop c kind s told = key_stop c kind (key_of c.setting s) told
+add_stop c kind s told = let line = keyed_sample c kind s told in key_stop c line.kind line.key line.told
 
 -- the current family has the sample
 abbrev pub with_added : Checking → Kind → Sample → Result (Option Part) Rule → Checking
-with_added c kind s told = with_key c kind (key_of c.setting s) s.value told
+with_added c kind s told = let line = keyed_sample c kind s told in with_key c line.kind line.key line.value line.told
 
 -- Interleaved or Suffix, of a sample with these labels whose name the current family's kind doesn't allow
 abbrev pub labels_stop : Checking → LabelSet → Rule

@@ -1,11 +1,12 @@
 //! The values of a page's samples in one list, each by its key. Keys are packed, so that one that comes twice is
 //! found, and kept as they are where a page will be made of them, since reading them back takes longer.
 ghost use Rattle.std.specs.Prelude.{◌≡◌, ◌++◌, [], ◌∷◌, drop, length, map, IfOk, IfSome, OnOk, List, is_some, if◌then◌else◌};
-ghost use Rattle.std.specs.Vec.Iter.{into_iter_items};
-ghost use Rattle.exact_decimal.specs.declared.number.Number.{Number as AnyNumber};
 ghost use Rattle.packed_keys.specs.declared.sample_key.SampleKey.{SampleKey as AnyKey};
-ghost use Rattle.family_rules.specs.KeyedValues.{is_key_of, is_passed, samples_at_end, keys_to_come, AreKept, HasRoomForKey, ComesNext};
+ghost use Rattle.family_rules.specs.declared.timed_values.TimedValue.{TimedValue as AnyValue};
+ghost use Rattle.family_rules.specs.KeyedValues.{is_key_of, is_passed, samples_at_end, keys_to_come, AreKept, HasRoomForKey};
+ghost use Rattle.family_rules.specs.TimedValues.{ComesNext};
 
+use crate::timed_values::{TimedLeft, TimedValue, keep_time, make_room_for_time, pass_over};
 use exact_decimal::Number;
 use label_sets::{LabelSet, Memory};
 use packed_keys::{Keys, SampleKey, SeenKeys};
@@ -14,27 +15,30 @@ use std::marker::Model;
 use std::mem;
 use std::vec::IntoIter;
 
-/// The samples so far, each as its key and its value, in the order of their lines; no key comes twice.
+/// The samples so far, each as its key and its value with its time, in the order of their lines; no key comes twice.
 #[derive(Drop)]
 pub struct KeyedValues {
     seen: SeenKeys,
     /// The same keys, where a page will be made.
     kept: Option<Vec<SampleKey>>,
     values: Vec<Number>,
+    /// The times from the first sample on that has one: most pages have none.
+    times: Vec<Option<u64>>,
 }
 
 impl Model for KeyedValues {
     ghost use Rattle.std.specs.Prelude as spec;
     ghost use Rattle.std.specs.List.{zip};
     ghost use Rattle.packed_keys.specs.declared.sample_key.SampleKey.{SampleKey as Key};
-    ghost use Rattle.exact_decimal.specs.declared.number.Number.{Number as OneNumber};
+    ghost use Rattle.family_rules.specs.declared.timed_values.TimedValue.{TimedValue as OneValue};
     ghost use Rattle.family_rules.specs.KeyedValues.{AreKeyed};
+    ghost use Rattle.family_rules.specs.TimedValues.{timed_values};
 
-    ghost Value = { spec.List (Key × OneNumber) };
+    ghost Value = { spec.List (Key × OneValue) };
 
-    ghost view = { λ k. zip k.seen k.values.items };
+    ghost view = { λ k. zip k.seen (timed_values k.values.items k.times.items) };
 
-    ghost invariant = { λ k. AreKeyed k.kept k.seen k.values.items };
+    ghost invariant = { λ k. AreKeyed k.kept k.seen k.values.items k.times.items };
 }
 
 /// Makes room for one key more, where keys are kept.
@@ -68,6 +72,7 @@ impl KeyedValues {
             seen: SeenKeys::new(alloc),
             kept: keeps.then_some(Vec::new(alloc)),
             values: Vec::new(alloc),
+            times: Vec::new(alloc),
         }
     }
 
@@ -80,7 +85,7 @@ impl KeyedValues {
 
     /// The keys, packed, where they are not kept as they are.
     pub fn packed_keys(&self) -> Option<&SeenKeys>
-        ensures { IfSome result (λ keys. keys.now ≡ map (λ (e : AnyKey × AnyNumber). e.0) self.now) }
+        ensures { IfSome result (λ keys. keys.now ≡ map (λ (e : AnyKey × AnyValue). e.0) self.now) }
     {
         match &self.kept {
             Some(_) => None,
@@ -93,19 +98,21 @@ impl KeyedValues {
     /// # Errors
     ///
     /// Want of memory.
-    pub fn insert(&mut self, key: SampleKey, value: Number) -> Result<Option<SampleKey>, Memory>
+    pub fn insert(&mut self, key: SampleKey, value: TimedValue) -> Result<Option<SampleKey>, Memory>
         ensures known { IfOk result (λ known. is_some known ≡ is_key_of key self.old) }
         ensures key { IfOk result (λ known. IfSome known (λ k. k ≡ key)) }
         ensures samples { IfOk result (λ known. self.new ≡ (if is_some known then self.old else self.old ++ (key, value) ∷ [])) }
     {
         make_room(&mut self.kept)?;
         self.values.reserve(1)?;
+        make_room_for_time(&mut self.times, value.time)?;
         let added = self.seen.insert(&key)?;
         if !added {
             return Ok(Some(key));
         }
         keep(&mut self.kept, key);
-        self.values.push_reserved(value);
+        self.values.push_reserved(value.value);
+        keep_time(&mut self.times, value.time);
         Ok(None)
     }
 
@@ -136,14 +143,19 @@ impl KeyedValues {
     pub fn into_entries(self) -> KeyedEntries
         ensures { result ≡ self }
     {
-        let KeyedValues { seen, kept, values } = self;
+        let KeyedValues {
+            seen,
+            kept,
+            values,
+            times,
+        } = self;
         let keys = match kept {
             Some(kept) => KeySource::Kept(kept.into_iter()),
             None => KeySource::Packed(seen.into_keys()),
         };
         KeyedEntries {
             keys,
-            values: values.into_iter(),
+            values: TimedLeft::of(values, times),
         }
     }
 }
@@ -155,33 +167,23 @@ enum KeySource {
     Packed(Keys),
 }
 
-/// Passes over so many items.
-fn pass_over<T: Drop>(items: &mut IntoIter<T>, count: usize)
-    ensures { into_iter_items items.new ≡ drop count (into_iter_items items.old) }
-{
-    for _ in 0..count {
-        let _item = items.next();
-    }
-}
-
-/// Samples that are still to come, each as its key and its value.
+/// Samples that are still to come, each as its key and its value with its time.
 #[derive(Drop)]
 pub struct KeyedEntries {
     keys: KeySource,
-    values: IntoIter<Number>,
+    values: TimedLeft,
 }
 
 impl Model for KeyedEntries {
     ghost use Rattle.std.specs.Prelude as spec;
     ghost use Rattle.std.specs.List.{zip};
-    ghost use Rattle.std.specs.Vec.Iter.{into_iter_items};
     ghost use Rattle.packed_keys.specs.declared.sample_key.SampleKey.{SampleKey as Key};
-    ghost use Rattle.exact_decimal.specs.declared.number.Number.{Number as OneNumber};
+    ghost use Rattle.family_rules.specs.declared.timed_values.TimedValue.{TimedValue as OneValue};
     ghost use Rattle.family_rules.specs.KeyedValues.{keys_to_come};
 
-    ghost Value = { spec.List (Key × OneNumber) };
+    ghost Value = { spec.List (Key × OneValue) };
 
-    ghost view = { λ e. zip (keys_to_come e.keys) (into_iter_items e.values) };
+    ghost view = { λ e. zip (keys_to_come e.keys) e.values };
 }
 
 /// The next key, where there is one.
@@ -212,7 +214,7 @@ impl KeyedEntries {
     ///
     /// Want of memory.
     #[inline(always)]
-    pub fn next(&mut self, alloc: Global) -> Result<Option<(SampleKey, Number)>, Memory>
+    pub fn next(&mut self, alloc: Global) -> Result<Option<(SampleKey, TimedValue)>, Memory>
         ensures { IfOk result (λ next. ComesNext next self.old self.new) }
     {
         let Some(value) = self.values.next() else {
@@ -230,7 +232,7 @@ impl KeyedEntries {
         ensures { self.new ≡ drop count self.old }
     {
         pass_over_keys(&mut self.keys, count);
-        pass_over(&mut self.values, count);
+        self.values.pass_over(count);
     }
 }
 

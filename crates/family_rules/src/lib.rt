@@ -6,6 +6,7 @@ mod checker;
 mod exemplars;
 mod family;
 mod group_keys;
+mod keyed_sample;
 mod keyed_values;
 mod left;
 mod page_checker;
@@ -13,6 +14,7 @@ mod pages;
 mod rare_text;
 mod runs;
 mod sample_values;
+mod timed_values;
 mod unit;
 
 pub use page_checker::Checker;

@@ -7,7 +7,7 @@ ghost use Rattle.family_rules.specs.Made.{plain_reading, readings_at, family_at,
 use crate::family::FamilySoFar;
 use crate::keyed_values::KeyedEntries;
 use crate::left::{LeftEntries, LeftFamilies};
-use exact_decimal::Number;
+use crate::timed_values::TimedValue;
 use label_sets::{Kind, List, Memory, Name, SeriesKey, Text};
 use packed_keys::SampleKey;
 use page_model::{Family, Format, Reading, Value};
@@ -24,9 +24,9 @@ fn text_or_empty(text: Option<Text>) -> Text
     }
 }
 
-/// The reading of a sample.
+/// The reading of a sample, which may have no exemplar.
 #[inline(always)]
-fn reading(alloc: Global, kind: Kind, unit: Text, key: SampleKey, value: Number) -> Reading
+fn reading(alloc: Global, kind: Kind, unit: Text, key: SampleKey, value: TimedValue) -> Reading
     ensures { result ≡ plain_reading kind unit key value }
 {
     Reading {
@@ -36,9 +36,9 @@ fn reading(alloc: Global, kind: Kind, unit: Text, key: SampleKey, value: Number)
             unit,
             labels: key.labels,
         },
-        value: Value::Plain(value),
+        value: Value::Plain(value.value),
         created: None,
-        stamp: None,
+        stamp: value.time,
         exemplars: List::new(alloc),
     }
 }

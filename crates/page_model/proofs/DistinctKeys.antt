@@ -120,7 +120,7 @@ named st k F unit samples L r e =
     own = filter (λ s. label_sets_eq (reading_labels st k F s) L) samples
 
     made : Value → Reading
-    made v = record { key = record { name = key_name st.format k F; kind = k; unit = unit; labels = L }; value = v; created = value_with F (codes "_created") own; stamp = stamp_of st.format k F own; exemplars = exemplars_of k F own }
+    made v = record { key = record { name = key_name st.format k F; kind = k; unit = unit; labels = L }; value = v; created = value_with F (codes "_created") own; stamp = stamp_of st.format F own; exemplars = exemplars_of k F own }
 
     go : (o : Option Value) → option_map made o ≡ Some r → r.key ≡ record { name = key_name st.format k F; kind = k; unit = unit; labels = L }
     go None e = absurd (none-some r e)

@@ -6,6 +6,7 @@ pub use Rattle.page_model.proofs.Groups.{Member, label_sets_decide, agrees_in, i
 pub use Rattle.page_model.proofs.Prefixes.{fault_from-append, too_long_fault}
 pub use Rattle.page_model.proofs.Least.{none_found}
 pub use Rattle.page_model.proofs.KindLaws.{kind_of_page}
+pub use Rattle.page_model.proofs.Stamps.{stamp_in, stamp_kept, stamp_is_within, no_stamp, none_given}
 pub use Rattle.page_model.proofs.Texts.{items_make_text, Made, nothing_made, made_more, made_says}
 pub use Rattle.page_model.proofs.DistinctKeys.{page-distinct_keys}
 pub use Rattle.page_model.proofs.SomeOf.{some_skipped, some_filtered}

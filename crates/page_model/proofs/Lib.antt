@@ -1,5 +1,6 @@
 mod FaultCases
 mod PageCases
+mod StampCases
 pub mod Fronts
 pub mod TokenChars
 pub mod TextSound
@@ -16,5 +17,6 @@ pub mod RightPages
 pub mod Filled
 pub mod Texts
 pub mod KindLaws
+pub mod Stamps
 pub mod SampleNames
 pub mod Laws

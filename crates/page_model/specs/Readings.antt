@@ -1,16 +1,16 @@
 -- The page of a list of lines without a fault: families in the order of their first line, readings in that of their groups.
 -- OpenMetrics 1.0, "Data Model" (MetricSet, MetricFamily, Metric, MetricPoint); OpenTelemetry, "Prometheus and OpenMetrics Compatibility".
-use Rattle.std.specs.Prelude.{ℕ, Bool, not, List, [], ◌++◌, map, filter, filter_map, find, reverse, codes, count_by, Option, Some, None, option_map, option_and_then, unwrap_or, if◌then◌else◌}
+use Rattle.std.specs.Prelude.{ℕ, ◌*◌, ◌^◌, Bool, not, nat_le, List, [], ◌++◌, map, filter, filter_map, find, reverse, codes, count_by, Option, Some, None, option_map, option_and_then, unwrap_or, if◌then◌else◌}
 use Rattle.std.specs.List.{list_any}
 use Rattle.std.specs.Str.{bytes_eq}
 use Rattle.label_sets.specs.declared.kind.Kind.{Kind}
 use Rattle.label_sets.specs.declared.kind.Kind.TheVariants.{Counter, Histogram, GaugeHistogram, StateSet, Info, Summary}
 use Rattle.label_sets.specs.declared.label_set.LabelSet.{LabelSet}
-use Rattle.label_sets.specs.Lists.{first_of_each, first_some}
+use Rattle.label_sets.specs.Lists.{first_of_each, first_some, ◌>>=◌, when_true}
 use Rattle.label_sets.specs.Labels.{label_sets_eq}
 use Rattle.exact_decimal.specs.declared.number.Number.{Number}
 use Rattle.exact_decimal.specs.declared.number.Number.TheVariants.{Finite}
-use Rattle.exact_decimal.specs.Order.{whole}
+use Rattle.exact_decimal.specs.Order.{whole, nanos}
 use Rattle.page_model.specs.declared.format.Format.{Format}
 use Rattle.page_model.specs.declared.format.Format.TheVariants.{Text, OpenMetrics}
 use Rattle.page_model.specs.declared.item.Item.{Item}
@@ -26,7 +26,7 @@ use Rattle.page_model.specs.PageValues.{PageValue}
 use Rattle.page_model.specs.Written.{Setting}
 use Rattle.page_model.specs.Items.{is_sample, help_of_line, unit_of_line}
 use Rattle.page_model.specs.Owners.{Owned, is_of, kind_of, owned_lines, samples_of, kept_labels, group_of}
-use Rattle.page_model.specs.Rules.{has_suffix, is_bucket, threshold, quantile_at}
+use Rattle.page_model.specs.Rules.{has_suffix, is_bucket, may_have_exemplar, threshold, quantile_at}
 
 -- ---- the parts of a reading, from the samples that share its labels, in page order
 
@@ -94,13 +94,26 @@ abbrev pub reading_labels : Setting → Kind → List ℕ → Sample → LabelSe
 reading_labels st StateSet family s = kept_labels st.treatment s.labels
 reading_labels st kind family s = group_of kind family (kept_labels st.treatment s.labels)
 
--- the time that a page gives a reading; page timestamps are not taken yet
-unfoldable pub stamp_of : Format → Kind → List ℕ → List Sample → Option ℕ
-stamp_of f kind family samples = None
+-- the latest time that a page may give, in nanoseconds since the Unix epoch
+abbrev pub latest_time : ℕ
+latest_time = 2 ^ 62
 
--- the exemplars of a reading; they are not taken yet
+-- a time stamp as whole nanoseconds: milliseconds in text, seconds in OpenMetrics; none below zero
+abbrev pub stamp_nanos : Format → Number → Option ℕ
+stamp_nanos Text stamp = option_map (λ milliseconds. milliseconds * 1000000) (whole stamp)
+stamp_nanos OpenMetrics stamp = nanos stamp
+
+-- a time, where it isn't after the latest
+abbrev pub within_time : ℕ → Option ℕ
+within_time time = when_true (nat_le time latest_time) time
+
+-- the time that a page gives a reading: that of its first sample that is more than a created time
+unfoldable pub stamp_of : Format → List ℕ → List Sample → Option ℕ
+stamp_of f family samples = find (is_measured family) samples >>= λ s. s.stamp >>= stamp_nanos f >>= within_time
+
+-- the exemplars of a reading: that of a counter's total, or those of the buckets in their order
 unfoldable pub exemplars_of : Kind → List ℕ → List Sample → List Exemplar
-exemplars_of kind family samples = []
+exemplars_of kind family samples = filter_map (λ (s : Sample). s.exemplar) (filter (may_have_exemplar kind family) samples)
 
 -- ---- families and the page
 
@@ -112,7 +125,7 @@ reading_of st kind family unit samples labels =
       key = record { name = key_name st.format kind family; kind = kind; unit = unit; labels = labels };
       value = value;
       created = value_with family (codes "_created") own;
-      stamp = stamp_of st.format kind family own;
+      stamp = stamp_of st.format family own;
       exemplars = exemplars_of kind family own;
     }) (value_of st.format kind family own)
 

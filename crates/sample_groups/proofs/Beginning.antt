@@ -9,10 +9,11 @@ use Rattle.label_sets.specs.Labels.{label_sets_eq}
 use Rattle.label_sets.proofs.Laws.{sets_decide}
 use Rattle.packed_keys.specs.Packing.{with_set}
 use Rattle.sample_groups.specs.declared.added.Added.{Added}
+use Rattle.sample_groups.specs.declared.member.Member.{Member}
 use Rattle.sample_groups.specs.declared.part.Part.{Part}
 use Rattle.sample_groups.specs.declared.part.Part.TheVariants as parts
 use Rattle.sample_groups.specs.Beside.{AreBeside}
-use Rattle.sample_groups.specs.Groups.{Gathered, empty_group, group_from, with_one, or_empty, known_group, put_group, with_part, breaks_order, is_overtaken, is_whole_group, shared_labels, AddsPart}
+use Rattle.sample_groups.specs.Groups.{Gathered, empty_group, group_of, with_one, or_empty, known_group, put_group, with_part, breaks_order, is_overtaken, is_whole_group, shared_labels, AddsPart}
 use Rattle.sample_groups.proofs.BesideLaws.{zip-snoc, suc_same, first_apart_from, distinct_rest, beside_more}
 
 -- ---- packing
@@ -41,7 +42,7 @@ packed_more xs i x old new d within at before after =
 
 -- the first part of a group fits
 pub first_fits : (p : Part) → breaks_order empty_group p ≡ false
-unfolding group_from
+unfolding group_of
 first_fits (parts.Bucket b) = refl
 first_fits _ = refl
 
@@ -64,10 +65,10 @@ put_unknown (e ∷ es) labels g h = by (label_sets_eq labels e.0) h (put_unknown
     by true h more = absurd (let no : Some e.1 ≡ None = h in cc)
     by false h more = ap (λ l. e ∷ l) (more h)
 
--- and then they are the groups with its part
-pub begun : (old new : List (LabelSet × Gathered)) (labels : LabelSet) (g : Gathered) (part : Part) → known_group old labels ≡ None → new ≡ old ++ (labels, g) ∷ [] → g ≡ with_one empty_group part → new ≡ with_part old labels part
+-- and then they are the groups with its first member
+pub begun : (old new : List (LabelSet × Gathered)) (labels : LabelSet) (g : Gathered) (member : Member) → known_group old labels ≡ None → new ≡ old ++ (labels, g) ∷ [] → g ≡ with_one empty_group member → new ≡ with_part old labels member
 unfolding with_part
-begun old new labels g part unknown more first = more ∙ sym (put_unknown old labels g unknown) ∙ ap (put_group old labels) (first ∙ ap (λ k. with_one (or_empty k) part) (sym unknown))
+begun old new labels g member unknown more first = more ∙ sym (put_unknown old labels g unknown) ∙ ap (put_group old labels) (first ∙ ap (λ k. with_one (or_empty k) member) (sym unknown))
 
 -- labels and group are put behind those of the others
 pub pushed : (ss after : List LabelSet) (gs grown : List Gathered) (old : List (LabelSet × Gathered)) (labels : LabelSet) (g : Gathered) → zip ss gs ≡ old → length ss ≡ length gs
@@ -96,12 +97,12 @@ unknown_overtaken (e ∷ es) labels h = by (label_sets_eq labels e.0) h (unknown
     by false h more = more h
 
 -- its part fits
-pub adds_new : (kind : Kind) (labels : LabelSet) (part : Part) (shared : LabelSet) (old new : List (LabelSet × Gathered)) → shared ≡ shared_labels kind labels → known_group old (shared_labels kind labels) ≡ None → new ≡ with_part old shared part
-    → AddsPart kind labels part old new (record { fits = true; overtaken = false })
-adds_new kind labels part shared old new own unknown is = record {
-  answer = ap not (sym (first_fits part)) ∙ ap (λ k. not (breaks_order (or_empty k) part)) (sym unknown);
+pub adds_new : (kind : Kind) (labels : LabelSet) (member : Member) (shared : LabelSet) (old new : List (LabelSet × Gathered)) → shared ≡ shared_labels kind labels → known_group old (shared_labels kind labels) ≡ None → new ≡ with_part old shared member
+    → AddsPart kind labels member old new (record { fits = true; overtaken = false })
+adds_new kind labels member shared old new own unknown is = record {
+  answer = ap not (sym (first_fits member.part)) ∙ ap (λ k. not (breaks_order (or_empty k) member.part)) (sym unknown);
   overtaken = sym (unknown_overtaken old (shared_labels kind labels) unknown);
-  grown = λ e. is ∙ ap (λ l. with_part old l part) own;
+  grown = λ e. is ∙ ap (λ l. with_part old l member) own;
 }
 
 -- ---- a family's only group
@@ -114,17 +115,17 @@ only_overtaken labels first g = by (label_sets_eq labels first)
     by true = refl
     by false = refl
 
--- a part is added to it
-pub adds_own : (kind : Kind) (labels : LabelSet) (part : Part) (only : LabelSet) (g : Gathered) (added : Added) (grown : Gathered) → label_sets_eq (shared_labels kind labels) only ≡ true → added.fits ≡ not (breaks_order g part)
-    → added.overtaken ≡ false → (added.fits ≡ true → grown ≡ with_one g part) → AddsPart kind labels part ((only, g) ∷ []) ((only, grown) ∷ []) added
+-- a member is added to it
+pub adds_own : (kind : Kind) (labels : LabelSet) (member : Member) (only : LabelSet) (g : Gathered) (added : Added) (grown : Gathered) → label_sets_eq (shared_labels kind labels) only ≡ true → added.fits ≡ not (breaks_order g member.part)
+    → added.overtaken ≡ false → (added.fits ≡ true → grown ≡ with_one g member) → AddsPart kind labels member ((only, g) ∷ []) ((only, grown) ∷ []) added
 unfolding with_part
-adds_own kind labels part only g added grown own answer back more =
+adds_own kind labels member only g added grown own answer back more =
     let shared = shared_labels kind labels in
     let known : g ≡ or_empty (known_group ((only, g) ∷ []) shared) = ap (λ b. or_empty (cond b (Some g) None)) (sym own) in
-    let after = with_one (or_empty (known_group ((only, g) ∷ []) shared)) part in record {
-      answer = answer ∙ ap (λ h. not (breaks_order h part)) known;
+    let after = with_one (or_empty (known_group ((only, g) ∷ []) shared)) member in record {
+      answer = answer ∙ ap (λ h. not (breaks_order h member.part)) known;
       overtaken = back ∙ only_overtaken shared only g;
-      grown = λ e. ap (λ h. (only, h) ∷ []) (more e ∙ ap (λ h. with_one h part) known) ∙ ap (λ b. cond b ((only, after) ∷ []) ((only, g) ∷ (shared, after) ∷ [])) (sym own);
+      grown = λ e. ap (λ h. (only, h) ∷ []) (more e ∙ ap (λ h. with_one h member) known) ∙ ap (λ b. cond b ((only, after) ∷ []) ((only, g) ∷ (shared, after) ∷ [])) (sym own);
     }
 
 -- it tells whether all groups are whole

@@ -15,10 +15,10 @@ use Rattle.page_model.specs.Written.{Setting}
 use Rattle.page_model.specs.Rules.{is_histogram, is_bucket, is_bound, is_up, sample_group, threshold, has_bad_threshold, is_out_of_order}
 use Rattle.page_model.specs.Readings.{bucket_of}
 use Rattle.page_model.proofs.Laws.{label_sets_decide}
-use Rattle.sample_groups.specs.declared.part.Part.{Part}
+use Rattle.sample_groups.specs.declared.member.Member.{Member}
 use Rattle.sample_groups.specs.declared.part.Part.TheVariants as parts
 use Rattle.sample_groups.specs.Parts.{is_grouped, part_of, entry_of}
-use Rattle.sample_groups.specs.Groups.{Gathered, bucket_in, group_from, parts_in, groups_from, breaks_last, breaks_order, ends_with, is_whole_group}
+use Rattle.sample_groups.specs.Groups.{Gathered, bucket_in, group_of, group_from, members_in, parts_in, groups_from, breaks_last, breaks_order, ends_with, is_whole_group}
 use Rattle.sample_groups.specs.Sound.{IsSoundSample, AreSound}
 use Rattle.sample_groups.proofs.KindCases.{of_histograms}
 use Rattle.sample_groups.proofs.Members.{when}
@@ -78,9 +78,9 @@ module _ (st : Setting) (kind : Kind) (family : List ℕ) (histogram : is_histog
   -- a sound bucket is above the last of its group
   above_last : (s : Sample) (above : List Sample) (labels : LabelSet) → AreSound st kind family above → IsSoundSample st kind family above s → sample_group st kind family s ≡ labels → is_bucket family s ≡ true
       → breaks_last (last_or None (buckets_at above labels)) (bucket_of s) ≡ false
-  unfolding group_from
+  unfolding group_from group_of
   above_last s above labels sound own group bucket =
-      let es : List (LabelSet × Part) = entries st kind family (reverse above) in
+      let es : List (LabelSet × Member) = entries st kind family (reverse above) in
       let part : part_of family s ≡ parts.Bucket (bucket_of s) = bucket_is family s bucket in
       let kept : is_out_of_order st kind family above s ≡ breaks_order (group_at es (sample_group st kind family s)) (part_of family s) =
       order_kept st kind family above s grouped sound own.named own.valued own.placed ∙ ap (λ g. breaks_order g (part_of family s)) (group_is_kept es (sample_group st kind family s)) in
@@ -88,7 +88,7 @@ module _ (st : Setting) (kind : Kind) (family : List ℕ) (histogram : is_histog
 
   -- the buckets of a group rise
   pub buckets_rise : (above : List Sample) (labels : LabelSet) → AreSound st kind family above → AreRising None (buckets_at above labels)
-  unfolding parts_in
+  unfolding members_in
   buckets_rise [] labels sound = tt
   buckets_rise (s ∷ above) labels sound =
       subst (AreRising None) (sym (buckets_more s above labels)) (by (is_in_group st kind family labels s) (is_bucket family s) refl refl (buckets_rise above labels sound.1))
@@ -109,7 +109,7 @@ module _ (st : Setting) (kind : Kind) (family : List ℕ) (histogram : is_histog
   -- the buckets of whole groups rise to the bucket `+Inf`
   pub whole_rise : (above : List Sample) → AreSound st kind family above → list_all (λ (g : LabelSet × Gathered). is_whole_group g.1) (groups_from (map (entry_of st kind family) (reverse above))) ≡ true
       → AllByRecursion (λ (g : LabelSet × Gathered). RiseToUp g.1.buckets) (groups_from (map (entry_of st kind family) (reverse above)))
-  unfolding groups_from group_from
+  unfolding groups_from group_from group_of
   whole_rise above sound whole = each (first_of_each label_sets_eq (labels_of (entries st kind family (reverse above)))) whole
     where
       each : (ls : List LabelSet) → list_all (λ (g : LabelSet × Gathered). is_whole_group g.1) (map (λ labels. (labels, group_at (entries st kind family (reverse above)) labels)) ls) ≡ true

@@ -9,6 +9,7 @@ pub mod Cumulative
 pub mod LabelNames
 pub mod Finds
 pub mod Adding
+pub mod Times
 pub mod Grown
 pub mod Placing
 pub mod Beginning

@@ -123,6 +123,10 @@ pub filter_map-agree : {A B : Type 0} (f g : A → Option B) (xs : List A) → (
 filter_map-agree f g [] same = refl
 filter_map-agree f g (x ∷ xs) same = let first = same x (inl refl) in let rest = filter_map-agree f g xs (λ y m. same y (inr m)) in λ i. cons_option (first i) (rest i)
 
+pub first_some-agree : {A B : Type 0} (f g : A → Option B) (xs : List A) → ((x : A) → Member x xs → f x ≡ g x) → first_some f xs ≡ first_some g xs
+first_some-agree f g [] same = refl
+first_some-agree f g (x ∷ xs) same = let first = same x (inl refl) in let rest = first_some-agree f g xs (λ y m. same y (inr m)) in λ i. option_or (first i) (rest i)
+
 -- each element that passes has its value
 pub filter_map-when : {A B : Type 0} (t : A → Bool) (v : A → B) (xs : List A) → filter_map (λ x. when (t x) (Some (v x))) xs ≡ map v (filter t xs)
 filter_map-when t v [] = refl

@@ -1,4 +1,4 @@
--- The place of a group among the groups, and the group with one part more.
+-- The place of a group among the groups, and the group with one member more.
 use Rattle.std.proofs.Common.{◌≡◌, ℕ, zero, suc, ◌+◌, ◌<◌, Bool, true, false, cond, ◌&&◌, ◌||◌, ◌==◌, List, [], ◌∷◌, ◌++◌, map, filter_map, length, drop, append_assoc, slice_get, slice_set, get_or, Option, Some, None, refl, sym, ap, subst, ◌∙◌, arith}
 use Rattle.std.specs.List.{list_any, list_all, zip, cons_option}
 use Rattle.std.specs.Prelude.{nat_lt}
@@ -9,7 +9,7 @@ use Rattle.label_sets.specs.declared.kind.Kind.{Kind}
 use Rattle.label_sets.proofs.Laws.{sets_decide}
 use Rattle.label_sets.specs.Labels.{label_sets_eq}
 use Rattle.page_model.specs.declared.page.Reading.{Reading}
-use Rattle.sample_groups.specs.declared.part.Part.{Part}
+use Rattle.sample_groups.specs.declared.member.Member.{Member}
 use Rattle.sample_groups.specs.Groups.{Gathered, empty_group, known_group, or_empty, with_one, put_group, with_part, is_overtaken, is_whole_group, reading_named}
 use Rattle.sample_groups.specs.Beside.{AreBeside}
 use Rattle.packed_keys.specs.Packing.{with_set}
@@ -194,15 +194,15 @@ put_in ss after gs grown labels place b p = by (place == length gs) refl
           subst (λ l. AreBeside label_sets_eq l grown) (sym same) (subst (λ l. AreBeside label_sets_eq ss l) (sym groups) b),
         )
 
--- ---- one part more
+-- ---- one member more
 
--- the group at its place with one part more
-pub added_at : (old new : List (LabelSet × Gathered)) (labels : LabelSet) (place : ℕ) (before after : Gathered) (part : Part) → HasPlace old new labels place
-    → slice_get (map (λ (e : LabelSet × Gathered). e.1) new) place ≡ Some before → after ≡ with_one before part → with_group_at new place after ≡ with_part old labels part
+-- the group at its place with one member more
+pub added_at : (old new : List (LabelSet × Gathered)) (labels : LabelSet) (place : ℕ) (before after : Gathered) (member : Member) → HasPlace old new labels place
+    → slice_get (map (λ (e : LabelSet × Gathered). e.1) new) place ≡ Some before → after ≡ with_one before member → with_group_at new place after ≡ with_part old labels member
 unfolding with_part
-added_at old new labels place before after part has at is =
+added_at old new labels place before after member has at is =
     let same : before ≡ or_empty (known_group old labels) = some_same (sym at ∙ has.group) in
-    ap (with_group_at new place) (is ∙ ap (λ g. with_one g part) same) ∙ has.put (with_one (or_empty (known_group old labels)) part)
+    ap (with_group_at new place) (is ∙ ap (λ g. with_one g member) same) ∙ has.put (with_one (or_empty (known_group old labels)) member)
 
 -- ---- whole groups
 
@@ -245,12 +245,12 @@ pub group_here : (old new : List (LabelSet × Gathered)) (ss : List LabelSet) (g
 group_here old new ss gs labels place g has is many at =
     some_same (sym (read_at gs place g (within_groups old new ss gs labels place has is many) at) ∙ ap (λ l. slice_get l place) (sym (values_of ss gs many)) ∙ ap (λ l. slice_get (map (λ (e : LabelSet × Gathered). e.1) l) place) is ∙ has.group)
 
--- and with one part more they are the groups with that part
-pub grown_here : (old new : List (LabelSet × Gathered)) (ss : List LabelSet) (gs : List Gathered) (labels : LabelSet) (place : ℕ) (before after : Gathered) (part : Part) → HasPlace old new labels place → zip ss gs ≡ new → length ss ≡ length gs
-    → before ≡ get_or gs place before → after ≡ with_one before part → zip ss (slice_set gs place after) ≡ with_part old labels part
-grown_here old new ss gs labels place before after part has is many at more =
+-- and with one member more they are the groups with that member
+pub grown_here : (old new : List (LabelSet × Gathered)) (ss : List LabelSet) (gs : List Gathered) (labels : LabelSet) (place : ℕ) (before after : Gathered) (member : Member) → HasPlace old new labels place → zip ss gs ≡ new → length ss ≡ length gs
+    → before ≡ get_or gs place before → after ≡ with_one before member → zip ss (slice_set gs place after) ≡ with_part old labels member
+grown_here old new ss gs labels place before after member has is many at more =
     set_beside ss gs place after ∙ ap (λ l. with_group_at l place after) is
-    ∙ added_at old new labels place before after part has (ap (λ l. slice_get (map (λ (e : LabelSet × Gathered). e.1) l) place) (sym is) ∙ ap (λ l. slice_get l place) (values_of ss gs many) ∙ read_at gs place before (within_groups old new ss gs labels place has is many) at) more
+    ∙ added_at old new labels place before after member has (ap (λ l. slice_get (map (λ (e : LabelSet × Gathered). e.1) l) place) (sym is) ∙ ap (λ l. slice_get l place) (values_of ss gs many) ∙ read_at gs place before (within_groups old new ss gs labels place has is many) at) more
 
 -- the groups behind its place tell whether it goes back
 pub overtaken_here : (old new : List (LabelSet × Gathered)) (ss : List LabelSet) (gs : List Gathered) (labels : LabelSet) (place : ℕ) → HasPlace old new labels place → zip ss gs ≡ new → length ss ≡ length gs

@@ -11,6 +11,7 @@ use Rattle.label_sets.specs.declared.kind.Kind.{Kind}
 use Rattle.label_sets.specs.declared.kind.Kind.TheVariants.{Counter, Histogram, GaugeHistogram, Summary}
 use Rattle.label_sets.specs.declared.label_set.LabelSet.{LabelSet}
 use Rattle.label_sets.specs.Labels.{label_sets_eq}
+use Rattle.label_sets.specs.Lists.{◌>>=◌}
 use Rattle.exact_decimal.specs.Decimals.{DecimalValue}
 use Rattle.exact_decimal.specs.declared.number.Number.{Number}
 use Rattle.exact_decimal.specs.declared.number.Number.TheVariants.{Finite}
@@ -21,13 +22,14 @@ use Rattle.page_model.specs.declared.item.Sample.{Sample}
 use Rattle.page_model.specs.declared.page.Quantile.{Quantile}
 use Rattle.page_model.specs.Written.{Setting}
 use Rattle.page_model.specs.Suffixes.{suffixes, is_sample_name, suffix_of}
-use Rattle.page_model.specs.Rules.{is_open_metrics, is_histogram, has_suffix, is_bucket, is_count, sample_group, quantile_at, is_whole, has_wrong_suffix, has_forbidden_value, has_bad_value, has_bad_threshold}
-use Rattle.page_model.specs.Readings.{bucket_of, placed_quantile, quantile_of, is_measured}
+use Rattle.page_model.specs.Rules.{is_open_metrics, is_histogram, has_suffix, is_bucket, is_count, may_have_exemplar, sample_group, quantile_at, is_whole, has_wrong_suffix, has_forbidden_value, has_bad_value, has_bad_threshold}
+use Rattle.page_model.specs.Readings.{bucket_of, placed_quantile, quantile_of, is_measured, stamp_nanos, within_time}
 use Rattle.page_model.proofs.Laws.{Member}
+use Rattle.sample_groups.specs.declared.member.Member.{Member as GroupMember}
 use Rattle.sample_groups.specs.declared.part.Part.{Part}
 use Rattle.sample_groups.specs.declared.part.Part.TheVariants as parts
-use Rattle.sample_groups.specs.Parts.{is_grouped, quantile_part, part_of, entry_of}
-use Rattle.sample_groups.specs.Groups.{bucket_in, quantile_in, sum_in, count_in, total_in, created_in, parts_in}
+use Rattle.sample_groups.specs.Parts.{is_grouped, quantile_part, part_of, stamped_time, member_of, entry_of}
+use Rattle.sample_groups.specs.Groups.{bucket_in, quantile_in, sum_in, count_in, total_in, created_in, is_measure, bears_exemplar, parts_of, members_in, parts_in}
 use Rattle.sample_groups.specs.Sound.{AreSound}
 use Rattle.sample_groups.proofs.KindCases.{of_histograms, of_grouped}
 use Rattle.sample_groups.proofs.Members.{when, filter-map, filter_map-map, filter_map-filter}
@@ -316,6 +318,41 @@ created_is kind st family s grouped fair = ap created_in (part_is family s) ∙ 
     has_time : List ℕ → Type 0
     has_time x = created_in (part_by x s) ≡ when (bytes_eq x (codes "_created")) (Some s.value)
 
+-- it is more than a created time where it has another suffix
+pub measured_is : (kind : Kind) (st : Setting) (family : List ℕ) (s : Sample) → is_grouped st.format kind ≡ true → IsFair st kind family s → is_measure (part_of family s) ≡ is_measured family s
+measured_is kind st family s grouped fair =
+    by_part (part_of family s) ∙ ap (λ (o : Option Number). not (is_some o)) (created_is kind st family s grouped fair) ∙ by (has_suffix family (codes "_created") s)
+  where
+    by_part : (p : Part) → is_measure p ≡ not (is_some (created_in p))
+    by_part (parts.Created n) = refl
+    by_part _ = refl
+
+    by : (b : Bool) → not (is_some (when b (Some s.value))) ≡ not b
+    by true = refl
+    by false = refl
+
+-- a quantile or a sum has no exemplar
+own_bears : (o : Option Quantile) (v : Number) → false ≡ bears_exemplar (quantile_part o v)
+own_bears None v = refl
+own_bears (Some q) v = refl
+
+-- it may have an exemplar where it is a total or a bucket
+pub bears_is : (kind : Kind) (st : Setting) (family : List ℕ) (s : Sample) → is_grouped st.format kind ≡ true → IsFair st kind family s → may_have_exemplar kind family s ≡ bears_exemplar (part_of family s)
+bears_is kind st family s grouped fair = of_grouped st.format
+    (λ k. has_wrong_suffix st k family s ≡ false → may_have_exemplar k family s ≡ bears_exemplar (part_by (suffix_of family s.name) s)) (record {
+      histogram = λ named. by_suffix st Histogram family s refl named (λ x. bytes_eq x (codes "_bucket") ≡ bears_exemplar (part_by x s)) (refl, (refl, (refl, (refl, tt))));
+      gauge = λ named. by_suffix st GaugeHistogram family s refl named (λ x. bytes_eq x (codes "_bucket") ≡ bears_exemplar (part_by x s)) (refl, (refl, (refl, tt)));
+      summary = λ named. by_suffix st Summary family s refl named (λ x. false ≡ bears_exemplar (part_by x s)) (own_bears (quantile_of s) s.value, (refl, (refl, (refl, tt))));
+      counter = λ is named. by_suffix st Counter family s is named (λ x. bytes_eq x (codes "_total") ≡ bears_exemplar (part_by x s)) (refl, (refl, tt));
+    }) kind grouped fair.named
+    ∙ ap bears_exemplar (sym (part_is family s))
+
+-- ---- its time
+
+pub same_time : (f : Format) (o : Option Number) → (o >>= stamp_nanos f >>= within_time) ≡ (o >>= stamped_time f)
+same_time f None = refl
+same_time f (Some n) = refl
+
 -- ---- the parts of samples
 
 module _ (st : Setting) (kind : Kind) (family : List ℕ) where
@@ -323,19 +360,23 @@ module _ (st : Setting) (kind : Kind) (family : List ℕ) where
   abbrev pub is_in_group : LabelSet → Sample → Bool
   is_in_group labels s = label_sets_eq (sample_group st kind family s) labels
 
-  -- the samples by their groups and their parts
-  abbrev pub entries : List Sample → List (LabelSet × Part)
+  -- the samples by their groups and what they give these
+  abbrev pub entries : List Sample → List (LabelSet × GroupMember)
   entries samples = map (entry_of st kind family) samples
 
-  -- the labels of the parts are the groups of the samples
+  -- the labels of the members are the groups of the samples
   pub labels_of-entries : (samples : List Sample) → labels_of (entries samples) ≡ map (sample_group st kind family) samples
-  labels_of-entries samples = map-map (λ (e : LabelSet × Part). e.0) (entry_of st kind family) samples
+  labels_of-entries samples = map-map (λ (e : LabelSet × GroupMember). e.0) (entry_of st kind family) samples
 
-  -- the parts of a group are those of its samples
+  -- the members of a group are those of its samples
+  pub members_in-entries : (labels : LabelSet) (samples : List Sample) → members_in labels (entries samples) ≡ map (member_of st.format family) (filter (is_in_group labels) samples)
+  unfolding members_in
+  members_in-entries labels samples = ap (map (λ (e : LabelSet × GroupMember). e.1)) (filter-map (λ (e : LabelSet × GroupMember). label_sets_eq e.0 labels) (entry_of st kind family) samples)
+      ∙ map-map (λ (e : LabelSet × GroupMember). e.1) (entry_of st kind family) (filter (is_in_group labels) samples)
+
+  -- and so are their parts
   pub parts_in-entries : (labels : LabelSet) (samples : List Sample) → parts_in labels (entries samples) ≡ map (part_of family) (filter (is_in_group labels) samples)
-  unfolding parts_in
-  parts_in-entries labels samples = ap (map (λ (e : LabelSet × Part). e.1)) (filter-map (λ (e : LabelSet × Part). label_sets_eq e.0 labels) (entry_of st kind family) samples)
-      ∙ map-map (λ (e : LabelSet × Part). e.1) (entry_of st kind family) (filter (is_in_group labels) samples)
+  parts_in-entries labels samples = ap parts_of (members_in-entries labels samples) ∙ map-map (λ (m : GroupMember). m.part) (member_of st.format family) (filter (is_in_group labels) samples)
 
   -- what some of the parts of a group have
   pub values_in-entries : {B : Type 0} (f : Part → Option B) (labels : LabelSet) (samples : List Sample) → filter_map f (parts_in labels (entries samples)) ≡ filter_map (λ s. when (is_in_group labels s) (f (part_of family s))) samples

@@ -3,14 +3,15 @@
 use Rattle.std.specs.Prelude.{◌≡◌, ℕ, Bool, true, false, not, ◌&&◌, ◌||◌, ◌==◌, List, [], ◌∷◌, ◌++◌, map, filter, filter_map, length, codes, Option, Some, None, option_map, is_some, nat_le, nat_lt, if◌then◌else◌}
 use Rattle.std.specs.List.{list_all, last_or, cons_option}
 use Rattle.std.specs.Map.{lookup}
-use Rattle.std.specs.Option.{option_or}
+use Rattle.std.specs.Option.{option_or, option_flatten}
 use Rattle.label_sets.specs.declared.kind.Kind.{Kind}
 use Rattle.label_sets.specs.declared.kind.Kind.TheVariants.{Counter, Summary}
 use Rattle.label_sets.specs.declared.label_set.LabelSet.{LabelSet}
 use Rattle.label_sets.specs.Labels.{label_sets_eq, without_label}
-use Rattle.label_sets.specs.Lists.{first_of_each, first_some, some_passes}
+use Rattle.label_sets.specs.Lists.{first_of_each, first_some, some_passes, when_true}
 use Rattle.exact_decimal.specs.declared.number.Number.{Number}
 use Rattle.exact_decimal.specs.Order.{less}
+use Rattle.page_model.specs.declared.item.Exemplar.{Exemplar}
 use Rattle.page_model.specs.declared.page.Bucket.{Bucket}
 use Rattle.page_model.specs.declared.page.Quantile.{Quantile}
 use Rattle.page_model.specs.declared.page.Reading.{Reading}
@@ -21,6 +22,7 @@ use Rattle.page_model.specs.Readings.{key_name}
 use Rattle.page_model.specs.declared.format.Format.{Format}
 use Rattle.sample_groups.specs.Places.{has_place}
 use Rattle.sample_groups.specs.declared.added.Added.{Added}
+use Rattle.sample_groups.specs.declared.member.Member.{Member}
 use Rattle.sample_groups.specs.declared.part.Part.{Part}
 use Rattle.sample_groups.specs.declared.part.Part.TheVariants as parts
 
@@ -42,6 +44,10 @@ pub record Gathered : Type 0 where
   pub total : Option Number
   -- the first created time
   pub created : Option Number
+  -- the time of the first sample that is more than a created time, present or not
+  pub first : Option (Option ℕ)
+  -- the exemplars of totals and buckets, in the order of their lines
+  pub exemplars : List Exemplar
 
 -- the bucket of a part that is one
 abbrev pub bucket_in : Part → Option Bucket
@@ -73,14 +79,33 @@ abbrev pub created_in : Part → Option Number
 created_in (parts.Created n) = Some n
 created_in _ = None
 
+-- the part is more than a created time
+abbrev pub is_measure : Part → Bool
+is_measure (parts.Created n) = false
+is_measure _ = true
+
+-- the part may have an exemplar
+abbrev pub bears_exemplar : Part → Bool
+bears_exemplar (parts.Bucket b) = true
+bears_exemplar (parts.Total n) = true
+bears_exemplar _ = false
+
+-- the time of a sample that is more than a created time, present or not
+abbrev pub time_in : Member → Option (Option ℕ)
+time_in m = when_true (is_measure m.part) m.time
+
+-- the exemplar of a total or a bucket
+abbrev pub exemplar_in : Member → Option Exemplar
+exemplar_in m = if bears_exemplar m.part then m.exemplar else None
+
 -- all of these are the first of them
 abbrev pub are_one : List ℕ → Bool
 are_one [] = true
 are_one (n ∷ ns) = list_all (λ m. n == m) ns
 
--- a group of these parts, in the order of their lines: its buckets and quantiles, the first of each other sort, and whether all its counts are the first
-unfoldable pub group_from : List Part → Gathered
-group_from ps = record {
+-- a group of these parts, in the order of their lines: its buckets and quantiles, the first of each other sort, and whether all its counts are the first; with this time and these exemplars
+unfoldable pub group_of : List Part → Option (Option ℕ) → List Exemplar → Gathered
+group_of ps first exemplars = record {
   buckets = filter_map bucket_in ps;
   quantiles = filter_map quantile_in ps;
   sum = first_some sum_in ps;
@@ -88,7 +113,17 @@ group_from ps = record {
   counts_agree = are_one (filter_map count_in ps);
   total = first_some total_in ps;
   created = first_some created_in ps;
+  first = first;
+  exemplars = exemplars;
 }
+
+-- the parts of what samples give their group
+abbrev pub parts_of : List Member → List Part
+parts_of ms = map (λ (m : Member). m.part) ms
+
+-- a group of these members, in the order of their lines: the time is the first one's that is more than a created time
+unfoldable pub group_from : List Member → Gathered
+group_from ms = group_of (parts_of ms) (first_some time_in ms) (filter_map exemplar_in ms)
 
 -- ---- the groups of a family
 
@@ -107,40 +142,46 @@ without_place (Some name) ls = without_label name ls
 abbrev pub shared_labels : Kind → LabelSet → LabelSet
 shared_labels kind ls = without_place (place_name kind) ls
 
--- the parts with these labels
-unfoldable pub parts_in : LabelSet → List (LabelSet × Part) → List Part
-parts_in labels es = map (λ (e : LabelSet × Part). e.1) (filter (λ (e : LabelSet × Part). label_sets_eq e.0 labels) es)
+-- the members with these labels
+unfoldable pub members_in : LabelSet → List (LabelSet × Member) → List Member
+members_in labels es = map (λ (e : LabelSet × Member). e.1) (filter (λ (e : LabelSet × Member). label_sets_eq e.0 labels) es)
 
--- the groups of these parts, in the order of their first lines
-unfoldable pub groups_from : List (LabelSet × Part) → List (LabelSet × Gathered)
-groups_from es = map (λ labels. (labels, group_from (parts_in labels es))) (first_of_each label_sets_eq (map (λ (e : LabelSet × Part). e.0) es))
+-- their parts
+abbrev pub parts_in : LabelSet → List (LabelSet × Member) → List Part
+parts_in labels es = parts_of (members_in labels es)
+
+-- the groups of these members, in the order of their first lines
+unfoldable pub groups_from : List (LabelSet × Member) → List (LabelSet × Gathered)
+groups_from es = map (λ labels. (labels, group_from (members_in labels es))) (first_of_each label_sets_eq (map (λ (e : LabelSet × Member). e.0) es))
 
 -- the second count, where there is one, is the first, where there is one
 abbrev pub are_one_count : Option ℕ → Option ℕ → Bool
 are_one_count first None = true
 are_one_count first (Some n) = not (some_passes (λ m. not (m == n)) first)
 
--- a group with one part more
-unfoldable pub with_one : Gathered → Part → Gathered
-with_one g p = record {
-  buckets = g.buckets ++ cons_option (bucket_in p) [];
-  quantiles = g.quantiles ++ cons_option (quantile_in p) [];
-  sum = option_or g.sum (sum_in p);
-  count = option_or g.count (count_in p);
-  counts_agree = g.counts_agree && are_one_count g.count (count_in p);
-  total = option_or g.total (total_in p);
-  created = option_or g.created (created_in p);
+-- a group with one member more
+unfoldable pub with_one : Gathered → Member → Gathered
+with_one g m = record {
+  buckets = g.buckets ++ cons_option (bucket_in m.part) [];
+  quantiles = g.quantiles ++ cons_option (quantile_in m.part) [];
+  sum = option_or g.sum (sum_in m.part);
+  count = option_or g.count (count_in m.part);
+  counts_agree = g.counts_agree && are_one_count g.count (count_in m.part);
+  total = option_or g.total (total_in m.part);
+  created = option_or g.created (created_in m.part);
+  first = option_or g.first (time_in m);
+  exemplars = g.exemplars ++ cons_option (exemplar_in m) [];
 }
 
--- the group without parts
+-- the group without members
 abbrev pub empty_group : Gathered
-empty_group = group_from []
+empty_group = group_of [] None []
 
 -- what is kept of the group with these labels
 abbrev pub known_group : List (LabelSet × Gathered) → LabelSet → Option Gathered
 known_group groups labels = lookup (label_sets_eq labels) groups
 
--- the group, or the one without parts
+-- the group, or the one without members
 abbrev pub or_empty : Option Gathered → Gathered
 or_empty None = empty_group
 or_empty (Some g) = g
@@ -155,9 +196,9 @@ abbrev pub put_group : List (LabelSet × Gathered) → LabelSet → Gathered →
 put_group [] labels g = (labels, g) ∷ []
 put_group (e ∷ es) labels g = if label_sets_eq labels e.0 then (e.0, g) ∷ es else e ∷ put_group es labels g
 
--- the groups with one part more: in its group, or in a new one behind the others
-unfoldable pub with_part : List (LabelSet × Gathered) → LabelSet → Part → List (LabelSet × Gathered)
-with_part groups labels part = put_group groups labels (with_one (or_empty (known_group groups labels)) part)
+-- the groups with one member more: in its group, or in a new one behind the others
+unfoldable pub with_part : List (LabelSet × Gathered) → LabelSet → Member → List (LabelSet × Gathered)
+with_part groups labels member = put_group groups labels (with_one (or_empty (known_group groups labels)) member)
 
 -- ---- order and completeness
 
@@ -181,11 +222,11 @@ ends_with (Some b) g = is_up b.le && g.counts_agree && not (some_passes (λ n. n
 abbrev pub is_whole_group : Gathered → Bool
 is_whole_group g = ends_with (last_or None g.buckets) g
 
--- the answer to a part of a sample with these labels: it is added to its group, unless it breaks the order there
-pub record AddsPart (kind : Kind) (labels : LabelSet) (part : Part) (old new : List (LabelSet × Gathered)) (added : Added) : Type 0 where
-  pub answer : added.fits ≡ not (breaks_order (or_empty (known_group old (shared_labels kind labels))) part)
+-- the answer to what a sample with these labels gives: it is added to its group, unless its part breaks the order there
+pub record AddsPart (kind : Kind) (labels : LabelSet) (member : Member) (old new : List (LabelSet × Gathered)) (added : Added) : Type 0 where
+  pub answer : added.fits ≡ not (breaks_order (or_empty (known_group old (shared_labels kind labels))) member.part)
   pub overtaken : added.overtaken ≡ is_overtaken old (shared_labels kind labels)
-  pub grown : added.fits ≡ true → new ≡ with_part old (shared_labels kind labels) part
+  pub grown : added.fits ≡ true → new ≡ with_part old (shared_labels kind labels) member
 
 -- ---- readings
 
@@ -205,8 +246,8 @@ reading_named kind name unit g = option_map (λ value. record {
   key = record { name = name; kind = kind; unit = unit; labels = g.0 };
   value = value;
   created = g.1.created;
-  stamp = None;
-  exemplars = [];
+  stamp = option_flatten g.1.first;
+  exemplars = g.1.exemplars;
 }) (group_value kind g.1)
 
 -- the reading of a group of a family

@@ -4,7 +4,9 @@ pub mod Groups
 pub mod Sound
 pub mod Finding
 pub mod PlaceOrder
+pub mod ExtraValues
 pub mod Kept
+pub mod Extras
 pub mod Beside
 pub mod PartLists
 pub mod Placing

@@ -1,6 +1,7 @@
 -- What a sample is to its metric, where the samples of several lines are one.
 -- Prometheus text format 0.0.4, "Histograms and summaries"; OpenMetrics 1.0, "Counter", "Histogram", "GaugeHistogram", "Summary".
 use Rattle.std.specs.Prelude.{ℕ, Bool, true, false, ◌&&◌, ◌||◌, List, [], codes, Option, Some, None, unwrap_or, if◌then◌else◌}
+use Rattle.label_sets.specs.Lists.{◌>>=◌}
 use Rattle.exact_decimal.specs.declared.number.Number.{Number}
 use Rattle.exact_decimal.specs.Order.{whole}
 use Rattle.label_sets.specs.declared.kind.Kind.{Kind}
@@ -11,7 +12,8 @@ use Rattle.page_model.specs.declared.item.Sample.{Sample}
 use Rattle.page_model.specs.declared.page.Quantile.{Quantile}
 use Rattle.page_model.specs.Written.{Setting}
 use Rattle.page_model.specs.Rules.{is_open_metrics, is_histogram, is_summary, is_bucket, is_count, has_suffix, sample_group}
-use Rattle.page_model.specs.Readings.{bucket_of, quantile_of}
+use Rattle.page_model.specs.Readings.{bucket_of, quantile_of, stamp_nanos, within_time}
+use Rattle.sample_groups.specs.declared.member.Member.{Member}
 use Rattle.sample_groups.specs.declared.part.Part.{Part}
 use Rattle.sample_groups.specs.declared.part.Part.TheVariants as parts
 
@@ -39,6 +41,18 @@ part_of family s =
     else if has_suffix family (codes "_created") s then parts.Created s.value
     else parts.Sum s.value
 
--- a sample by the labels of its group and its part there
-abbrev pub entry_of : Setting → Kind → List ℕ → Sample → LabelSet × Part
-entry_of st kind family s = (sample_group st kind family s, part_of family s)
+-- the time that a stamp writes down, where it is one from 1970 on and no later than the latest
+abbrev pub stamped_time : Format → Number → Option ℕ
+stamped_time f stamp = stamp_nanos f stamp >>= within_time
+
+-- the time of a sample's line
+abbrev pub sample_time : Format → Sample → Option ℕ
+sample_time f s = s.stamp >>= stamped_time f
+
+-- what a sample gives its group
+abbrev pub member_of : Format → List ℕ → Sample → Member
+member_of f family s = record { part = part_of family s; time = sample_time f s; exemplar = s.exemplar }
+
+-- a sample by the labels of its group and what it gives that
+abbrev pub entry_of : Setting → Kind → List ℕ → Sample → LabelSet × Member
+entry_of st kind family s = (sample_group st kind family s, member_of st.format family s)

@@ -1,18 +1,20 @@
 //! What the samples of one group come to.
-ghost use Rattle.std.specs.Prelude.{◌≡◌, true, not, Some, IfOk};
+ghost use Rattle.std.specs.Prelude.{◌≡◌, [], true, not, None, Some, IfOk, OnOk};
+ghost use Rattle.std.specs.Option.{option_flatten};
 ghost use Rattle.label_sets.specs.declared.kind.Kind.TheVariants.{Counter, Summary, Histogram};
 ghost use Rattle.page_model.specs.Rules.{is_up};
 ghost use Rattle.sample_groups.specs.declared.part.Part.TheVariants as parts;
-ghost use Rattle.sample_groups.specs.Groups.{empty_group, with_one, breaks_order, breaks_last, is_whole_group, group_from, group_value};
+ghost use Rattle.sample_groups.specs.Groups.{empty_group, with_one, breaks_order, breaks_last, is_whole_group, group_of, group_value};
 ghost use Rattle.sample_groups.specs.Places.{has_place};
 
+use crate::extra::Extra;
+use crate::member::Member;
 use crate::part::Part;
 use crate::part_list::PartList;
-use crate::parts;
-use crate::places::{Places, more_places};
+use crate::{extra, parts};
 use exact_decimal::{Decimal, Number, less};
 use label_sets::{Kind, List, Memory};
-use page_model::{Bucket, Quantile, Value};
+use page_model::{Bucket, Exemplar, Value};
 use std::alloc::Global;
 use std::marker::Model;
 use std::mem;
@@ -23,8 +25,8 @@ use std::mem;
 pub(crate) struct Group {
     /// Its samples, in the order of their lines.
     parts: PartList,
-    /// The places of its quantiles, where they are too many to be looked through.
-    places: Option<Box<Places>>,
+    /// What few groups have.
+    extra: Option<Box<Extra>>,
 }
 
 // A summary may have as many groups as lines.
@@ -32,14 +34,16 @@ const _: () = prove!(mem::size_of::<Group>() <= 88);
 
 impl Model for Group {
     ghost use Rattle.std.specs.Prelude.{filter_map};
-    ghost use Rattle.sample_groups.specs.Groups.{Gathered, quantile_in, group_from};
+    ghost use Rattle.sample_groups.specs.Groups.{Gathered, quantile_in};
+    ghost use Rattle.sample_groups.specs.ExtraValues.{group_kept};
+    ghost use Rattle.sample_groups.specs.Extras.{extra_in};
     ghost use Rattle.sample_groups.specs.Kept.{KnowsPlaces};
 
     ghost Value = { Gathered };
 
-    ghost view = { λ g. group_from g.parts };
+    ghost view = { λ g. group_kept g.parts (extra_in g.extra) };
 
-    ghost invariant = { λ g. KnowsPlaces g.places (filter_map quantile_in g.parts) };
+    ghost invariant = { λ g. KnowsPlaces (extra_in g.extra).places (filter_map quantile_in g.parts) };
 }
 
 /// Whether the bucket isn't above the last one, or has fewer observations (OpenMetrics 1.0, "Histogram").
@@ -60,9 +64,9 @@ fn is_unbounded(bucket: &Bucket) -> bool
 }
 
 /// The value of a counter's group, where it has a total.
-#[tactic(auto, unfolding(crate::specs::Groups::group_from))]
+#[tactic(auto, unfolding(crate::specs::Groups::group_of))]
 fn total_value(parts: &[Part]) -> Option<Value>
-    ensures { result ≡ group_value Counter (group_from parts.now) }
+    ensures { result ≡ group_value Counter (group_of parts.now None []) }
 {
     match parts::first_total(parts) {
         Some(total) => Some(Value::Plain(total)),
@@ -71,9 +75,9 @@ fn total_value(parts: &[Part]) -> Option<Value>
 }
 
 /// The value of a summary's group, unless that has a created time alone.
-#[tactic(auto, unfolding(crate::specs::Groups::group_from))]
+#[tactic(auto, unfolding(crate::specs::Groups::group_of))]
 fn quantiles_value(alloc: Global, parts: &[Part]) -> Result<Option<Value>, Memory>
-    ensures { IfOk result (λ value. value ≡ group_value Summary (group_from parts.now)) }
+    ensures { IfOk result (λ value. value ≡ group_value Summary (group_of parts.now None [])) }
 {
     let list = parts::quantiles(alloc, parts)?;
     let count = parts::first_count(parts);
@@ -86,32 +90,44 @@ fn quantiles_value(alloc: Global, parts: &[Part]) -> Result<Option<Value>, Memor
 }
 
 /// The value of a histogram's group.
-#[tactic(auto, unfolding(crate::specs::Groups::group_from))]
+#[tactic(auto, unfolding(crate::specs::Groups::group_of))]
 fn buckets_value(alloc: Global, parts: &[Part]) -> Result<Value, Memory>
-    ensures { IfOk result (λ value. Some value ≡ group_value Histogram (group_from parts.now)) }
+    ensures { IfOk result (λ value. Some value ≡ group_value Histogram (group_of parts.now None [])) }
 {
     let buckets = List::from_vec(parts::buckets(alloc, parts)?)?;
     let sum = parts::first_sum(parts);
     Ok(Value::Buckets { buckets, sum })
 }
 
+/// The value of a group of this kind of these parts, where they make one.
+#[tactic(auto, unfolding(crate::specs::Groups::group_of))]
+fn parts_value(alloc: Global, kind: Kind, parts: &[Part]) -> Result<Option<Value>, Memory>
+    ensures { IfOk result (λ value. value ≡ group_value kind (group_of parts.now None [])) }
+{
+    match kind {
+        Kind::Counter => Ok(total_value(parts)),
+        Kind::Summary => quantiles_value(alloc, parts),
+        _ => Ok(Some(buckets_value(alloc, parts)?)),
+    }
+}
+
 impl Group {
-    /// A group without parts. It takes no memory.
+    /// A group without members. It takes no memory.
     pub(crate) fn new() -> Group
         ensures { result ≡ empty_group }
     {
         Group {
             parts: PartList::new(),
-            places: None,
+            extra: None,
         }
     }
 
-    /// A group of one part.
-    pub(crate) fn of(alloc: Global, part: Part) -> Result<Group, Memory>
-        ensures { IfOk result (λ group. group ≡ with_one empty_group part) }
+    /// A group of one member.
+    pub(crate) fn of(alloc: Global, member: &Member) -> Result<Group, Memory>
+        ensures { IfOk result (λ group. group ≡ with_one empty_group member.now) }
     {
         let mut group = Group::new();
-        group.add(alloc, part)?;
+        group.put(alloc, member)?;
         Ok(group)
     }
 
@@ -119,64 +135,48 @@ impl Group {
     fn has_place(&self, at: &Decimal) -> bool
         ensures { result ≡ has_place self.now.quantiles at.now }
     {
-        match &self.places {
-            Some(places) => places.has(at),
-            None => parts::has_place(self.parts.as_slice(), at),
-        }
+        extra::has_place(&self.extra, self.parts.as_slice(), at)
     }
 
-    /// Adds a bucket, unless it breaks the order.
-    fn add_bucket(&mut self, alloc: Global, bucket: Bucket) -> Result<bool, Memory>
-        ensures answer { IfOk result (λ added. added ≡ not (breaks_order self.old (parts.Bucket bucket))) }
-        ensures added { IfOk result (λ added. added ≡ true → self.new ≡ with_one self.old (parts.Bucket bucket)) }
+    /// Whether a bucket breaks the order.
+    fn breaks_bucket(&self, bucket: &Bucket) -> bool
+        ensures { result ≡ breaks_order self.now (parts.Bucket bucket.now) }
     {
-        if breaks_last(parts::last_bucket(self.parts.as_slice()), &bucket) {
-            return Ok(false);
-        }
-        self.parts.put(alloc, Part::Bucket(bucket))?;
-        Ok(true)
+        breaks_last(parts::last_bucket(self.parts.as_slice()), bucket)
     }
 
-    /// Adds a quantile, unless its place is taken.
-    fn add_quantile(&mut self, alloc: Global, quantile: Quantile) -> Result<bool, Memory>
-        ensures answer { IfOk result (λ added. added ≡ not (breaks_order self.old (parts.Quantile quantile))) }
-        ensures added { IfOk result (λ added. added ≡ true → self.new ≡ with_one self.old (parts.Quantile quantile)) }
-    {
-        if self.has_place(&quantile.at) {
-            return Ok(false);
-        }
-        let places = self.places.take();
-        let places = more_places(alloc, places, self.parts.as_slice(), &quantile.at)?;
-        self.parts.put(alloc, Part::Quantile(quantile))?;
-        self.places = places;
-        Ok(true)
-    }
-
-    /// Adds a part, unless it breaks the order.
-    pub(crate) fn add(&mut self, alloc: Global, part: Part) -> Result<bool, Memory>
-        ensures answer { IfOk result (λ added. added ≡ not (breaks_order self.old part)) }
-        ensures added { IfOk result (λ added. added ≡ true → self.new ≡ with_one self.old part) }
+    /// Whether a part keeps the order.
+    fn fits(&self, part: &Part) -> bool
+        ensures { result ≡ not (breaks_order self.now part.now) }
     {
         match part {
-            Part::Bucket(bucket) => self.add_bucket(alloc, bucket),
-            Part::Quantile(quantile) => self.add_quantile(alloc, quantile),
-            Part::Sum(sum) => {
-                self.parts.put(alloc, Part::Sum(sum))?;
-                Ok(true)
-            }
-            Part::Count(count) => {
-                self.parts.put(alloc, Part::Count(count))?;
-                Ok(true)
-            }
-            Part::Total(total) => {
-                self.parts.put(alloc, Part::Total(total))?;
-                Ok(true)
-            }
-            Part::Created(created) => {
-                self.parts.put(alloc, Part::Created(created))?;
-                Ok(true)
-            }
+            Part::Bucket(bucket) => !self.breaks_bucket(bucket),
+            Part::Quantile(quantile) => !self.has_place(&quantile.at),
+            _ => true,
         }
+    }
+
+    /// Puts a member behind the others.
+    fn put(&mut self, alloc: Global, member: &Member) -> Result<(), Memory>
+        ensures { OnOk result (self.new ≡ with_one self.old member.now) }
+    {
+        let mut extra = self.extra.take();
+        extra::add_member(alloc, &mut extra, self.parts.as_slice(), member)?;
+        self.parts.put(alloc, member.part)?;
+        self.extra = extra;
+        Ok(())
+    }
+
+    /// Adds a member, unless its part breaks the order.
+    pub(crate) fn add(&mut self, alloc: Global, member: &Member) -> Result<bool, Memory>
+        ensures answer { IfOk result (λ added. added ≡ not (breaks_order self.old member.now.part)) }
+        ensures added { IfOk result (λ added. added ≡ true → self.new ≡ with_one self.old member.now) }
+    {
+        if !self.fits(&member.part) {
+            return Ok(false);
+        }
+        self.put(alloc, member)?;
+        Ok(true)
     }
 
     /// Whether the last bucket has no upper bound, and no count is another than that bucket's (OpenMetrics
@@ -192,22 +192,36 @@ impl Group {
     }
 
     /// When its counts began.
-    #[tactic(auto, unfolding(crate::specs::Groups::group_from))]
+    #[tactic(auto, unfolding(crate::specs::Groups::group_of))]
     pub(crate) fn created_time(&self) -> Option<Number>
         ensures { result ≡ self.now.created }
     {
         parts::first_created(self.parts.as_slice())
     }
 
-    /// The value of the group's reading, where its samples make one.
-    pub(crate) fn into_value(self, alloc: Global, kind: Kind) -> Result<Option<Value>, Memory>
-        ensures { IfOk result (λ value. value ≡ group_value kind self) }
+    /// The time of its first sample that is more than a created time, where that has one.
+    pub(crate) fn time(&self) -> Option<u64>
+        ensures { result ≡ option_flatten self.now.first }
     {
-        let parts = self.parts.as_slice();
-        match kind {
-            Kind::Counter => Ok(total_value(parts)),
-            Kind::Summary => quantiles_value(alloc, parts),
-            _ => Ok(Some(buckets_value(alloc, parts)?)),
+        if !parts::has_measure(self.parts.as_slice()) {
+            return None;
         }
+        extra::kept_time(&self.extra)
+    }
+
+    /// The value of the group's reading, where its samples make one.
+    pub(crate) fn value(&self, alloc: Global, kind: Kind) -> Result<Option<Value>, Memory>
+        ensures { IfOk result (λ value. value ≡ group_value kind self.now) }
+    {
+        parts_value(alloc, kind, self.parts.as_slice())
+    }
+
+    /// The exemplars of its totals and buckets, in the order of their lines.
+    pub(crate) fn into_exemplars(self, alloc: Global) -> Result<List<Exemplar>, Memory>
+        ensures { IfOk result (λ exemplars. exemplars ≡ self.exemplars) }
+    {
+        let Group { parts, extra } = self;
+        drop(parts);
+        extra::kept_exemplars(alloc, extra)
     }
 }

@@ -12,7 +12,7 @@ ghost use Rattle.sample_groups.specs.Placing.{HasPlace};
 use crate::added::Added;
 use crate::group::Group;
 use crate::group_labels::GroupLabels;
-use crate::part::Part;
+use crate::member::Member;
 use crate::reading::put_reading;
 use crate::shared::{are_shared, shared_labels};
 use label_sets::{Kind, LabelSet, List, Memory, Name, Text};
@@ -33,7 +33,7 @@ struct CachedGroup {
 pub(crate) struct GroupTable {
     sets: GroupLabels,
     groups: Vec<Group>,
-    /// The group of the last part: the next part is mostly of the same group.
+    /// The group of the last member: the next one is mostly of the same group.
     nearest: Option<CachedGroup>,
 }
 
@@ -195,21 +195,21 @@ impl GroupTable {
         Ok(())
     }
 
-    /// Adds a part of a sample of this kind with these labels to its group, unless it breaks the order of
-    /// the group.
+    /// Adds what a sample of this kind with these labels gives to its group, unless its part breaks the order
+    /// of the group.
     pub(crate) fn add(
         &mut self,
         alloc: Global,
         kind: Kind,
         labels: &LabelSet,
-        part: Part,
+        member: &Member,
     ) -> Result<Added, Memory>
-        ensures { IfOk result (AddsPart kind labels.now part self.old self.new) }
+        ensures { IfOk result (AddsPart kind labels.now member.now self.old self.new) }
     {
         let place = self.place_from(alloc, kind, labels)?;
         let count = self.groups.len();
         let overtaken = place + 1 < count;
-        let fits = self.groups[place].add(alloc, part)?;
+        let fits = self.groups[place].add(alloc, member)?;
         Ok(Added { fits, overtaken })
     }
 

@@ -9,7 +9,7 @@ ghost use Rattle.sample_groups.specs.Groups.{Gathered, with_part, known_group, o
 use crate::added::Added;
 use crate::group::Group;
 use crate::group_table::GroupTable;
-use crate::part::Part;
+use crate::member::Member;
 use crate::reading::{key_name, put_reading};
 use crate::shared::{are_shared, shared_labels};
 use label_sets::{Kind, LabelSet, List, Memory, Name, Text};
@@ -114,21 +114,21 @@ fn push_in(
     }
 }
 
-/// Adds a part of a sample of this kind with these labels to a family's only group, unless it breaks the order of the
-/// group. Nothing is answered, and nothing done, where the sample is of another group.
+/// Adds what a sample of this kind with these labels gives to a family's only group, unless its part breaks the order of
+/// the group. Nothing is answered, and nothing done, where the sample is of another group.
 fn add_to(
     alloc: Global,
     only: &mut OnlyGroup,
     kind: Kind,
     labels: &LabelSet,
-    part: &Part,
+    member: &Member,
 ) -> Result<Option<Added>, Memory>
-    ensures own { IfOk result (λ added. IfSome added (AddsPart kind labels.now part.now (only_in only.old) (only_in only.new))) }
+    ensures own { IfOk result (λ added. IfSome added (AddsPart kind labels.now member.now (only_in only.old) (only_in only.new))) }
     ensures new { IfOk result (λ added. IfNone added (known_group (only_in only.old) (shared_labels kind labels.now) ≡ None)) }
     ensures same { IfOk result (λ added. IfNone added (only_in only.new ≡ only_in only.old)) }
 {
     if are_shared(kind, labels, &only.labels) {
-        let fits = only.group.add(alloc, *part)?;
+        let fits = only.group.add(alloc, member)?;
         return Ok(Some(Added {
             fits,
             overtaken: false,
@@ -137,24 +137,24 @@ fn add_to(
     Ok(None)
 }
 
-/// Adds a part of a sample of this kind with these labels to its group, unless it breaks the order of the group.
+/// Adds what a sample of this kind with these labels gives to its group, unless its part breaks the order of the group.
 /// Nothing is answered, and nothing done, where it is plain that its group has not begun.
 fn add_in(
     alloc: Global,
     store: &mut Store,
     kind: Kind,
     labels: &LabelSet,
-    part: &Part,
+    member: &Member,
 ) -> Result<Option<Added>, Memory>
-    ensures own { IfOk result (λ added. IfSome added (AddsPart kind labels.now part.now (groups_in store.old) (groups_in store.new))) }
+    ensures own { IfOk result (λ added. IfSome added (AddsPart kind labels.now member.now (groups_in store.old) (groups_in store.new))) }
     ensures new { IfOk result (λ added. IfNone added (known_group (groups_in store.old) (shared_labels kind labels.now) ≡ None)) }
     ensures same { IfOk result (λ added. IfNone added (groups_in store.new ≡ groups_in store.old)) }
 {
     match store {
         Store::Nothing => Ok(None),
-        Store::One(only) => add_to(alloc, only, kind, labels, part),
+        Store::One(only) => add_to(alloc, only, kind, labels, member),
         Store::Many(table) => {
-            let added = table.add(alloc, kind, labels, *part)?;
+            let added = table.add(alloc, kind, labels, member)?;
             Ok(Some(added))
         }
     }
@@ -193,7 +193,7 @@ impl Groups {
         }
     }
 
-    /// Begins a group with a part of a sample whose labels are those of no group. All labels of the sample are the
+    /// Begins a group with what a sample gives whose labels are those of no group. All labels of the sample are the
     /// group's: none tells it apart from others of its group, as with counters. They are packed already
     /// where a key was `seen` last that has them; otherwise they live on beside the groups, and are shared.
     /// Nothing is said of the groups any more where memory was wanted.
@@ -205,18 +205,18 @@ impl Groups {
         &mut self,
         alloc: Global,
         labels: &LabelSet,
-        part: Part,
+        member: &Member,
         seen: Option<&SeenKeys>,
     ) -> Result<(), Memory>
         requires seen { IfSome seen (λ keys. EndsWith keys.now labels.now) }
         requires new { known_group self.old labels.now ≡ None }
-        ensures { OnOk result (self.new ≡ with_part self.old labels.now part) }
+        ensures { OnOk result (self.new ≡ with_part self.old labels.now member.now) }
     {
-        let group = Group::of(alloc, part)?;
+        let group = Group::of(alloc, member)?;
         push_in(alloc, &mut self.store, labels, group, seen)
     }
 
-    /// Adds a part of a sample with these labels to its group, unless it breaks the order of the group: a
+    /// Adds what a sample with these labels gives to its group, unless its part breaks the order of the group: a
     /// bucket that isn't above the last one, or has fewer observations, or a quantile that the group has
     /// already. Where it was not added, nothing is said of the groups any more. Also answers whether the
     /// group is overtaken.
@@ -229,18 +229,18 @@ impl Groups {
         alloc: Global,
         kind: Kind,
         labels: &LabelSet,
-        part: Part,
+        member: &Member,
     ) -> Result<Added, Memory>
-        ensures answer { IfOk result (λ added. added.fits ≡ not (breaks_order (or_empty (known_group self.old (shared_labels kind labels.now))) part)) }
+        ensures answer { IfOk result (λ added. added.fits ≡ not (breaks_order (or_empty (known_group self.old (shared_labels kind labels.now))) member.now.part)) }
         ensures overtaken { IfOk result (λ added. added.overtaken ≡ is_overtaken self.old (shared_labels kind labels.now)) }
-        ensures added { IfOk result (λ added. added.fits ≡ true → self.new ≡ with_part self.old (shared_labels kind labels.now) part) }
+        ensures added { IfOk result (λ added. added.fits ≡ true → self.new ≡ with_part self.old (shared_labels kind labels.now) member.now) }
     {
-        let known = add_in(alloc, &mut self.store, kind, labels, &part)?;
+        let known = add_in(alloc, &mut self.store, kind, labels, member)?;
         match known {
             Some(added) => Ok(added),
             None => {
                 let shared = shared_labels(alloc, kind, labels)?;
-                self.begin(alloc, &shared, part, None)?;
+                self.begin(alloc, &shared, member, None)?;
                 Ok(Added {
                     fits: true,
                     overtaken: false,

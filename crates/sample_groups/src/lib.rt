@@ -3,10 +3,12 @@
 #![tactic(auto)]
 
 mod added;
+mod extra;
 mod group;
 mod group_labels;
 mod group_table;
 mod groups;
+mod member;
 mod part;
 mod part_list;
 mod parts;
@@ -16,4 +18,5 @@ mod shared;
 
 pub use added::Added;
 pub use groups::Groups;
+pub use member::{Member, sample_time};
 pub use part::{Part, is_grouped, part_of};

@@ -29,7 +29,7 @@ pub enum Part {
 }
 
 impl Part {
-    ghost use Rattle.sample_groups.specs.Groups.{bucket_in, quantile_in, sum_in, count_in, total_in, created_in};
+    ghost use Rattle.sample_groups.specs.Groups.{bucket_in, quantile_in, sum_in, count_in, total_in, created_in, is_measure, bears_exemplar};
 
     /// The bucket that it is.
     pub(crate) fn bucket(&self) -> Option<Bucket>
@@ -78,6 +78,27 @@ impl Part {
         match self {
             Part::Total(total) => Some(*total),
             _ => None,
+        }
+    }
+
+    /// Whether it is more than a created time.
+    pub(crate) fn is_measure(&self) -> bool
+        ensures { result ≡ is_measure self.now }
+    {
+        match self {
+            Part::Created(_) => false,
+            _ => true,
+        }
+    }
+
+    /// Whether it may have an exemplar (OpenMetrics 1.0, "Exemplars").
+    pub(crate) fn bears_exemplar(&self) -> bool
+        ensures { result ≡ bears_exemplar self.now }
+    {
+        match self {
+            Part::Bucket(_) => true,
+            Part::Total(_) => true,
+            _ => false,
         }
     }
 

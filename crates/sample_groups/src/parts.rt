@@ -5,7 +5,7 @@ ghost use Rattle.label_sets.specs.Lists.{first_some, some_passes};
 ghost use Rattle.exact_decimal.specs.declared.number.Number.TheVariants.{Finite};
 ghost use Rattle.exact_decimal.specs.Order.{same};
 ghost use Rattle.page_model.specs.declared.page.Quantile.{Quantile as AnyQuantile};
-ghost use Rattle.sample_groups.specs.Groups.{bucket_in, quantile_in, sum_in, count_in, total_in, created_in};
+ghost use Rattle.sample_groups.specs.Groups.{bucket_in, quantile_in, sum_in, count_in, total_in, created_in, is_measure};
 ghost use Rattle.sample_groups.specs.Places.{has_place};
 
 use crate::part::Part;
@@ -79,6 +79,18 @@ pub(crate) fn first_created(parts: &[Part]) -> Option<Number>
         }
     }
     None
+}
+
+/// Whether one of them is more than a created time.
+pub(crate) fn has_measure(parts: &[Part]) -> bool
+    ensures { result ≡ list_any is_measure parts.now }
+{
+    for part in parts {
+        if part.is_measure() {
+            return true;
+        }
+    }
+    false
 }
 
 /// Whether each count is this one.

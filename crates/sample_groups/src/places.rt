@@ -1,5 +1,5 @@
 //! The places of a summary's quantiles, found in their order.
-ghost use Rattle.std.specs.Prelude.{◌≡◌, [], ◌∷◌, ◌++◌, ◌||◌, filter_map, IfOk, OnOk};
+ghost use Rattle.std.specs.Prelude.{◌≡◌, [], ◌||◌, filter_map, IfOk, OnOk};
 ghost use Rattle.exact_decimal.specs.declared.number.Number.{Number as AnyNumber};
 ghost use Rattle.exact_decimal.specs.declared.number.Number.TheVariants.{Finite};
 ghost use Rattle.exact_decimal.specs.Decimals.{DecimalValue};
@@ -7,7 +7,7 @@ ghost use Rattle.exact_decimal.specs.Order.{same};
 ghost use Rattle.sample_groups.specs.Places.{is_place_in};
 ghost use Rattle.sample_groups.specs.Places.{HasPlacesOf};
 ghost use Rattle.sample_groups.specs.Groups.{quantile_in};
-ghost use Rattle.sample_groups.specs.Kept.{KnowsPlaces};
+ghost use Rattle.sample_groups.specs.Kept.{KnowsPlaces, with_place};
 
 use crate::part::Part;
 use exact_decimal::{Decimal, compare};
@@ -122,7 +122,7 @@ impl Places {
 }
 
 /// Up to so many parts are looked through for a place; then their places are kept beside them.
-const FEW_PARTS: usize = 16;
+pub(crate) const FEW_PARTS: usize = 16;
 
 /// The places of the quantiles among these parts.
 fn places_of(alloc: Global, parts: &[Part]) -> Result<Places, Memory>
@@ -140,12 +140,12 @@ fn places_of(alloc: Global, parts: &[Part]) -> Result<Places, Memory>
 /// The places with one more, where they are kept, or now are because there are many parts.
 pub(crate) fn more_places(
     alloc: Global,
-    places: Option<Box<Places>>,
+    places: Option<Places>,
     parts: &[Part],
     at: &Decimal,
-) -> Result<Option<Box<Places>>, Memory>
+) -> Result<Option<Places>, Memory>
     requires { KnowsPlaces places (filter_map quantile_in parts.now) }
-    ensures { (value : AnyNumber) → IfOk result (λ more. KnowsPlaces more (filter_map quantile_in parts.now ++ record { at = at.now; value = value } ∷ [])) }
+    ensures { (value : AnyNumber) → IfOk result (λ more. KnowsPlaces more (with_place parts.now at.now value)) }
 {
     match places {
         Some(mut places) => {
@@ -156,7 +156,7 @@ pub(crate) fn more_places(
         None => {
             let mut places = places_of(alloc, parts)?;
             places.insert(at)?;
-            Ok(Some(Box::new(alloc, places)?))
+            Ok(Some(places))
         }
     }
 }

@@ -6,7 +6,7 @@ ghost use Rattle.page_model.specs.SuffixNames.{suffix_bytes};
 ghost use Rattle.sample_groups.specs.Groups.{reading_named};
 
 use crate::group::Group;
-use label_sets::{Kind, LabelSet, List, Memory, Name, SeriesKey, Text};
+use label_sets::{Kind, LabelSet, Memory, Name, SeriesKey, Text};
 use page_model::{Format, Reading, Suffix};
 use std::alloc::Global;
 
@@ -51,9 +51,12 @@ pub(crate) fn put_reading(
     ensures { OnOk result (readings.new.items ≡ readings.old.items ++ cons_option (reading_named kind name.now unit.now (labels, group)) []) }
 {
     let created = group.created_time();
-    let value = group.into_value(alloc, kind)?;
+    let stamp = group.time();
+    let value = group.value(alloc, kind)?;
+    let exemplars = group.into_exemplars(alloc)?;
     let Some(value) = value else {
         drop(labels);
+        drop(exemplars);
         return Ok(());
     };
     let name = name.copy()?;
@@ -67,8 +70,8 @@ pub(crate) fn put_reading(
         },
         value,
         created,
-        stamp: None,
-        exemplars: List::new(alloc),
+        stamp,
+        exemplars,
     })?;
     Ok(())
 }

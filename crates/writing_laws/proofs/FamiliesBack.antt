@@ -41,7 +41,7 @@ use Rattle.writing_laws.proofs.Fair.{fair_reading}
 use Rattle.writing_laws.proofs.ValuesRead.{value_back}
 use Rattle.writing_laws.proofs.PagesFree.{reading_filled, owned_page}
 use Rattle.writing_laws.proofs.Heads.{descriptors, family_parts, one_more}
-use Rattle.page_model.proofs.Laws.{label_sets_decide}
+use Rattle.page_model.proofs.Laws.{label_sets_decide, no_stamp, none_given}
 
 module _ (limit : ℕ) where
   -- how the page is read
@@ -89,26 +89,31 @@ module _ (limit : ℕ) where
     -- the samples of one of them are a reading
     one_reading : (samples : List Sample) (r : Reading) → Formed r → IsBareReading r → filter (λ s. label_sets_eq (reading_labels st kind family s) r.key.labels) samples ≡ reading_samples kind family r
         → reading_of st kind family unit samples r.key.labels ≡ Some r
-    unfolding reading_of stamp_of exemplars_of reading_samples
+    unfolding reading_of reading_samples
     one_reading samples r f bare e =
         let made : List Sample → Option Reading = λ own. option_map (λ value. record {
           key = record { name = key_name OpenMetrics kind family; kind = kind; unit = unit; labels = r.key.labels };
           value = value;
           created = value_with family (codes "_created") own;
-          stamp = None;
-          exemplars = [];
+          stamp = stamp_of OpenMetrics family own;
+          exemplars = exemplars_of kind family own;
         }) (value_of OpenMetrics kind family own) in
         let said = value_back family r.key.labels kind r.value r.created f.value f.created in
         let all : List Sample = value_samples kind family r.key.labels r.value ++ number_sample (family ++ codes "_created") r.key.labels r.created in
+        let fair : AllByRecursion (IsFair limit kind family r.key.labels) all = fair_reading limit family kind unit r name f in
+        let stamp : stamp_of OpenMetrics family all ≡ None =
+        no_stamp OpenMetrics family all (all-weaker (IsFair limit kind family r.key.labels) (λ s. s.stamp ≡ None) (λ s h. h.can.no_stamp) all fair) in
+        let exemplars : exemplars_of kind family all ≡ [] =
+        none_given kind family all (all-weaker (IsFair limit kind family r.key.labels) (λ s. s.exemplar ≡ None) (λ s h. h.can.no_exemplar) all fair) in
         ap made e
         ∙ ap (option_map (λ (value : Value). record {
           key = record { name = key_name OpenMetrics kind family; kind = kind; unit = unit; labels = r.key.labels };
           value = value;
           created = value_with family (codes "_created") all;
-          stamp = None;
-          exemplars = [];
+          stamp = stamp_of OpenMetrics family all;
+          exemplars = exemplars_of kind family all;
         })) said.0
-        ∙ (λ i. Some (record { key = sym f.key i; value = r.value; created = said.1 i; stamp = sym bare.no_stamp i; exemplars = sym bare.no_exemplars i }))
+        ∙ (λ i. Some (record { key = sym f.key i; value = r.value; created = said.1 i; stamp = (stamp ∙ sym bare.no_stamp) i; exemplars = (exemplars ∙ sym bare.no_exemplars) i }))
 
     gives : (samples : List Sample) (rs : List Reading) (f : AllByRecursion Formed rs) → AllByRecursion IsBareReading rs
         → AllByRecursion (λ p. filter (λ s. label_sets_eq (reading_labels st kind family s) p.labels) samples ≡ samples_in p) (parts_of rs f) → GiveReadings (reading_of st kind family unit samples) rs

@@ -282,7 +282,7 @@ module _ (family : List ℕ) where
           key = record { name = key_name st.format kind family; kind = kind; unit = unit; labels = labels };
           value = value;
           created = value_with family (codes "_created") own;
-          stamp = stamp_of st.format kind family own;
+          stamp = stamp_of st.format family own;
           exemplars = exemplars_of kind family own;
         } in
         let told = made_lines made (value_with family (codes "_created") own) (λ v. refl) (value_of st.format kind family own) in

@@ -228,7 +228,7 @@ module _ (st : Setting) (kind : Kind) (family unit : List ℕ) (samples : List S
       own = filter (λ s. label_sets_eq (reading_labels st kind family s) labels) samples
 
       made : Value → Reading
-      made v = record { key = record { name = key_name st.format kind family; kind = kind; unit = unit; labels = labels }; value = v; created = value_with family (codes "_created") own; stamp = stamp_of st.format kind family own; exemplars = exemplars_of kind family own }
+      made v = record { key = record { name = key_name st.format kind family; kind = kind; unit = unit; labels = labels }; value = v; created = value_with family (codes "_created") own; stamp = stamp_of st.format family own; exemplars = exemplars_of kind family own }
 
       go : (o : Option Value) → option_map made o ≡ Some r → r.key.labels ≡ labels
       go None f = absurd cc
@@ -256,7 +256,7 @@ module _ (st : Setting) (kind : Kind) (family unit : List ℕ) (samples : List S
       own = filter (λ s. label_sets_eq (reading_labels st kind family s) labels) samples
 
       made : Value → Reading
-      made v = record { key = record { name = key_name st.format kind family; kind = kind; unit = unit; labels = labels }; value = v; created = value_with family (codes "_created") own; stamp = stamp_of st.format kind family own; exemplars = exemplars_of kind family own }
+      made v = record { key = record { name = key_name st.format kind family; kind = kind; unit = unit; labels = labels }; value = v; created = value_with family (codes "_created") own; stamp = stamp_of st.format family own; exemplars = exemplars_of kind family own }
 
       go : (o : Option Value) → value_of st.format kind family own ≡ o → option_map made o ≡ Some r → IsFormedReading st.format st.treatment kind family unit r
       go None g f = absurd cc

@@ -1,8 +1,9 @@
 //! Lines of samples: of the family that goes on, and of one that they begin.
-ghost use Rattle.std.specs.Prelude.{◌≡◌, true, false, IfOk};
+ghost use Rattle.std.specs.Prelude.{◌≡◌, None, true, false, IfOk};
+ghost use Rattle.label_sets.specs.declared.kind.Kind.TheVariants as kinds;
 ghost use Rattle.page_model.specs.declared.item.Item.TheVariants as items;
-ghost use Rattle.family_rules.specs.Steps.{Takes, left_stop};
-ghost use Rattle.family_rules.specs.Samples.{TellsPart, is_current_sample, has_bad_exemplar, told_left, labels_stop, name_stop};
+ghost use Rattle.family_rules.specs.Steps.{Takes, begun, left_stop};
+ghost use Rattle.family_rules.specs.Samples.{TellsPart, is_current_sample, has_bad_exemplar, told_left, add_stop, with_added, labels_stop, name_stop};
 
 use super::ItemChecker;
 use crate::exemplars::is_bad_exemplar;
@@ -66,7 +67,8 @@ impl ItemChecker {
         }
         let kind = self.current_kind();
         let told = self.part_or_rule(kind, &sample);
-        self.add_sample(kind, sample, told)
+        let line = self.keyed(kind, sample, told)?;
+        self.add_sample(line)
     }
 
     /// The rule that a sample with these labels breaks, of the current family, whose name its kind doesn't allow: 12
@@ -109,6 +111,28 @@ impl ItemChecker {
         rule
     }
 
+    /// Begins the family of the sample's own name with it, of which this was told, and answers the rule that it breaks.
+    fn begin_with(
+        &mut self,
+        sample: Sample,
+        told: Result<Option<Part>, Rule>,
+    ) -> Result<Option<Rule>, Memory>
+        ensures broken { IfOk result (λ answer. answer ≡ add_stop (begun self.old sample.name) kinds.Unknown sample told) }
+        ensures added { IfOk result (λ answer. answer ≡ None → self.new ≡ with_added (begun self.old sample.name) kinds.Unknown sample told) }
+    {
+        let family = sample.name.copy()?;
+        match self.begin(family) {
+            Ok(()) => {
+                let line = self.keyed(Kind::Unknown, sample, told)?;
+                self.add_sample(line)
+            }
+            Err(fault) => {
+                drop(sample);
+                Err(fault)
+            }
+        }
+    }
+
     /// Takes a sample that is of the family of its own name, and answers the rule that it breaks.
     fn take_other(&mut self, sample: Sample) -> Result<Option<Rule>, Memory>
         requires { is_current_sample self.now.setting.format self.now.current sample.name ≡ false }
@@ -128,14 +152,7 @@ impl ItemChecker {
             return Ok(Some(Rule::Split));
         }
         let told = self.no_part_or_rule();
-        let family = sample.name.copy()?;
-        match self.begin(family) {
-            Ok(()) => self.add_sample(Kind::Unknown, sample, told),
-            Err(fault) => {
-                drop(sample);
-                Err(fault)
-            }
-        }
+        self.begin_with(sample, told)
     }
 
     /// Takes a sample line, and answers the rule that it breaks.

@@ -1,26 +1,27 @@
 //! Samples of the family that goes on.
 ghost use Rattle.std.specs.Prelude.{◌≡◌, Ok, Some, None, true, false, is_some, map, IfOk, IfSome, OnOk};
-ghost use Rattle.exact_decimal.specs.declared.number.Number.{Number as AnyNumber};
 ghost use Rattle.packed_keys.specs.declared.sample_key.SampleKey.{SampleKey as AnyKey};
 ghost use Rattle.sample_groups.specs.LastSeen.{EndsWith};
 ghost use Rattle.label_sets.specs.declared.kind.Kind.TheVariants as kinds;
 ghost use Rattle.page_model.specs.Owners.{kept_labels};
 ghost use Rattle.page_model.specs.Rules.{is_open_metrics};
+ghost use Rattle.family_rules.specs.declared.timed_values.TimedValue.{TimedValue as AnyValue};
 ghost use Rattle.family_rules.specs.KeyedValues.{is_key_of, is_passed, samples_at_end};
 ghost use Rattle.family_rules.specs.GroupRuns.{has_runs};
 ghost use Rattle.family_rules.specs.GroupKeys.{IsNewGroup, NameTells};
 ghost use Rattle.family_rules.specs.Steps.{current_with, with_current};
-ghost use Rattle.family_rules.specs.Samples.{current_samples, own_samples, with_seen, is_overtaken_in, is_back_in_groups, AnswersTold, with_counted, with_part_in, with_part_at, with_told, fits_order, is_back, entered_by, with_sample, with_added, seen_rule, sample_stop, key_stop, with_key, add_stop};
+ghost use Rattle.family_rules.specs.Samples.{current_samples, own_samples, with_seen, is_overtaken_in, is_back_in_groups, AnswersTold, with_counted, with_part_in, with_part_at, with_told, fits_order, is_back, entered_by, with_sample, seen_rule, sample_stop, key_stop, with_key, keyed_sample};
 
 use super::ItemChecker;
 use crate::family::Current;
 use crate::group_keys::GroupKeys;
+use crate::keyed_sample::{KeyedSample, with_member};
 use crate::runs::{group_labels, has_own_runs, is_alone};
-use exact_decimal::Number;
+use crate::timed_values::TimedValue;
 use label_sets::{Kind, LabelSet, Memory, Name};
 use packed_keys::{SampleKey, SeenKeys};
 use page_model::{Format, Rule, Sample, Treatment};
-use sample_groups::{Added, Part, is_grouped};
+use sample_groups::{Added, Member, Part, is_grouped, sample_time};
 use std::alloc::Global;
 
 /// What is told of a sample by the groups of the current family.
@@ -32,20 +33,20 @@ pub(crate) struct Told {
     pub broken: Option<Rule>,
 }
 
-/// Begins a group of the current family, a counter, with a part of a sample with these labels.
+/// Begins a group of the current family, a counter, with what a sample with these labels gives.
 fn begin_in(
     alloc: Global,
     current: &mut Option<Current>,
     labels: &LabelSet,
-    part: Part,
+    member: &Member,
     seen: Option<&SeenKeys>,
 ) -> Result<(), Memory>
     requires new { IsNewGroup current.old labels.now }
     requires seen { IfSome seen (λ keys. EndsWith keys.now labels.now) }
-    ensures { OnOk result (current.new ≡ current_with (with_part_in kinds.Counter labels.now part) current.old) }
+    ensures { OnOk result (current.new ≡ current_with (with_part_in kinds.Counter labels.now member.now) current.old) }
 {
     match current {
-        Some(current) => current.family.groups.begin(alloc, labels, part, seen),
+        Some(current) => current.family.groups.begin(alloc, labels, member, seen),
         None => Ok(()),
     }
 }
@@ -121,7 +122,7 @@ impl ItemChecker {
         &mut self,
         own: u32,
         key: SampleKey,
-        value: Number,
+        value: TimedValue,
         broken: Option<Rule>,
     ) -> Result<Option<Rule>, Memory>
         ensures broken { IfOk result (λ answer. answer ≡ sample_stop self.old own key broken) }
@@ -188,17 +189,22 @@ impl ItemChecker {
         }
     }
 
-    /// Adds a part to its group in the current family, unless it breaks rule 17, and answers whether it goes back
-    /// to it.
-    fn add_part(&mut self, kind: Kind, labels: &LabelSet, part: Part) -> Result<Added, Memory>
-        ensures answer { IfOk result (λ added. added.fits ≡ fits_order kind labels.now part self.old.current) }
-        ensures overtaken { IfOk result (λ added. added.overtaken ≡ is_overtaken_in kind labels.now self.old.current) }
-        ensures added { IfOk result (λ added. added.fits ≡ true → self.new ≡ with_part_at self.old kind labels.now part) }
+    /// Adds what a sample gives its group in the current family, unless its part breaks rule 17, and answers whether it
+    /// goes back to it.
+    fn add_part(&mut self, line: &KeyedSample, member: &Member) -> Result<Added, Memory>
+        ensures answer { IfOk result (λ added. added.fits ≡ fits_order line.now.kind line.now.key.labels member.now.part self.old.current) }
+        ensures overtaken { IfOk result (λ added. added.overtaken ≡ is_overtaken_in line.now.kind line.now.key.labels self.old.current) }
+        ensures added { IfOk result (λ added. added.fits ≡ true → self.new ≡ with_part_at self.old line.now.kind line.now.key.labels member.now) }
         ensures rest { OnOk result (self.new ≡ with_current self.old self.new.current) }
     {
         self.group_keys = GroupKeys::Unknown;
         match &mut self.current {
-            Some(current) => current.family.groups.add(self.alloc, kind, labels, part),
+            Some(current) => {
+                current
+                    .family
+                    .groups
+                    .add(self.alloc, line.kind, &line.key.labels, member)
+            }
             None => Ok(Added {
                 fits: true,
                 overtaken: false,
@@ -226,19 +232,14 @@ impl ItemChecker {
     }
 
     /// Adds what was told of a sample to the current family, or answers the rule that it breaks: 12, 15 to 18.
-    fn add_told(
-        &mut self,
-        kind: Kind,
-        labels: &LabelSet,
-        told: Result<Option<Part>, Rule>,
-    ) -> Result<Told, Memory>
-        ensures told { IfOk result (λ answer. AnswersTold self.old kind labels.now told answer) }
-        ensures added { IfOk result (λ answer. answer.broken ≡ None → self.new ≡ with_told self.old kind labels.now told) }
+    fn add_told(&mut self, line: &KeyedSample) -> Result<Told, Memory>
+        ensures told { IfOk result (λ answer. AnswersTold self.old line.now.kind line.now.key.labels line.now.told answer) }
+        ensures added { IfOk result (λ answer. answer.broken ≡ None → self.new ≡ with_told self.old line.now.kind line.now.key.labels line.now.told) }
         ensures rest { OnOk result (self.new ≡ with_current self.old self.new.current) }
     {
-        match told {
-            Ok(Some(part)) => {
-                let added = self.add_part(kind, labels, part)?;
+        match &line.told {
+            Ok(Some(member)) => {
+                let added = self.add_part(line, member)?;
                 Ok(Told {
                     back: added.overtaken && self.has_order(),
                     broken: (!added.fits).then_some(Rule::Order),
@@ -249,56 +250,56 @@ impl ItemChecker {
                 broken: None,
             }),
             Err(rule) => {
-                let back = self.goes_back(kind, labels)?;
+                let back = self.goes_back(line.kind, &line.key.labels)?;
                 Ok(Told {
                     back,
-                    broken: Some(rule),
+                    broken: Some(*rule),
                 })
             }
         }
     }
 
-    /// Adds a sample of the current family with this key, of which this was told, or answers the rule that it
-    /// breaks: 12, 14 to 18 or 20.
+    /// Adds a sample of the current family, or answers the rule that it breaks: 12, 14 to 18 or 20.
     #[inline(always)]
-    fn add_keyed(
-        &mut self,
-        kind: Kind,
-        key: SampleKey,
-        value: Number,
-        told: Result<Option<Part>, Rule>,
-    ) -> Result<Option<Rule>, Memory>
-        ensures broken { IfOk result (λ answer. answer ≡ key_stop self.old kind key told) }
-        ensures added { IfOk result (λ answer. answer ≡ None → self.new ≡ with_key self.old kind key value told) }
+    fn add_keyed(&mut self, line: KeyedSample) -> Result<Option<Rule>, Memory>
+        ensures broken { IfOk result (λ answer. answer ≡ key_stop self.old line.kind line.key line.told) }
+        ensures added { IfOk result (λ answer. answer ≡ None → self.new ≡ with_key self.old line.kind line.key line.value line.told) }
     {
-        let own = self.own_samples(kind);
-        let back = self.enter(kind, &key.labels)?;
+        let own = self.own_samples(line.kind);
+        let back = self.enter(line.kind, &line.key.labels)?;
         if back {
-            drop(key);
+            drop(line);
             return Ok(Some(Rule::Interleaved));
         }
-        let met = self.add_told(kind, &key.labels, told)?;
+        let met = self.add_told(&line)?;
         if met.back {
-            drop(key);
+            drop(line);
             return Ok(Some(Rule::Interleaved));
         }
+        let KeyedSample {
+            key,
+            value,
+            told,
+            ..
+        } = line;
+        drop(told);
         self.add_key(own, key, value, met.broken)
     }
 
-    /// Begins a group of the current family with a part of a sample with this key.
-    fn begin_group(&mut self, key: SampleKey, part: Part) -> Result<(), Memory>
+    /// Begins a group of the current family with what a sample with this key gives.
+    fn begin_group(&mut self, key: SampleKey, member: &Member) -> Result<(), Memory>
         requires new { IsNewGroup self.now.current key.labels }
         requires seen { is_key_of key self.now.seen ≡ true }
-        requires last { EndsWith (map (λ (e : AnyKey × AnyNumber). e.0) self.now.seen) key.labels }
+        requires last { EndsWith (map (λ (e : AnyKey × AnyValue). e.0) self.now.seen) key.labels }
         requires tells { NameTells key.name self.now.current self.now.seen }
-        ensures { OnOk result (self.new ≡ with_part_at self.old kinds.Counter key.labels part) }
+        ensures { OnOk result (self.new ≡ with_part_at self.old kinds.Counter key.labels member.now) }
     {
         self.group_keys = GroupKeys::Unknown;
         begin_in(
             self.alloc,
             &mut self.current,
             &key.labels,
-            part,
+            member,
             self.seen.packed_keys(),
         )?;
         let SampleKey { name, labels } = key;
@@ -312,12 +313,12 @@ impl ItemChecker {
     fn add_first(
         &mut self,
         key: SampleKey,
-        value: Number,
-        part: Part,
+        value: TimedValue,
+        member: &Member,
     ) -> Result<Option<Rule>, Memory>
         requires { NameTells key.name self.now.current self.now.seen }
-        ensures broken { IfOk result (λ answer. answer ≡ key_stop self.old kinds.Counter key (Ok (Some part))) }
-        ensures added { IfOk result (λ answer. answer ≡ None → self.new ≡ with_key self.old kinds.Counter key value (Ok (Some part))) }
+        ensures broken { IfOk result (λ answer. answer ≡ key_stop self.old kinds.Counter key (Ok (Some member.now))) }
+        ensures added { IfOk result (λ answer. answer ≡ None → self.new ≡ with_key self.old kinds.Counter key value (Ok (Some member.now))) }
     {
         let first = SampleKey {
             name: key.name.copy()?,
@@ -332,7 +333,7 @@ impl ItemChecker {
             }
             return Ok(broken);
         }
-        self.begin_group(first, part)?;
+        self.begin_group(first, member)?;
         Ok(None)
     }
 
@@ -343,18 +344,17 @@ impl ItemChecker {
         matches!(kind, Kind::Counter) && self.group_keys.tell(name)
     }
 
-    /// Adds a sample of the current family, of which this was told, or answers the rule that it breaks: 12, 14
-    /// to 18 or 20.
+    /// A sample of the current family, of this kind, of which this was told.
     #[inline(always)]
-    pub(super) fn add_sample(
-        &mut self,
+    pub(super) fn keyed(
+        &self,
         kind: Kind,
         sample: Sample,
         told: Result<Option<Part>, Rule>,
-    ) -> Result<Option<Rule>, Memory>
-        ensures broken { IfOk result (λ answer. answer ≡ add_stop self.old kind sample told) }
-        ensures added { IfOk result (λ answer. answer ≡ None → self.new ≡ with_added self.old kind sample told) }
+    ) -> Result<KeyedSample, Memory>
+        ensures { IfOk result (λ line. line ≡ keyed_sample self.now kind sample told) }
     {
+        let time = sample_time(self.format, &sample);
         let Sample {
             name,
             labels,
@@ -362,15 +362,50 @@ impl ItemChecker {
             exemplar,
             ..
         } = sample;
-        drop(exemplar);
+        let given = with_member(time, exemplar, told);
         let labels = self.kept_labels(labels)?;
-        let key = SampleKey { name, labels };
-        if !self.tells_groups(kind, &key.name) {
-            return self.add_keyed(kind, key, value, told);
+        Ok(KeyedSample {
+            kind,
+            key: SampleKey { name, labels },
+            value: TimedValue { value, time },
+            told: given,
+        })
+    }
+
+    /// Adds a sample of the current family, or answers the rule that it breaks: 12, 14 to 18 or 20. Where its key tells
+    /// that its group is new, that is not looked for.
+    #[inline(always)]
+    pub(super) fn add_sample(&mut self, line: KeyedSample) -> Result<Option<Rule>, Memory>
+        ensures broken { IfOk result (λ answer. answer ≡ key_stop self.old line.kind line.key line.told) }
+        ensures added { IfOk result (λ answer. answer ≡ None → self.new ≡ with_key self.old line.kind line.key line.value line.told) }
+    {
+        if !self.tells_groups(line.kind, &line.key.name) {
+            return self.add_keyed(line);
         }
+        let KeyedSample {
+            kind,
+            key,
+            value,
+            told,
+        } = line;
         match told {
-            Ok(Some(part)) => self.add_first(key, value, part),
-            told => self.add_keyed(kind, key, value, told),
+            Ok(Some(member)) => {
+                let answer = self.add_first(key, value, &member)?;
+                drop(member);
+                Ok(answer)
+            }
+            Ok(None) => self.add_keyed(KeyedSample {
+                kind,
+                key,
+                value,
+                told: Ok(None),
+            }),
+            Err(rule) => self.add_keyed(KeyedSample {
+                kind,
+                key,
+                value,
+                told: Err(rule),
+            }),
         }
     }
 }

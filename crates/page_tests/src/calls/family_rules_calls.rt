@@ -1,7 +1,7 @@
 //! Pages that break a rule that looks at the lines above, each with the line and the rule, and pages that break none.
 use crate::calls::pages::{counts_of, page_of};
 use label_sets::Memory;
-use page_model::{Format, Page, PageCounts, PageFault, Rule};
+use page_model::{Family, Format, Page, PageCounts, PageFault, Rule};
 use std::alloc::Global;
 
 /// The line and the rule of a page's fault.
@@ -283,4 +283,51 @@ fn is_open_built(alloc: Global, expected: &str) -> Result<bool, PageFault> {
 #[test]
 fn an_open_page_is_built(rt: HostRuntime) {
     assert!(rt; is_open_built(rt.alloc(), "c 2, i 2, s 2, q 0, 8") == Ok(true));
+}
+
+/// Writes of each reading of a family its time, or 0, and how many exemplars it has.
+fn write_readings(told: &mut String, family: &Family) -> Result<(), Memory> {
+    for reading in family.readings.as_slice() {
+        let time = reading.stamp.unwrap_or(0);
+        write!(told, "{time} {}, ", reading.exemplars.len())?;
+    }
+    Ok(())
+}
+
+/// The same of each reading of a page.
+fn told(alloc: Global, page: &Page) -> Result<String, Memory> {
+    let mut told = String::new(alloc);
+    for family in page.families().as_slice() {
+        write_readings(&mut told, family)?;
+    }
+    Ok(told)
+}
+
+/// Whether the page of a text tells this of its readings.
+fn tells(alloc: Global, format: Format, text: &str, expected: &str) -> Result<bool, PageFault> {
+    let page = page_of(alloc, format, 9, text.as_bytes())?;
+    let told = told(alloc, &page);
+    drop(page);
+    Ok(told?.as_str() == expected)
+}
+
+/// Samples without a time, with one, before 1970 and of a histogram.
+const TIMED: &str =
+    "g{job=\"a\"} 1\ng{job=\"b\"} 1 1500\ng{job=\"c\"} 1\ng{job=\"d\"} 1 -1\n# TYPE h histogram\nh_bucket{le=\"1\"} 2 7\nh_bucket{le=\"+Inf\"} 2 8\n";
+
+#[test]
+fn a_page_keeps_its_times(rt: HostRuntime) {
+    let expected = "0 0, 1500000000 0, 0 0, 0 0, 7000000 0, ";
+    assert!(rt; tells(rt.alloc(), Format::Text, TIMED, expected) == Ok(true));
+}
+
+/// A created time in front of a total, buckets of which only the second has a time, and a sample without a family's
+/// lines.
+const TIMED_OPEN: &str =
+    "# TYPE c counter\nc_created 1 5\nc_total 1 2.5 # {id=\"a\"} 1 1.5\n# TYPE h histogram\nh_bucket{le=\"1\"} 2 # {} 1\nh_bucket{le=\"+Inf\"} 2 3 # {} 2\nx 1 0.25\n# EOF";
+
+#[test]
+fn an_open_page_keeps_its_times_and_exemplars(rt: HostRuntime) {
+    let expected = "2500000000 1, 0 2, 250000000 0, ";
+    assert!(rt; tells(rt.alloc(), Format::OpenMetrics, TIMED_OPEN, expected) == Ok(true));
 }

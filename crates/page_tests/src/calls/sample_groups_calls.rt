@@ -2,7 +2,7 @@
 use exact_decimal::{Number, read};
 use label_sets::{Kind, Label, LabelSet, List, Memory, Name, Text};
 use page_model::{Bucket, Format, Quantile, Reading, Rule, Sample, Value};
-use sample_groups::{Groups, is_grouped, part_of};
+use sample_groups::{Groups, Member, is_grouped, part_of, sample_time};
 use std::alloc::{AllocError, Global};
 
 /// A name, the value of the label `code`, that of `le` or `quantile`, and a value. A label without a value
@@ -67,7 +67,12 @@ fn gather_sample(
 ) -> Result<Option<Rule>, Memory> {
     match part_of(kind, family, sample) {
         Ok(part) => {
-            let added = groups.add(alloc, kind, &sample.labels, part)?;
+            let member = Member {
+                part,
+                time: sample_time(Format::OpenMetrics, sample),
+                exemplar: None,
+            };
+            let added = groups.add(alloc, kind, &sample.labels, &member)?;
             Ok(if added.fits { None } else { Some(Rule::Order) })
         }
         Err(rule) => Ok(Some(rule)),
@@ -305,6 +310,29 @@ fn takes_created_times(rt: HostRuntime) {
     let summary = created_of(rt.alloc(), Kind::Summary, SUMMARIES);
     let histogram = created_of(rt.alloc(), Kind::Histogram, HISTOGRAMS);
     assert!(rt; summary == Ok(Some(None)) && histogram == Ok(Some(Some(number("3")))));
+}
+
+/// The time of a sample with this stamp.
+fn time_of(alloc: Global, format: Format, stamp: &str) -> Result<Option<u64>, Memory> {
+    let mut sample = sample(alloc, Kind::Counter, ("h_total", "", "", "1"))?;
+    sample.stamp = Some(number(stamp));
+    let time = sample_time(format, &sample);
+    drop(sample);
+    Ok(time)
+}
+
+#[test]
+fn takes_milliseconds_in_text_and_seconds_in_openmetrics(rt: HostRuntime) {
+    let text = time_of(rt.alloc(), Format::Text, "1500");
+    let open = time_of(rt.alloc(), Format::OpenMetrics, "1.5");
+    assert!(rt; text == Ok(Some(1_500_000_000)) && open == Ok(Some(1_500_000_000)));
+}
+
+#[test]
+fn takes_no_time_before_1970_or_after_the_latest(rt: HostRuntime) {
+    let before = time_of(rt.alloc(), Format::OpenMetrics, "-0.5");
+    let after = time_of(rt.alloc(), Format::Text, "4611686018428");
+    assert!(rt; before == Ok(None) && after == Ok(None));
 }
 
 /// Whether a gauge histogram with this count beside a last bucket of 4 is whole.

@@ -1,9 +1,9 @@
 use Rattle.std.proofs.Common.{◌∙◌, map, sym, subst, false}
-use Rattle.exact_decimal.specs.declared.number.Number.{Number}
 use Rattle.packed_keys.specs.declared.sample_key.SampleKey.{SampleKey}
 use Rattle.sample_groups.specs.LastSeen.{EndsWith}
 use Rattle.label_sets.specs.declared.kind.Kind.TheVariants.{Counter}
 use Rattle.label_sets.specs.declared.label_set.LabelSet.{LabelSet}
+use Rattle.family_rules.specs.declared.timed_values.TimedValue.{TimedValue}
 use Rattle.family_rules.specs.KeyedValues.{is_key_of}
 use Rattle.family_rules.specs.GroupKeys.{IsNewGroup, NameTells}
 use Rattle.family_rules.specs.Samples.{is_back_in_groups, with_part_at}
@@ -14,40 +14,40 @@ use Rattle.family_rules.proofs.checker.ItemChecker.add_first.Goals as goal
 pub returns-then-is_some-clause-broken : goal.returns-then-is_some-clause-broken
 returns-then-is_some-clause-broken c =
     let kept = c.in_ok-broken.ensures.rest (sym c.is_some.ensures ∙ c.if-is_some.true) in
-    c.in_ok-broken.ensures.broken ∙ first_stop c.args.self.now c.args.key c.args.part false c.requires
+    c.in_ok-broken.ensures.broken ∙ first_stop c.args.self.now c.args.key c.args.member.now false c.requires
     (sym c.if-back.false ∙ c.in_ok-back.ensures.back ∙ (λ i. is_back_in_groups (kept i).setting.format Counter (c.in_ok-copy-2.ensures i) (kept i).current))
 
 pub begin_group-requires-clause-new : goal.begin_group-requires-clause-new
 begin_group-requires-clause-new c =
     let none = is_no_rule c.in_ok-broken.broken (sym c.is_some.ensures ∙ c.if-is_some.false) in
     subst (λ (labels : LabelSet). IsNewGroup c.add_key.new.self.current labels) (sym c.in_ok-copy-2.ensures)
-    (group_new c.args.self.now c.add_key.new.self c.args.key c.args.value c.args.part c.requires (sym none ∙ c.in_ok-broken.ensures.broken) (c.in_ok-broken.ensures.added none))
+    (group_new c.args.self.now c.add_key.new.self c.args.key c.args.value c.args.member.now c.requires (sym none ∙ c.in_ok-broken.ensures.broken) (c.in_ok-broken.ensures.added none))
 
 pub begin_group-requires-clause-seen : goal.begin_group-requires-clause-seen
 begin_group-requires-clause-seen c =
     let none = is_no_rule c.in_ok-broken.broken (sym c.is_some.ensures ∙ c.if-is_some.false) in
     (λ i. is_key_of (record { name = c.in_ok-copy.ensures i; labels = c.in_ok-copy-2.ensures i }) c.add_key.new.self.seen)
-    ∙ key_seen c.args.self.now c.add_key.new.self c.args.key c.args.value c.args.part c.requires (sym none ∙ c.in_ok-broken.ensures.broken) (c.in_ok-broken.ensures.added none)
+    ∙ key_seen c.args.self.now c.add_key.new.self c.args.key c.args.value c.args.member.now c.requires (sym none ∙ c.in_ok-broken.ensures.broken) (c.in_ok-broken.ensures.added none)
 
 pub begin_group-requires-clause-last : goal.begin_group-requires-clause-last
 begin_group-requires-clause-last c =
     let none = is_no_rule c.in_ok-broken.broken (sym c.is_some.ensures ∙ c.if-is_some.false) in
-    subst (λ (labels : LabelSet). EndsWith (map (λ (e : SampleKey × Number). e.0) c.add_key.new.self.seen) labels) (sym c.in_ok-copy-2.ensures)
-    (key_last c.args.self.now c.add_key.new.self c.args.key c.args.value c.args.part c.requires (sym none ∙ c.in_ok-broken.ensures.broken) (c.in_ok-broken.ensures.added none))
+    subst (λ (labels : LabelSet). EndsWith (map (λ (e : SampleKey × TimedValue). e.0) c.add_key.new.self.seen) labels) (sym c.in_ok-copy-2.ensures)
+    (key_last c.args.self.now c.add_key.new.self c.args.key c.args.value c.args.member.now c.requires (sym none ∙ c.in_ok-broken.ensures.broken) (c.in_ok-broken.ensures.added none))
 
 pub begin_group-requires-clause-tells : goal.begin_group-requires-clause-tells
 begin_group-requires-clause-tells c =
     let none = is_no_rule c.in_ok-broken.broken (sym c.is_some.ensures ∙ c.if-is_some.false) in
     subst (λ name. NameTells name c.add_key.new.self.current c.add_key.new.self.seen) (sym c.in_ok-copy.ensures)
-    (name_tells c.args.self.now c.add_key.new.self c.args.key c.args.value c.args.part c.requires (sym none ∙ c.in_ok-broken.ensures.broken) (c.in_ok-broken.ensures.added none))
+    (name_tells c.args.self.now c.add_key.new.self c.args.key c.args.value c.args.member.now c.requires (sym none ∙ c.in_ok-broken.ensures.broken) (c.in_ok-broken.ensures.added none))
 
 pub returns-clause-broken : goal.returns-clause-broken
 returns-clause-broken c =
     let none = is_no_rule c.in_ok-broken.broken (sym c.is_some.ensures ∙ c.if-is_some.false) in
-    first_none c.args.self.now c.add_key.new.self c.args.key c.args.value c.args.part c.requires (sym none ∙ c.in_ok-broken.ensures.broken) (c.in_ok-broken.ensures.added none)
+    first_none c.args.self.now c.add_key.new.self c.args.key c.args.value c.args.member.now c.requires (sym none ∙ c.in_ok-broken.ensures.broken) (c.in_ok-broken.ensures.added none)
 
 pub returns-clause-added : goal.returns-clause-added
 returns-clause-added c = λ _.
     let none = is_no_rule c.in_ok-broken.broken (sym c.is_some.ensures ∙ c.if-is_some.false) in
-    first_added c.args.self.now c.add_key.new.self c.args.key c.args.value c.args.part c.requires (sym none ∙ c.in_ok-broken.ensures.broken) (c.in_ok-broken.ensures.added none) c.begin_group.new.self
-    (c.in_ok-begin_group.ensures ∙ (λ i. with_part_at c.add_key.new.self Counter (c.in_ok-copy-2.ensures i) c.args.part))
+    first_added c.args.self.now c.add_key.new.self c.args.key c.args.value c.args.member.now c.requires (sym none ∙ c.in_ok-broken.ensures.broken) (c.in_ok-broken.ensures.added none) c.begin_group.new.self
+    (c.in_ok-begin_group.ensures ∙ (λ i. with_part_at c.add_key.new.self Counter (c.in_ok-copy-2.ensures i) c.args.member.now))

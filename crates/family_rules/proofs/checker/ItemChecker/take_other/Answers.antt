@@ -1,4 +1,4 @@
-use Rattle.std.proofs.Common.{◌∙◌, ap, sym}
+use Rattle.std.proofs.Common.{◌∙◌, sym}
 use Rattle.label_sets.specs.declared.kind.Kind.TheVariants.{Unknown}
 use Rattle.page_model.specs.declared.item.Item.TheVariants as items
 use Rattle.family_rules.specs.Steps.{begun, Takes}
@@ -17,11 +17,10 @@ returns-then-is_current c = other_named c.args.sample c.args.self.now c.name_rul
 pub returns-then-is_left : goal.returns-then-is_left
 returns-then-is_left c = other_split c.args.sample c.args.self.now c.args.self.now c.requires (sym c.is_some.ensures ∙ c.if-is_some.false) (sym c.if-is_current.ensures) (sym c.if-is_left.ensures)
 
-pub returns-in-Ok : goal.returns-in-Ok
-returns-in-Ok c =
-    let mid = c.in-Ok.ensures ∙ ap (begun c.args.self.now) c.in_ok-family.ensures in
-    if_ok_both _ _ (Takes (items.Sample c.args.sample) c.args.self.now c.add_sample.new.self) c.add_sample.result
-    (λ answer stop step. other_begins c.args.sample c.args.self.now c.add_sample.new.self c.requires (sym c.is_some.ensures ∙ c.if-is_some.false) (sym c.if-is_current.ensures) (sym c.if-is_left.ensures) answer
-    (stop ∙ (λ i. add_stop (mid i) Unknown c.args.sample (c.no_part_or_rule-told.ensures i)))
-    (λ none. step none ∙ (λ i. with_added (mid i) Unknown c.args.sample (c.no_part_or_rule-told.ensures i))))
-    c.add_sample.ensures.broken c.add_sample.ensures.added
+pub returns : goal.returns
+returns c =
+    if_ok_both _ _ (Takes (items.Sample c.args.sample) c.args.self.now c.begin_with.new.self) c.begin_with.result
+    (λ answer stop step. other_begins c.args.sample c.args.self.now c.begin_with.new.self c.requires (sym c.is_some.ensures ∙ c.if-is_some.false) (sym c.if-is_current.ensures) (sym c.if-is_left.ensures) answer
+    (stop ∙ (λ i. add_stop (begun c.args.self.now c.args.sample.name) Unknown c.args.sample (c.no_part_or_rule-told.ensures i)))
+    (λ none. step none ∙ (λ i. with_added (begun c.args.self.now c.args.sample.name) Unknown c.args.sample (c.no_part_or_rule-told.ensures i))))
+    c.begin_with.ensures.broken c.begin_with.ensures.added

@@ -18,11 +18,11 @@ pub returns : goal.returns
 returns c =
     let count : c.len-count.result ≡ length c.self.inside.groups.items = omega (arith, c.len-count.ensures, c.self.inside.groups.ok) in
     let shared = shared_labels c.args.kind c.args.labels.now in record {
-      answer = c.in_ok-fits.ensures.answer ∙ ap (λ g. not (breaks_order g c.args.part))
+      answer = c.in_ok-fits.ensures.answer ∙ ap (λ g. not (breaks_order g c.args.member.now.part))
           (group_here c.args.self.now c.place_from.new.self c.self.inside.sets c.self.inside.groups.items shared c.in_ok-place.place c.index_mut.result.now
           c.in_ok-place.ensures c.self.view_is c.self.invariant.0.many c.index_mut.ensures.value);
       overtaken = ap (nat_lt (c.in_ok-place.place + 1)) count ∙ overtaken_here c.args.self.now c.place_from.new.self c.self.inside.sets c.self.inside.groups.items shared c.in_ok-place.place c.in_ok-place.ensures c.self.view_is c.self.invariant.0.many;
       grown = λ added.
-          grown_here c.args.self.now c.place_from.new.self c.self.inside.sets c.self.inside.groups.items shared c.in_ok-place.place c.index_mut.result.now c.add.new.self c.args.part
+          grown_here c.args.self.now c.place_from.new.self c.self.inside.sets c.self.inside.groups.items shared c.in_ok-place.place c.index_mut.result.now c.add.new.self c.args.member.now
           c.in_ok-place.ensures c.self.view_is c.self.invariant.0.many c.index_mut.ensures.value (c.in_ok-fits.ensures.added added);
     }

@@ -11,5 +11,5 @@ push_in-requires-clause-new c = ap (λ (l : List (LabelSet × Gathered)). known_
 
 pub returns : goal.returns
 returns c =
-    on_ok_weaker c.push_in.result (λ more. begun c.args.self.now (groups_in c.push_in.new.store) c.args.labels.now c.in_ok-group.group c.args.part c.requires.new
+    on_ok_weaker c.push_in.result (λ more. begun c.args.self.now (groups_in c.push_in.new.store) c.args.labels.now c.in_ok-group.group c.args.member.now c.requires.new
     (more ∙ ap (λ (l : List (LabelSet × Gathered)). l ++ (c.args.labels.now, c.in_ok-group.group) ∷ []) c.self.view_is) c.in_ok-group.ensures) c.push_in.ensures

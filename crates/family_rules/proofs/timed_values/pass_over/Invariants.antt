@@ -1,6 +1,6 @@
 use Rattle.std.proofs.Common.{◌≡◌, drop}
 use Rattle.std.specs.Vec.Iter.{into_iter_items}
-use Rattle.family_rules.proofs.keyed_values.pass_over.Given as goal
+use Rattle.family_rules.proofs.timed_values.pass_over.Given as goal
 
 -- so many items were passed over
 abbrev pub invariant-loop : goal.invariant-loop
