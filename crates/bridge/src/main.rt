@@ -5,14 +5,13 @@
 mod ending;
 
 use crate::ending::Ending;
-use bridge_ports::std_edge::StdStream;
 use bridge_program::bridge;
 use program_words::Status;
 use std::alloc::{AllocError, Global};
 use std::env::{self, Args};
 use std::io::ErrorKind;
 use std::process::ExitCode;
-use std_edge::StdWorld;
+use std_edge::{StdStream, StdWorld};
 
 /// The words behind the program's own name.
 fn words_of(alloc: Global, args: Args) -> Result<Vec<String>, AllocError> {

@@ -1,11 +1,14 @@
 -- The wires of a script's run are those of its targets, and what stands on the shelf once they were handed in.
-use Rattle.std.proofs.Common.{◌≡◌, ℕ, suc, ◌+◌, ◌≤◌, Bool, true, false, List, [], ◌∷◌, ◌++◌, length, map, Option, Some, None, option_map, refl, sym, ap, subst, ◌∙◌, arith}
+use Rattle.std.proofs.Common.{◌≡◌, ℕ, suc, ◌+◌, ◌≤◌, Bool, true, false, List, [], ◌∷◌, ◌++◌, length, map, Option, Some, None, option_map, refl, sym, ap, subst, ◌∙◌, reverse, arith}
 use Rattle.std.specs.Prelude.{All, is_some}
 use Rattle.std.specs.List.{AllZip, AllByRecursion}
+use Rattle.std.proofs.lemmas.List.{reverse-append}
 use Rattle.bridge_ports.specs.declared.memory_world.Shelved.{Shelved}
 use Rattle.bridge_ports.specs.declared.talk.Talk.{Talk}
 use Rattle.bridge_ports.specs.Talks.{WireState}
-use Rattle.bridge_ports.specs.Worlds.{WorldState, ShelvedPair, put_on, with_shelved_pair}
+use Rattle.bridge_ports.specs.Plans.{MemoryState}
+use Rattle.bridge_ports.specs.Worlds.{ShelvedPair, put_on}
+use Rattle.bridge_ports.specs.Outside.{Outside, with_shelved_pair}
 use Rattle.series_table.specs.HttpTalks.{talking}
 use Rattle.series_table.specs.Records.{Kept, BodiesOf, further_talks}
 use Rattle.target_table.specs.Tables.{HasAllVisits, IsTrackAt, AreTracks}
@@ -17,7 +20,7 @@ use Rattle.replay_script.specs.declared.script.Script.{Script}
 use Rattle.replay_script.specs.RightScripts.{IsRightTarget, IsRightScript}
 use Rattle.replay_script.specs.WirePlans.{scrape_plan}
 use Rattle.bridge_cli.specs.Rounds.{script_followed, script_targets, AreWiresOf, IsScriptRun, AreVisitedThrough}
-use Rattle.bridge_cli.specs.Shelves.{AreTalksOfReplies, IsShelvedPair, AreShelvedPairs, put_all, IsShelfOf, shelf_pair, IsFreePair, with_shelved}
+use Rattle.bridge_cli.specs.Shelves.{AreTalksOfReplies, IsShelvedPair, AreShelvedPairs, put_all, IsShelfOf, shelf_pair, IsFreePair, with_shelved, with_shelf, KeepsAllButShelf}
 use Rattle.bridge_cli.proofs.TalkLaws.{track_told, track_posts}
 
 -- ---- pairs
@@ -85,24 +88,42 @@ free_pairs keeps s ends wires run = free_of keeps 0 s.header s.targets run.track
 -- ---- the shelf
 
 -- a shelf once wires were handed in
-shelf_with : (ws : List Shelved) (w : WorldState) → (with_shelved ws w).shelf ≡ option_map (put_all (map shelf_pair ws)) w.shelf
-shelf_with [] w = by w.shelf
+shelf_with : (ws : List Shelved) (o : Outside) → (with_shelved ws o).world.shelf ≡ option_map (put_all (map shelf_pair ws)) o.world.shelf
+shelf_with [] o = by o.world.shelf
   where
     by : (shelf : Option (List ShelvedPair)) → shelf ≡ option_map (put_all []) shelf
     by None = refl
     by (Some pairs) = refl
-shelf_with (p ∷ ps) w = shelf_with ps (with_shelved_pair p.scrape p.post w) ∙ by w.shelf
+shelf_with (p ∷ ps) o = shelf_with ps (with_shelved_pair p.scrape p.post o) ∙ by o.world.shelf
   where
     by : (shelf : Option (List ShelvedPair)) → option_map (put_all (map shelf_pair ps)) (option_map (put_on p.scrape p.post) shelf) ≡ option_map (put_all (map shelf_pair (p ∷ ps))) shelf
     by None = refl
     by (Some pairs) = refl
 
+-- the wires that are left, once the first of them was handed in
+pub shelved_next : (wires left rest : List Shelved) (pair : Shelved) (first now next : Outside) → left ≡ rest ++ pair ∷ [] → with_shelved (reverse left) now ≡ with_shelved wires first → next ≡ with_shelved_pair pair.scrape pair.post now
+    → with_shelved (reverse rest) next ≡ with_shelved wires first
+shelved_next wires left rest pair first now next are was then =
+    let turned : reverse left ≡ pair ∷ reverse rest = ap reverse are ∙ reverse-append rest (pair ∷ []) in
+    ap (with_shelved (reverse rest)) then ∙ (sym (ap (λ ls. with_shelved ls now) turned) ∙ was)
+
+-- no talk is under way on them
+pub free_next : (left rest : List Shelved) (pair : Shelved) → left ≡ rest ++ pair ∷ [] → AllByRecursion IsFreePair (reverse left) → AllByRecursion IsFreePair (reverse rest)
+free_next left rest pair are free =
+    let turned : reverse left ≡ pair ∷ reverse rest = ap reverse are ∙ reverse-append rest (pair ∷ []) in
+    (subst (AllByRecursion IsFreePair) turned free).1
+
+-- where a shelf is changed again, it alone is
+pub shelf_again : (a b c : Outside) (scrape post : MemoryState) → KeepsAllButShelf a b → c ≡ with_shelved_pair scrape post b → KeepsAllButShelf a c
+shelf_again a b c scrape post first then =
+    then ∙ ap (λ shelf. with_shelf shelf b) (sym (ap (λ (o : Outside). o.world.shelf) then)) ∙ ap (with_shelf c.world.shelf) first
+
 -- the wires of a script's run, each of whose targets was visited through, were handed in
-pub script_shelved : (keeps : Bool) (s : Script) (ends : List TargetEnd) (wires : List Shelved) (before after : WorldState) → IsRightScript s → IsScriptRun keeps s ends wires → AreVisitedThrough s.header.rounds ends → after ≡ with_shelved wires before
-    → keeps ≡ is_some before.shelf → IsShelfOf s before.shelf after.shelf
+pub script_shelved : (keeps : Bool) (s : Script) (ends : List TargetEnd) (wires : List Shelved) (before after : Outside) → IsRightScript s → IsScriptRun keeps s ends wires → AreVisitedThrough s.header.rounds ends → after ≡ with_shelved wires before
+    → keeps ≡ is_some before.world.shelf → IsShelfOf s before.world.shelf after.world.shelf
 script_shelved keeps s ends wires before after right run all is kept = record {
   pairs = map shelf_pair wires;
   are = subst (λ b. AreShelvedPairs b s.header 1 s.targets (map shelf_pair wires)) kept
       (shelved_pairs keeps s.header 0 s.targets run.tracks wires right.targets run.over.tracks_are run.over.visited run.wires_are (subst (AreVisitedThrough s.header.rounds) run.ends_are all));
-  shelf = ap (λ (w : WorldState). w.shelf) is ∙ shelf_with wires before;
+  shelf = ap (λ (o : Outside). o.world.shelf) is ∙ shelf_with wires before;
 }

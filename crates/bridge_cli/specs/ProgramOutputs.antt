@@ -5,7 +5,8 @@ use Rattle.std.specs.Io.KnownBytes.{Appends}
 use Rattle.bridge_ports.specs.Writing.{WroteFront}
 use Rattle.program_words.specs.CommandWords.{IsCommand, FitNoForm, AskFor, AskForNo, WhereRead, reads_input, prints_pieces}
 use Rattle.bridge_ports.specs.Inputs.{IsInput, TookAtMost, IsReadThrough}
-use Rattle.bridge_ports.specs.Worlds.{WorldState, ShelvedPair}
+use Rattle.bridge_ports.specs.Worlds.{ShelvedPair}
+use Rattle.bridge_ports.specs.Outside.{Outside}
 use Rattle.replay_script.specs.declared.script.Script.{Script}
 use Rattle.program_words.specs.declared.words.Command.{Command}
 use Rattle.program_words.specs.declared.status.Status.TheVariants.{Done, NoForm, ReadFailed, WriteFailed, WantOfMemory}
@@ -96,6 +97,6 @@ pub record ShelvesVisits (command : Command) (left before after : Option (List �
   pub shelved : IsShelfOf script shelf shelf_now
 
 -- a command that visits targets and is done has put the wires of these on the shelf of a world, behind its answer on an output
-abbrev pub ShelvesWires : {O W : Type 0} → List (List ℕ) → Option (List ℕ) → (O → Option (List ℕ)) → O → O → (W → WorldState) → W → W → ℕ → Type 0
-ShelvesWires words left held old new world before after status =
-    status ≡ code_of Done → (command : Command) → IsCommand words command → prints_pieces command ≡ true → ShelvesVisits command left (held old) (held new) (world before).shelf (world after).shelf
+abbrev pub ShelvesWires : {O : Type 0} → List (List ℕ) → Option (List ℕ) → (O → Option (List ℕ)) → O → O → Outside → Outside → ℕ → Type 0
+ShelvesWires words left held old new before after status =
+    status ≡ code_of Done → (command : Command) → IsCommand words command → prints_pieces command ≡ true → ShelvesVisits command left (held old) (held new) before.world.shelf after.world.shelf

@@ -9,7 +9,8 @@ use Rattle.bridge_ports.specs.declared.talk.Stage.TheVariants.{Idle}
 use Rattle.bridge_ports.specs.declared.talk.Talk.{Talk}
 use Rattle.bridge_ports.specs.Talks.{Plan, reply_of}
 use Rattle.bridge_ports.specs.Plans.{seen_of}
-use Rattle.bridge_ports.specs.Worlds.{WorldState, ShelvedPair, IsHome, with_shelved_pair}
+use Rattle.bridge_ports.specs.Worlds.{ShelvedPair, IsHome}
+use Rattle.bridge_ports.specs.Outside.{Outside, with_world, with_shelved_pair}
 use Rattle.otlp_sender.specs.declared.posted.Posted.{Posted}
 use Rattle.series_table.specs.HttpTalks.{talking}
 use Rattle.series_table.specs.Records.{BodiesOf}
@@ -80,15 +81,15 @@ pub record IsFreePair (w : Shelved) : Type 0 where
   pub scrape_free : w.scrape.stage ≡ Idle
   pub post_free : w.post.stage ≡ Idle
 
--- a world once these wires were handed in, in their order
-abbrev pub with_shelved : List Shelved → WorldState → WorldState
-with_shelved [] w = w
-with_shelved (pair ∷ pairs) w = with_shelved pairs (with_shelved_pair pair.scrape pair.post w)
+-- what is seen of a world once these wires were handed in, in their order
+abbrev pub with_shelved : List Shelved → Outside → Outside
+with_shelved [] o = o
+with_shelved (pair ∷ pairs) o = with_shelved pairs (with_shelved_pair pair.scrape pair.post o)
 
--- of a world, with its files, its pairs at home, the addresses to which they were handed out and what is to come at its doors, as its members tell these, nothing but its shelf changed
-pub record KeepsAllButShelf {W F H G C : Type 0} (world : W → WorldState) (files : W → F) (home : W → H) (given : W → G) (coming : W → C) (before after : W) : Type 0 where
-  pub rest : world after ≡ record (world before) { shelf = (world after).shelf }
-  pub files_kept : files after ≡ files before
-  pub home_kept : home after ≡ home before
-  pub given_kept : given after ≡ given before
-  pub coming_kept : coming after ≡ coming before
+-- of what is seen of a world, this is on the shelf
+abbrev pub with_shelf : Option (List ShelvedPair) → Outside → Outside
+with_shelf shelf o = with_world (record o.world { shelf = shelf }) o
+
+-- of what is seen of a world nothing but its shelf changed
+abbrev pub KeepsAllButShelf : Outside → Outside → Type 0
+KeepsAllButShelf before after = after ≡ with_shelf after.world.shelf before

@@ -147,8 +147,8 @@ pub(crate) fn print_script<R: Threads + Wait + Sync, W: World, O: Sink>(
     requires { IsRightScript script.now }
     ensures printed { PrintsScript page script.now (O.held output.old) (O.held output.new) result }
     ensures cause { CutCause (O.write_faults output.old) (O.write_faults output.new) result }
-    ensures shelf { OnOk result (IsShelfOf script.now (W.world world.old).shelf (W.world world.new).shelf) }
-    ensures kept { KeepsAllButShelf W.world W.files W.home W.given W.coming world.old world.new }
+    ensures shelf { OnOk result (IsShelfOf script.now (W.seen world.old).world.shelf (W.seen world.new).world.shelf) }
+    ensures kept { KeepsAllButShelf (W.seen world.old) (W.seen world.new) }
 {
     let wanted = Wanted {
         page,

@@ -76,8 +76,8 @@ fn print<R: Threads + Wait + Sync, W: World, O: Sink>(
     ensures ended { Ended answer.now.status answer.now.printed (O.held output.old) (O.held output.new) result }
     ensures empty { IsNothing answer.now.printed → output.new ≡ output.old }
     ensures faults { TellsFault (code_of WriteFailed) result (O.write_faults output.old) (O.write_faults output.new) }
-    ensures shelf { result ≡ code_of Done → IsShelved answer.now.printed (W.world world.old).shelf (W.world world.new).shelf }
-    ensures kept { KeepsAllButShelf W.world W.files W.home W.given W.coming world.old world.new }
+    ensures shelf { result ≡ code_of Done → IsShelved answer.now.printed (W.seen world.old).world.shelf (W.seen world.new).world.shelf }
+    ensures kept { KeepsAllButShelf (W.seen world.old) (W.seen world.new) }
     ensures unused { IsWhole answer.now.printed → world.new ≡ world.old }
 {
     match &answer.printed {
@@ -156,9 +156,9 @@ pub fn bridge<R: Threads + Wait + Sync, W: World, I: Source, O: Sink>(
     // The commands that visit targets put the wires of these on the shelf, once all was written; nothing else is done to
     // the world.
     ensures shelf { ShelvesWires (map string_bytes words.now) (I.left input.old) O.held output.old output.new
-        W.world world.old world.new result }
+        (W.seen world.old) (W.seen world.new) result }
     ensures world_kept { AskForNo prints_pieces (map string_bytes words.now) → world.new ≡ world.old }
-    ensures all_but_shelf { KeepsAllButShelf W.world W.files W.home W.given W.coming world.old world.new }
+    ensures all_but_shelf { KeepsAllButShelf (W.seen world.old) (W.seen world.new) }
 {
     let answer = answer(alloc, words, input);
     print(rt, alloc, world, output, &answer)

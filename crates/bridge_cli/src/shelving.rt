@@ -14,8 +14,8 @@ pub(crate) fn shelve<W: World>(
     world: &mut W,
 ) -> Result<(), Memory>
     requires { AllByRecursion IsFreePair wires.items }
-    ensures done { OnOk result (W.world world.new ≡ with_shelved wires.items (W.world world.old)) }
-    ensures kept { KeepsAllButShelf W.world W.files W.home W.given W.coming world.old world.new }
+    ensures done { OnOk result (W.seen world.new ≡ with_shelved wires.items (W.seen world.old)) }
+    ensures kept { KeepsAllButShelf (W.seen world.old) (W.seen world.new) }
 {
     let mut left = wires;
     left.reverse();

@@ -1,6 +1,7 @@
--- What other crates may cite: what the definitions of wires give, bytes that are taken and given in steps, and inputs that are read in blocks.
+-- What other crates may cite: what the definitions of wires and of worlds give, bytes that are taken and given in steps, and inputs that are read in blocks.
 pub use Rattle.bridge_ports.proofs.KnownLaws.{at_error, appends_none, appends_keeps, appends_twice, front_behind, consumes_none, consumes_twice, consumes_keeps}
 pub use Rattle.bridge_ports.proofs.InputLaws.{block_too_much, block_more}
+pub use Rattle.bridge_ports.proofs.SeenLaws.{seen_by, same_number, at_same, at_others, is_at_number, one_address, at_other_addresses, is_at_address}
 use Rattle.std.proofs.Common.{◌≡◌, ℕ, ◌<◌, ◌-◌, List, [], ◌∷◌, ◌++◌, Option, Some, None, option_map, refl, ap, arith, length, append_assoc, append-nil, length-append}
 use Rattle.bridge_ports.specs.declared.talk.Stage.TheVariants as stages
 use Rattle.bridge_ports.specs.declared.talk.Stage.{Stage}

@@ -4,7 +4,7 @@ use Rattle.std.specs.Prelude.{find, ◌==◌}
 use Rattle.bridge_ports.specs.declared.talk.Address.{Address}
 use Rattle.bridge_ports.specs.Plans.{MemoryState, new_wire}
 use Rattle.bridge_ports.specs.InMemory.{ConnState, new_memory_door}
-use Rattle.bridge_ports.specs.Worlds.{with_shelved_pair}
+use Rattle.bridge_ports.specs.Worlds.{put_on}
 use Rattle.bridge_ports.specs.MemoryWorlds.{FileState, PairState, ListenState, MemoryWorldState, file_of, no_plan, pair_of, given_of, coming_of, or_bare}
 use Rattle.bridge_ports.specs.WorldMaking.{MayBeMade, IsMemoryWorld, given_pair, new_world, shown_pair, found_wires, on_shelf, pair_kept, listen_kept, IsRightPair, IsRightListen}
 
@@ -119,7 +119,7 @@ none_left = refl
 empty_shelf : on_shelf world ≡ Some []
 empty_shelf = refl
 
-two_on_shelf : on_shelf (record world { world = with_shelved_pair (wire_at 2 false) (wire_at 2 true) (with_shelved_pair (wire_at 1 false) (wire_at 1 true) world.world) })
+two_on_shelf : on_shelf (record world { world = record world.world { shelf = Some (put_on (wire_at 2 false) (wire_at 2 true) (put_on (wire_at 1 false) (wire_at 1 true) [])) } })
     ≡ Some (record { scrape = wire_at 1 false; post = wire_at 1 true } ∷ record { scrape = wire_at 2 false; post = wire_at 2 true } ∷ [])
 two_on_shelf = refl
 

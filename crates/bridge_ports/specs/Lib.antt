@@ -9,6 +9,7 @@ pub mod Plans
 pub mod Connections
 pub mod Doors
 pub mod Worlds
+pub mod Outside
 pub mod MemoryWorlds
 pub mod WorldMaking
 pub mod Writing

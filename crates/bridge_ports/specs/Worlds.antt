@@ -1,12 +1,11 @@
 -- The world of the program: files, pairs of wires, doors, and the shelf.
 -- The bridge's own.
-use Rattle.std.specs.Prelude.{◌≡◌, ◌≢◌, ℕ, Bool, false, ◌&&◌, ◌==◌, bytes_eq, List, ◌∷◌, Option, Some, None, option_map, Result}
+use Rattle.std.specs.Prelude.{◌≡◌, ◌≢◌, ℕ, Bool, false, ◌&&◌, ◌==◌, bytes_eq, List, ◌∷◌, Option, Some, None, Result}
 use Rattle.std.specs.Io.KnownBytes.{ReadConsumes}
 use Rattle.bridge_ports.specs.declared.talk.Address.{Address}
 use Rattle.bridge_ports.specs.Talks.{WireState}
 use Rattle.bridge_ports.specs.declared.talk.Stage.TheVariants as stages
 use Rattle.bridge_ports.specs.Plans.{MemoryState}
-use Rattle.bridge_ports.specs.Doors.{DoorState}
 
 -- what came back of a door: how many connections it handed out, of how many a read failed, of how many a write failed, and its count of faults
 pub record BackDoor : Type 0 where
@@ -52,35 +51,14 @@ pub record IsHome (number : ℕ) (post : Bool) (w : WireState) : Type 0 where
 abbrev pub KeepsOthers : {A : Type 0} → ℕ → (ℕ → A) → (ℕ → A) → Type 0
 KeepsOthers number old new = (n : ℕ) → n ≢ number → new n ≡ old n
 
--- the world once the file of this path is open at its front
-abbrev pub with_file_open : List ℕ → Option (List ℕ) → WorldState → WorldState
-with_file_open path bytes w = record w { asked = Some path; file = Some (record { left = bytes }) }
-
--- the world once the file of this path could not be with_file_open
-abbrev pub with_no_file_open : List ℕ → ℕ → WorldState → WorldState
-with_no_file_open path faults w = record w { asked = Some path; file = None; file_faults = faults }
-
--- the open file is read as a source is, and nothing else changes
+-- an open file is read as a source is
 abbrev pub FileReadsFrom : {E : Type 0} → Option OpenFile → Option OpenFile → Result ℕ E → List ℕ → Type 0
 FileReadsFrom (Some old) (Some new) result into = ReadConsumes old.left new.left result into
 FileReadsFrom _ _ result into = ⊥
 
--- a read of the open file
-pub record FileReads {E : Type 0} (old new : WorldState) (result : Result ℕ E) (into : List ℕ) : Type 0 where
-  pub reads : FileReadsFrom old.file new.file result into
-  pub rest : new ≡ record old { file = new.file; file_faults = new.file_faults }
-
--- the world once this door came back
-abbrev pub with_back_door : DoorState → WorldState → WorldState
-with_back_door d w = record w { back_door = record { handed = d.handed; broken_reads = d.broken_reads; broken_writes = d.broken_writes; faults = d.faults } }
-
 -- a pair on the shelf
 abbrev pub put_on : MemoryState → MemoryState → List ShelvedPair → List ShelvedPair
 put_on scrape post pairs = record { scrape = scrape; post = post } ∷ pairs
-
--- the world once this pair was handed in
-abbrev pub with_shelved_pair : MemoryState → MemoryState → WorldState → WorldState
-with_shelved_pair scrape post w = record w { shelf = option_map (put_on scrape post) w.shelf }
 
 -- two addresses are one
 abbrev pub is_address : Address → Address → Bool

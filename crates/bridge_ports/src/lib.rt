@@ -1,6 +1,5 @@
-//! The outside of the bridge: the traits of what it reads from and writes to, implementations in
-//! memory that tell their bytes and fail where they are told to, and adapters over the standard
-//! library's readers and writers.
+//! The outside of the bridge: the traits of what it reads from and writes to, and implementations in
+//! memory that tell their bytes and fail where they are told to.
 #![tactic(auto)]
 
 mod all_bytes;
@@ -19,7 +18,6 @@ mod reason;
 mod settings;
 mod sink;
 mod source;
-pub mod std_edge;
 mod talk;
 mod target;
 mod wire;

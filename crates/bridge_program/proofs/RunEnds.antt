@@ -4,16 +4,16 @@ use Rattle.std.specs.Io.KnownBytes.{Appends}
 use Rattle.bridge_ports.specs.Causes.{Rose}
 use Rattle.bridge_ports.specs.Worlds.{WorldState}
 use Rattle.config_file.specs.declared.file_stop.FileStop.{FileStop}
-use Rattle.config_file.specs.declared.file_stop.FileStop.TheVariants.{Read}
+use Rattle.config_file.specs.declared.file_stop.FileStop.TheVariants.{Read, Memory}
 use Rattle.config_file.specs.ConfigFiles.{StopsAtFile, StopsReadingFile}
-use Rattle.world_run.specs.Outside.{Outside}
-use Rattle.world_run.specs.Serving.{Coming}
-use Rattle.run_command.specs.RunReports.{LeavesPairs, MayKeepComing}
+use Rattle.bridge_ports.specs.Outside.{Outside}
+use Rattle.run_command.specs.RunReports.{LeavesWorld}
+use Rattle.run_command.proofs.Laws.{report_asked, run_asked}
 use Rattle.program_words.specs.declared.status.Status.TheVariants.{Done, ReadFailed, WantOfMemory, TooLong, WriteFailed}
 use Rattle.program_words.specs.Statuses.{code_of, IsStatus, TellsFault}
 use Rattle.bridge_ports.specs.Writing.{WroteFront}
 use Rattle.bridge_program.specs.RunWords.{AskToRun}
-use Rattle.bridge_program.specs.RunAnswers.{config_refused, IsRunAnswer, run_over, run_refused, run_too_long, run_unread, run_wanting, RunComesTo, IsStopEnd, end_refused, end_unsaid, end_too_long, end_unread, end_wanting, IsWritten, written_whole, written_part, RunAnswered, AsksAtMost, RunLeaves}
+use Rattle.bridge_program.specs.RunAnswers.{config_refused, IsRunAnswer, run_over, run_refused, run_too_long, run_unread, run_wanting, IsStopEnd, end_refused, end_unsaid, end_too_long, end_unread, end_wanting, IsWritten, written_whole, written_part, RunAnswered, AsksAtMost, RunLeaves}
 
 -- ---- what is written
 
@@ -45,43 +45,43 @@ nothing_left held after text none front = front.some_left (no_rest front.front f
 -- ---- what `run` answers
 
 -- a failed read says nothing
-unread_empty : (path : List ℕ) (coming : Coming) (before after : Outside) (status : ℕ) (text : List ℕ) → IsRunAnswer path coming before after status text → status ≡ code_of ReadFailed → text ≡ []
-unread_empty path coming before after status text (run_over t false report) e = absurd cc
-unread_empty path coming before after status text (run_over t true report) e = absurd cc
-unread_empty path coming before after status text (run_refused fault holds pairs) e = absurd cc
-unread_empty path coming before after status text (run_too_long long pairs) e = absurd cc
-unread_empty path coming before after status text (run_unread rose pairs) e = refl
-unread_empty path coming before after status text (run_wanting left) e = absurd cc
+unread_empty : (path : List ℕ) (before after : Outside) (status : ℕ) (text : List ℕ) → IsRunAnswer path before after status text → status ≡ code_of ReadFailed → text ≡ []
+unread_empty path before after status text (run_over t false report) e = absurd cc
+unread_empty path before after status text (run_over t true report) e = absurd cc
+unread_empty path before after status text (run_refused fault holds asked) e = absurd cc
+unread_empty path before after status text (run_too_long long asked) e = absurd cc
+unread_empty path before after status text (run_unread rose asked) e = refl
+unread_empty path before after status text (run_wanting left) e = absurd cc
 
 -- its status is never that of a failed write
-pub no_write : (path : List ℕ) (coming : Coming) (before after : Outside) (status : ℕ) (text : List ℕ) → IsRunAnswer path coming before after status text → status ≢ code_of WriteFailed
-no_write path coming before after status text (run_over t false report) e = absurd cc
-no_write path coming before after status text (run_over t true report) e = absurd cc
-no_write path coming before after status text (run_refused fault holds pairs) e = absurd cc
-no_write path coming before after status text (run_too_long long pairs) e = absurd cc
-no_write path coming before after status text (run_unread rose pairs) e = absurd cc
-no_write path coming before after status text (run_wanting left) e = absurd cc
+pub no_write : (path : List ℕ) (before after : Outside) (status : ℕ) (text : List ℕ) → IsRunAnswer path before after status text → status ≢ code_of WriteFailed
+no_write path before after status text (run_over t false report) e = absurd cc
+no_write path before after status text (run_over t true report) e = absurd cc
+no_write path before after status text (run_refused fault holds asked) e = absurd cc
+no_write path before after status text (run_too_long long asked) e = absurd cc
+no_write path before after status text (run_unread rose asked) e = absurd cc
+no_write path before after status text (run_wanting left) e = absurd cc
 
-answer_status : (path : List ℕ) (coming : Coming) (before after : Outside) (status : ℕ) (text : List ℕ) → IsRunAnswer path coming before after status text → IsStatus status ⊎ (status ≡ config_refused)
-answer_status path coming before after status text (run_over t false report) = inl (Done, refl)
-answer_status path coming before after status text (run_over t true report) = inl (WantOfMemory, refl)
-answer_status path coming before after status text (run_refused fault holds pairs) = inr refl
-answer_status path coming before after status text (run_too_long long pairs) = inl (TooLong, refl)
-answer_status path coming before after status text (run_unread rose pairs) = inl (ReadFailed, refl)
-answer_status path coming before after status text (run_wanting left) = inl (WantOfMemory, refl)
+answer_status : (path : List ℕ) (before after : Outside) (status : ℕ) (text : List ℕ) → IsRunAnswer path before after status text → IsStatus status ⊎ (status ≡ config_refused)
+answer_status path before after status text (run_over t false report) = inl (Done, refl)
+answer_status path before after status text (run_over t true report) = inl (WantOfMemory, refl)
+answer_status path before after status text (run_refused fault holds asked) = inr refl
+answer_status path before after status text (run_too_long long asked) = inl (TooLong, refl)
+answer_status path before after status text (run_unread rose asked) = inl (ReadFailed, refl)
+answer_status path before after status text (run_wanting left) = inl (WantOfMemory, refl)
 
 -- the status of the process is one that the program has
-pub run_statuses : (path : List ℕ) (coming : Coming) (before after : Outside) (status code : ℕ) (text : List ℕ) (held written : Option (List ℕ)) → IsRunAnswer path coming before after status text → IsWritten status text held written code
+pub run_statuses : (path : List ℕ) (before after : Outside) (status code : ℕ) (text : List ℕ) (held written : Option (List ℕ)) → IsRunAnswer path before after status text → IsWritten status text held written code
     → IsStatus code ⊎ (code ≡ config_refused)
-run_statuses path coming before after status code text held written answer (written_whole grown) = answer_status path coming before after status text answer
-run_statuses path coming before after status code text held written answer (written_part front) = inl (WriteFailed, refl)
+run_statuses path before after status code text held written answer (written_whole grown) = answer_status path before after status text answer
+run_statuses path before after status code text held written answer (written_part front) = inl (WriteFailed, refl)
 
 -- the process tells a failed read as `run` did
-pub read_told : (path : List ℕ) (coming : Coming) (before after : Outside) (status code : ℕ) (text : List ℕ) (held written : Option (List ℕ)) (old new : ℕ) → IsRunAnswer path coming before after status text → IsWritten status text held written code
+pub read_told : (path : List ℕ) (before after : Outside) (status code : ℕ) (text : List ℕ) (held written : Option (List ℕ)) (old new : ℕ) → IsRunAnswer path before after status text → IsWritten status text held written code
     → TellsFault (code_of ReadFailed) status old new → TellsFault (code_of ReadFailed) code old new
-read_told path coming before after status code text held written old new answer (written_whole grown) told = told
-read_told path coming before after status code text held written old new answer (written_part front) told =
-    let some : status ≢ code_of ReadFailed = λ e. nothing_left held written text (unread_empty path coming before after status text answer e) front in record {
+read_told path before after status code text held written old new answer (written_whole grown) told = told
+read_told path before after status code text held written old new answer (written_part front) told =
+    let some : status ≢ code_of ReadFailed = λ e. nothing_left held written text (unread_empty path before after status text answer e) front in record {
       rose = λ e. absurd cc;
       only = λ less. absurd (some (told.only less));
       kept = λ no. told.kept some;
@@ -94,17 +94,32 @@ one_path : (words : List (List ℕ)) (path other : List ℕ) → AskToRun words 
 one_path words path other found asks = let second : List (List ℕ) → List ℕ = λ ws. get_or ws 1 [] in ap second (sym found ∙ asks)
 
 -- what was written of the run of the file that words ask for
-pub run_written : {W O : Type 0} (coming : W → Coming) (seen : W → Outside) (before after : W) (held : O → Option (List ℕ)) (old new : O) (code status : ℕ) (text : List ℕ) (words : List (List ℕ)) (path other : List ℕ) → AskToRun words path → AskToRun words other
-    → RunComesTo path coming seen before after status text → IsWritten status text (held old) (held new) code → RunAnswered coming seen before after held old new code other
-run_written coming seen before after held old new code status text words path other found asks answer written =
-    subst (RunAnswered coming seen before after held old new code) (one_path words path other found asks) (record { status = status; text = text; answer = answer; printed = written })
+pub run_written : {O : Type 0} (before after : Outside) (held : O → Option (List ℕ)) (old new : O) (code status : ℕ) (text : List ℕ) (words : List (List ℕ)) (path other : List ℕ) → AskToRun words path → AskToRun words other
+    → IsRunAnswer path before after status text → IsWritten status text (held old) (held new) code → RunAnswered before after held old new code other
+run_written before after held old new code status text words path other found asks answer written =
+    subst (RunAnswered before after held old new code) (one_path words path other found asks) (record { status = status; text = text; answer = answer; printed = written })
+
+-- a world is asked for one file at most
+pub asks_at_most : (path : List ℕ) (before after : Outside) (status : ℕ) (text : List ℕ) → IsRunAnswer path before after status text → AsksAtMost path before after
+asks_at_most path before after status text (run_over t halted report) = inr (inr (report_asked report))
+asks_at_most path before after status text (run_refused fault holds asked) = inr (inl asked)
+asks_at_most path before after status text (run_too_long long asked) = inr (inl asked)
+asks_at_most path before after status text (run_unread rose asked) = inr (inl asked)
+asks_at_most path before after status text (run_wanting (inl same)) = inl same
+asks_at_most path before after status text (run_wanting (inr (inl asked))) = inr (inl asked)
+asks_at_most path before after status text (run_wanting (inr (inr may))) = inr (inr (run_asked may))
+
+-- files stay
+pub files_stay : (path : List ℕ) (before after : Outside) → AsksAtMost path before after → after.files ≡ before.files
+files_stay path before after (inl same) = ap (λ (o : Outside). o.files) same
+files_stay path before after (inr (inl asked)) = ap (λ (o : Outside). o.files) asked
+files_stay path before after (inr (inr run)) = run.changes.files ∙ ap (λ (o : Outside). o.files) run.read.file
 
 -- what it left
-pub run_left : {I W : Type 0} (input : I) (world : W → WorldState) (files : W → List ℕ → Option (List ℕ)) (coming : W → Coming) (before after : W) (code : ℕ) (words : List (List ℕ)) (path other : List ℕ) → AskToRun words path → AskToRun words other
-    → TellsFault (code_of ReadFailed) code (world before).file_faults (world after).file_faults → AsksAtMost path (world before) (world after) → MayKeepComing (files before path) (coming before) (coming after)
-    → RunLeaves input input world files coming before after code other
-run_left input world files coming before after code words path other found asks told asked kept =
-    subst (RunLeaves input input world files coming before after code) (one_path words path other found asks) (record { unread = refl; file_faults = told; file_asked = asked; coming_kept = kept })
+pub run_left : {I : Type 0} (input : I) (before after : Outside) (code : ℕ) (words : List (List ℕ)) (path other : List ℕ) → AskToRun words path → AskToRun words other
+    → TellsFault (code_of ReadFailed) code before.world.file_faults after.world.file_faults → AsksAtMost path before after → RunLeaves input input before after code other
+run_left input before after code words path other found asks told asked =
+    subst (RunLeaves input input before after code) (one_path words path other found asks) (record { unread = refl; file_faults = told; asked = asked })
 
 -- ---- stops
 
@@ -121,10 +136,18 @@ stop_tells told old new stop status text end_unread leaves = record { rose = λ 
 stop_tells told old new stop status text end_wanting leaves = none_failed_as (code_of ReadFailed) (code_of WantOfMemory) old.file_faults new.file_faults (λ e. absurd cc) leaves.1
 
 -- where no report comes of a file, this is what `run` answers
-pub stop_answers : {W : Type 0} (path : List ℕ) (coming : W → Coming) (seen : W → Outside) (before after : W) (stop : FileStop) (status : ℕ) (text : List ℕ) → IsStopEnd stop status text → StopsAtFile ((seen before).files path) stop → LeavesPairs path coming seen before after stop
-    → (stop ≡ Read → Rose (seen before).world.file_faults (seen after).world.file_faults) → RunComesTo path coming seen before after status text
-stop_answers path coming seen before after stop status text (end_refused fault) stops pairs rose = run_refused fault stops pairs
-stop_answers path coming seen before after stop status text (end_unsaid fault) stops pairs rose = run_wanting (inl pairs)
-stop_answers path coming seen before after stop status text end_too_long stops pairs rose = run_too_long stops pairs
-stop_answers path coming seen before after stop status text end_unread stops pairs rose = run_unread (rose refl) pairs
-stop_answers path coming seen before after stop status text end_wanting stops pairs rose = run_wanting pairs
+pub stop_answers : (path : List ℕ) (before after : Outside) (stop : FileStop) (status : ℕ) (text : List ℕ) → IsStopEnd stop status text → StopsAtFile (before.files path) stop → LeavesWorld path before after stop
+    → (stop ≡ Read → Rose before.world.file_faults after.world.file_faults) → IsRunAnswer path before after status text
+stop_answers path before after stop status text (end_refused fault) stops left rose = run_refused fault stops left
+stop_answers path before after stop status text (end_unsaid fault) stops left rose = run_wanting (inr (inl left))
+stop_answers path before after stop status text end_too_long stops left rose = run_too_long stops left
+stop_answers path before after stop status text end_unread stops left rose = run_unread (rose refl) left
+stop_answers path before after stop status text end_wanting stops left rose = run_wanting (inr left)
+
+-- where nothing was asked of a world for want of memory
+pub unasked_answers : (path : List ℕ) (before after : Outside) (stop : FileStop) (status : ℕ) (text : List ℕ) → IsStopEnd stop status text → stop ≡ Memory → after ≡ before → IsRunAnswer path before after status text
+unasked_answers path before after stop status text (end_refused fault) is same = absurd (cc is)
+unasked_answers path before after stop status text (end_unsaid fault) is same = run_wanting (inl same)
+unasked_answers path before after stop status text end_too_long is same = absurd (cc is)
+unasked_answers path before after stop status text end_unread is same = absurd (cc is)
+unasked_answers path before after stop status text end_wanting is same = run_wanting (inl same)

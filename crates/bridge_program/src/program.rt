@@ -6,7 +6,6 @@ ghost use Rattle.program_words.specs.CommandWords.{AskForNo, prints_pieces, take
 ghost use Rattle.bridge_cli.specs.ProgramOutputs.{WritesAnswer, HasOneAnswer, ReadsAsAsked, ShelvesWires};
 ghost use Rattle.program_words.specs.Statuses.{TellsFault, code_of, IsStatus};
 ghost use Rattle.bridge_cli.specs.Shelves.{KeepsAllButShelf};
-ghost use Rattle.world_run.specs.Outside.{seen_world};
 ghost use Rattle.bridge_program.specs.RunWords.{WhereRun, AskForNoRun};
 ghost use Rattle.bridge_program.specs.RunAnswers.{IsUnasked, IsWritten, RunAnswered, RunLeaves, config_refused};
 
@@ -63,16 +62,17 @@ pub fn bridge<
     I: Source,
     O: Sink,
 >(rt: &R, alloc: Global, words: &[String], world: &mut W, input: &mut I, output: &mut O) -> u8
-    requires { IsUnasked (seen_world W.Wire.state W.world W.files W.home W.given world.old) }
+    requires { IsUnasked (W.seen world.old) }
     ensures statuses { IsStatus result ⊎ (result ≡ config_refused) }
     ensures write_faults { TellsFault (code_of WriteFailed) result (O.write_faults output.old) (O.write_faults output.new) }
-    ensures files_kept { W.files world.new ≡ W.files world.old }
+    ensures files_kept { (W.seen world.new).files ≡ (W.seen world.old).files }
 
     // A run: what was posted for each target is told by its own talks alone, and its report was written. The input is not
     // read, and of the world one file.
-    ensures run_answered { WhereRun (map string_bytes words.now) (RunAnswered W.coming
-        (seen_world W.Wire.state W.world W.files W.home W.given) world.old world.new O.held output.old output.new result) }
-    ensures run_leaves { WhereRun (map string_bytes words.now) (RunLeaves input.old input.new W.world W.files W.coming world.old world.new result) }
+    ensures run_answered { WhereRun (map string_bytes words.now)
+        (RunAnswered (W.seen world.old) (W.seen world.new) O.held output.old output.new result) }
+    ensures run_leaves { WhereRun (map string_bytes words.now)
+        (RunLeaves input.old input.new (W.seen world.old) (W.seen world.new) result) }
 
     // Other words. What was written: the whole answer, a front of it, or nothing. There is no other answer to the words
     // and the bytes.
@@ -89,9 +89,9 @@ pub fn bridge<
     // The commands that visit targets over wires in memory put these on the shelf, once all was written; nothing else is
     // done to the world.
     ensures shelf { AskForNoRun (map string_bytes words.now) → ShelvesWires (map string_bytes words.now) (I.left input.old)
-        O.held output.old output.new W.world world.old world.new result }
+        O.held output.old output.new (W.seen world.old) (W.seen world.new) result }
     ensures world_kept { AskForNoRun (map string_bytes words.now) → AskForNo prints_pieces (map string_bytes words.now) → world.new ≡ world.old }
-    ensures all_but_shelf { AskForNoRun (map string_bytes words.now) → KeepsAllButShelf W.world W.files W.home W.given W.coming world.old world.new }
+    ensures all_but_shelf { AskForNoRun (map string_bytes words.now) → KeepsAllButShelf (W.seen world.old) (W.seen world.new) }
 {
     match run_path(words) {
         Some(path) => {

@@ -2,11 +2,10 @@
 ghost use Rattle.std.specs.Prelude.{◌≡◌, None, IfOk};
 ghost use Rattle.std.specs.Cow.{cow_slice_items};
 ghost use Rattle.bridge_config.specs.ConfigLines.{config_line};
-ghost use Rattle.run_command.specs.RunReports.{MayKeepComing};
-ghost use Rattle.world_run.specs.Outside.{seen_home, seen_world, AreUnused};
+ghost use Rattle.world_run.specs.Unused.{AreUnused};
 ghost use Rattle.program_words.specs.declared.status.Status.TheVariants.{ReadFailed};
 ghost use Rattle.program_words.specs.Statuses.{TellsFault, code_of};
-ghost use Rattle.bridge_program.specs.RunAnswers.{RunComesTo, IsStopEnd, AsksAtMost, run_status};
+ghost use Rattle.bridge_program.specs.RunAnswers.{IsRunAnswer, IsStopEnd, run_status};
 
 use bridge_cli::Status;
 use bridge_config::{ConfigFault, push_line};
@@ -91,15 +90,12 @@ pub(crate) fn run_end<R: Threads + Wait + Sync, K: Conn, E: Door<Conn = K>, W: W
     path: &str,
     world: &mut W,
 ) -> RunEnd
-    requires asked { (W.world world.old).asked ≡ None }
-    requires no_door { (W.world world.old).door_at ≡ None }
-    requires unused { AreUnused (seen_home W.Wire.state (W.home world.old)) }
-    ensures answer { RunComesTo path.now W.coming
-        (seen_world W.Wire.state W.world W.files W.home W.given) world.old world.new result.status (cow_slice_items result.text) }
-    ensures faults { TellsFault (code_of ReadFailed) result.status (W.world world.old).file_faults (W.world world.new).file_faults }
-    ensures asked { AsksAtMost path.now (W.world world.old) (W.world world.new) }
-    ensures files { W.files world.new ≡ W.files world.old }
-    ensures coming { MayKeepComing (W.files world.old path.now) (W.coming world.old) (W.coming world.new) }
+    requires asked { (W.seen world.old).world.asked ≡ None }
+    requires no_door { (W.seen world.old).world.door_at ≡ None }
+    requires unused { AreUnused (W.seen world.old).home }
+    ensures answer { IsRunAnswer path.now (W.seen world.old) (W.seen world.new) result.status (cow_slice_items result.text) }
+    ensures faults { TellsFault (code_of ReadFailed) result.status
+        (W.seen world.old).world.file_faults (W.seen world.new).world.file_faults }
 {
     let path = match Text::from_str(alloc, path) {
         Ok(path) => path,

@@ -3,6 +3,7 @@ use Rattle.std.specs.Prelude.{◌≡◌, ℕ, ◌^◌, ◌<◌, ◌≤◌, ◌�
 use Rattle.std.specs.Io.KnownBytes.{Consumes}
 use Rattle.bridge_ports.specs.Causes.{Rose}
 use Rattle.bridge_ports.specs.Worlds.{WorldState, OpenFile}
+use Rattle.bridge_ports.specs.Outside.{Outside, with_world, with_file_at}
 use Rattle.bridge_config.specs.declared.config.Config.{Config}
 use Rattle.bridge_config.specs.declared.fault.ConfigFault.{ConfigFault}
 use Rattle.bridge_config.specs.declared.fault.ConfigFault.TheVariants as faults
@@ -60,14 +61,18 @@ left_of None = None
 left_of (Some file) = file.left
 
 -- of the open file these bytes were taken, and nothing else changed
-pub record ReadsFileOn (old new : WorldState) (bytes : List ℕ) : Type 0 where
-  pub still : IsSome new.file
-  pub took : Consumes (left_of old.file) (left_of new.file) bytes
-  pub rest : new ≡ record old { file = new.file }
+pub record ReadsFileOn (old new : Outside) (bytes : List ℕ) : Type 0 where
+  pub still : IsSome new.world.file
+  pub took : Consumes (left_of old.world.file) (left_of new.world.file) bytes
+  pub rest : new ≡ with_file_at new.world.file old.world.file_faults old
+
+-- what is seen once the file of this path was asked for, and is open up to here
+abbrev pub with_file_asked : List ℕ → Option OpenFile → ℕ → Outside → Outside
+with_file_asked path file faults o = with_world (record o.world { asked = Some path; file = file; file_faults = faults }) o
 
 -- a world was asked for the file of this path, and nothing else changed but how far that was read and the count of faults
-abbrev pub IsFileAsked : List ℕ → WorldState → WorldState → Type 0
-IsFileAsked path old new = new ≡ record old { asked = Some path; file = new.file; file_faults = new.file_faults }
+abbrev pub IsFileAsked : List ℕ → Outside → Outside → Type 0
+IsFileAsked path old new = new ≡ with_file_asked path new.world.file new.world.file_faults old
 
 -- how far a file was read where no configuration came of it
 abbrev pub StopsReadingFile : Option (List ℕ) → WorldState → WorldState → FileStop → Type 0

@@ -1,6 +1,7 @@
 //! The bytes of a file, and the configuration that they are.
 ghost use Rattle.std.specs.Prelude.{◌≡◌, Some, None, IsSome, IfOk, IfErr};
 ghost use Rattle.bridge_config.specs.ConfigFaults.{IsConfiguration};
+ghost use Rattle.bridge_ports.specs.Outside.{with_file_at};
 ghost use Rattle.config_file.specs.ConfigFiles.{HoldsWhole, HoldsConfig, StopsAtFile, IsFileAsked, LeavesFile, left_of};
 
 use crate::file_stop::FileStop;
@@ -14,15 +15,12 @@ const MOST_CONFIG_BYTES: usize = 1 << 20;
 
 /// The bytes of the file that is open.
 fn file_bytes<W: World>(alloc: Global, world: &mut W) -> Result<Vec<u8>, FileStop>
-    requires { IsSome (W.world world.old).file }
-    ensures bytes { IfOk result (λ bytes. HoldsWhole (left_of (W.world world.old).file) bytes.items) }
-    ensures stop { IfErr result (StopsAtFile (left_of (W.world world.old).file)) }
-    ensures leaves { LeavesFile (left_of (W.world world.old).file) (W.world world.old) (W.world world.new) result }
-    ensures rest { W.world world.new ≡ record (W.world world.old) { file = (W.world world.new).file; file_faults = (W.world world.new).file_faults } }
-    ensures files { W.files world.new ≡ W.files world.old }
-    ensures home { W.home world.new ≡ W.home world.old }
-    ensures given { W.given world.new ≡ W.given world.old }
-    ensures coming { W.coming world.new ≡ W.coming world.old }
+    requires { IsSome (W.seen world.old).world.file }
+    ensures bytes { IfOk result (λ bytes. HoldsWhole (left_of (W.seen world.old).world.file) bytes.items) }
+    ensures stop { IfErr result (StopsAtFile (left_of (W.seen world.old).world.file)) }
+    ensures leaves { LeavesFile (left_of (W.seen world.old).world.file) (W.seen world.old).world (W.seen world.new).world result }
+    ensures rest { W.seen world.new
+        ≡ with_file_at (W.seen world.new).world.file (W.seen world.new).world.file_faults (W.seen world.old) }
 {
     let mut bytes = Vec::new(alloc);
     let mut block = [0u8; BLOCK_BYTES];
@@ -40,13 +38,11 @@ fn file_bytes<W: World>(alloc: Global, world: &mut W) -> Result<Vec<u8>, FileSto
 
 /// Opens the file of a path, and gives its bytes.
 fn bytes_in<W: World>(alloc: Global, path: Text, world: &mut W) -> Result<Vec<u8>, FileStop>
-    requires { (W.world world.old).asked ≡ None }
-    ensures bytes { IfOk result (λ bytes. HoldsWhole (W.files world.old path) bytes.items) }
-    ensures stop { IfErr result (StopsAtFile (W.files world.old path)) }
-    ensures leaves { LeavesFile (W.files world.old path) (W.world world.old) (W.world world.new) result }
-    ensures asked { IsFileAsked path (W.world world.old) (W.world world.new) }
-    ensures rest { (W.files world.new ≡ W.files world.old) × (W.home world.new ≡ W.home world.old)
-        × (W.given world.new ≡ W.given world.old) × (W.coming world.new ≡ W.coming world.old) }
+    requires { (W.seen world.old).world.asked ≡ None }
+    ensures bytes { IfOk result (λ bytes. HoldsWhole ((W.seen world.old).files path) bytes.items) }
+    ensures stop { IfErr result (StopsAtFile ((W.seen world.old).files path)) }
+    ensures leaves { LeavesFile ((W.seen world.old).files path) (W.seen world.old).world (W.seen world.new).world result }
+    ensures asked { IsFileAsked path (W.seen world.old) (W.seen world.new) }
 {
     match world.open_file(path) {
         Ok(()) => file_bytes(alloc, world),
@@ -85,15 +81,11 @@ fn told(alloc: Global, bytes: &[u8], config: &Result<Config, ConfigFault>) -> Ru
 /// assert_eq!(rt; (config.rounds, config.targets.len()), (2, 2));
 /// ```
 pub fn config_in<W: World>(alloc: Global, path: Text, world: &mut W) -> Result<Config, FileStop>
-    requires { (W.world world.old).asked ≡ None }
-    ensures config { IfOk result (HoldsConfig (W.files world.old path)) }
-    ensures stop { IfErr result (StopsAtFile (W.files world.old path)) }
-    ensures leaves { LeavesFile (W.files world.old path) (W.world world.old) (W.world world.new) result }
-    ensures asked { IsFileAsked path (W.world world.old) (W.world world.new) }
-    ensures files { W.files world.new ≡ W.files world.old }
-    ensures home { W.home world.new ≡ W.home world.old }
-    ensures given { W.given world.new ≡ W.given world.old }
-    ensures coming { W.coming world.new ≡ W.coming world.old }
+    requires { (W.seen world.old).world.asked ≡ None }
+    ensures config { IfOk result (HoldsConfig ((W.seen world.old).files path)) }
+    ensures stop { IfErr result (StopsAtFile ((W.seen world.old).files path)) }
+    ensures leaves { LeavesFile ((W.seen world.old).files path) (W.seen world.old).world (W.seen world.new).world result }
+    ensures asked { IsFileAsked path (W.seen world.old) (W.seen world.new) }
 {
     let bytes = bytes_in(alloc, path, world)?;
     let config = read(alloc, bytes.as_slice());

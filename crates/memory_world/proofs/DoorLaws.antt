@@ -1,9 +1,7 @@
 -- The doors of a world in memory: what is to come, and what changes where one is handed out.
 use Rattle.std.proofs.Common.{◌≡◌, ◌∙◌, ℕ, ◌<◌, ◌≤◌, Bool, true, false, List, [], map, length, set, get_or, Option, Some, option_map, refl, sym, ap, subst, arith}
-use Rattle.std.specs.Prelude.{find, All, ◌&&◌, ◌==◌, bytes_eq}
+use Rattle.std.specs.Prelude.{find, All}
 use Rattle.std.specs.List.{position_or_len}
-use Rattle.std.proofs.lemmas.Bool.{eqb-true, and_parts}
-use Rattle.std.proofs.lemmas.Slice.Eq.{bytes_eq-Decides}
 use Rattle.std.proofs.lemmas.List.Folds.{find_past}
 use Rattle.std.proofs.lemmas.List.Elements.{All-set, All-get_or}
 use Rattle.bridge_ports.specs.declared.talk.Address.{Address}
@@ -13,18 +11,9 @@ use Rattle.bridge_ports.specs.InMemory.{MemoryDoorState, door_of, new_memory_doo
 use Rattle.bridge_ports.specs.Worlds.{is_address}
 use Rattle.bridge_ports.specs.MemoryWorlds.{ListenState, coming_of, coming_of_found}
 use Rattle.bridge_ports.specs.WorldMaking.{IsRightListen}
+use Rattle.bridge_ports.proofs.Laws.{one_address}
 use Rattle.memory_world.specs.WorldParts.{listen_given, IsListenRight, IsDoorOut}
 use Rattle.memory_world.proofs.PairLaws.{find_map, find_none, find_here, passes_here}
-
--- one address is the other
-pub one_address : (a b : Address) → is_address a b ≡ true → a ≡ b
-one_address a b e =
-    let x = and_parts (bytes_eq a.host b.host) (a.port == b.port && bytes_eq a.path b.path) e in
-    let y = and_parts (a.port == b.port) (bytes_eq a.path b.path) x.1 in
-    let host : a.host ≡ b.host = (bytes_eq-Decides a.host b.host).0 x.0 in
-    let port : a.port ≡ b.port = eqb-true a.port b.port y.0 in
-    let path : a.path ≡ b.path = (bytes_eq-Decides a.path b.path).0 y.1 in
-    λ i. record { host = host i; port = port i; path = path i }
 
 -- what is found at one address is not found at another
 other_address : (a at other : Address) → is_address a at ≡ true → is_address other at ≡ false → is_address a other ≡ false

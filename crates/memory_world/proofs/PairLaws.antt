@@ -4,7 +4,6 @@ use Rattle.std.specs.Prelude.{find, All, IsSome, ◌≢◌, ◌==◌, ◌&&◌, 
 use Rattle.std.specs.Option.{option_or, option_copied}
 use Rattle.std.specs.List.{position_or_len, remove}
 use Rattle.std.proofs.lemmas.Bool.{eqb-true, leb-true, ltb-true, ltb-false}
-use Rattle.std.proofs.lemmas.Bool.Decides.{nat_tests}
 use Rattle.std.proofs.lemmas.List.Folds.{find_at, find-set, find_past, find-append}
 use Rattle.std.proofs.lemmas.List.Sums.{passes_at_first}
 use Rattle.std.proofs.lemmas.List.Elements.{All-head, All-tail, All-set, All-push, All-take, All-drop, All-append, All-get_or}
@@ -13,6 +12,7 @@ use Rattle.bridge_ports.specs.declared.memory_world.Shelved.{Shelved}
 use Rattle.bridge_ports.specs.declared.memory_world.MemoryPair.{MemoryPair}
 use Rattle.memory_world.specs.declared.memory_pairs.KeptPair.{KeptPair}
 use Rattle.bridge_ports.specs.Plans.{MemoryState, seen_of}
+use Rattle.bridge_ports.proofs.Laws.{same_number}
 use Rattle.bridge_ports.specs.Worlds.{Given, IsHome}
 use Rattle.bridge_ports.specs.MemoryWorlds.{PairState, pair_of, given_of, given_of_found, or_bare, wires_of, bare_pair}
 use Rattle.bridge_ports.specs.WorldMaking.{HasPlaces, shown_pair, found_wires, away}
@@ -59,9 +59,6 @@ found_passes p P (y ∷ ys) x all e = by_test (p y) refl e (found_passes p P ys 
 or_none : {A : Type 0} (o : Option A) → option_or o None ≡ o
 or_none None = refl
 or_none (Some x) = refl
-
-same_number : (n : ℕ) → (n == n) ≡ true
-same_number n = grind (arith, nat_tests)
 
 other_number : (a n m : ℕ) → a ≡ n → m ≢ n → (a == m) ≡ false
 other_number a n m is other = by_test (a == m) refl

@@ -7,8 +7,9 @@ use Rattle.bridge_ports.specs.declared.memory_world.MemoryFile.{MemoryFile}
 use Rattle.bridge_ports.specs.declared.memory_world.MemoryPair.{MemoryPair}
 use Rattle.bridge_ports.specs.declared.memory_world.MemoryListen.{MemoryListen}
 use Rattle.memory_world.specs.declared.memory_pairs.KeptPair.{KeptPair}
-use Rattle.bridge_ports.specs.Plans.{MemoryState}
+use Rattle.bridge_ports.specs.Plans.{MemoryState, seen_of}
 use Rattle.bridge_ports.specs.Worlds.{Given, ShelvedPair, BackDoor, no_back_door, OpenFile, KeepsOthers, KeepsComing}
+use Rattle.bridge_ports.specs.Outside.{Outside, SeenPair, seen_pair}
 use Rattle.bridge_ports.specs.InMemory.{MemoryDoorState, door_of}
 use Rattle.bridge_ports.specs.Doors.{new_door}
 use Rattle.bridge_ports.specs.MemoryWorlds.{FileState, PairState, ListenState, MemoryWorldState, file_of, pair_of, given_of, or_bare, coming_of}
@@ -141,20 +142,12 @@ pub record IsDoorOut (at : Address) (old new : List MemoryListen) (door : Memory
   pub others : KeepsComing at (coming_of (map listen_given old)) (coming_of (map listen_given new))
   pub right : All IsListenRight new
 
--- ---- the members of a world
+-- ---- what is seen of a world
 
--- the bytes of the file of a path
-abbrev pub files_of : MemoryWorldState → List ℕ → Option (List ℕ)
-files_of w path = file_of w.files path
+-- the pair of a number that is at home, as it is seen
+abbrev pub seen_home : List PairState → ℕ → Option SeenPair
+seen_home pairs number = option_map (seen_pair seen_of) (pair_of pairs number)
 
--- the pair of a number that is at home
-abbrev pub home_of : MemoryWorldState → ℕ → Option (MemoryState × MemoryState)
-home_of w number = pair_of w.pairs number
-
--- the addresses with which the pair of a number was handed out
-abbrev pub given_in : MemoryWorldState → ℕ → Option Given
-given_in w number = given_of w.pairs number
-
--- what is to come at the door of an address
-abbrev pub coming_in : MemoryWorldState → Address → Option (List (List ℕ))
-coming_in w at = coming_of w.doors at
+-- what is seen of a world
+abbrev pub outside_of : MemoryWorldState → Outside
+outside_of w = record { world = w.world; files = file_of w.files; home = seen_home w.pairs; given = given_of w.pairs; coming = coming_of w.doors }

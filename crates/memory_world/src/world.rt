@@ -167,9 +167,12 @@ impl MemoryWorld {
 }
 
 impl World for MemoryWorld {
-    ghost use Rattle.memory_world.specs.WorldParts.{files_of, home_of, given_in, coming_in};
+    ghost use Rattle.memory_world.specs.WorldParts.{outside_of, seen_home};
     ghost use Rattle.bridge_ports.specs.WorldMaking.{IsCounted, MustFail, FailsToOpen};
-    ghost use Rattle.bridge_ports.specs.Worlds.{KeepsComing, FileReads, with_file_open, with_no_file_open};
+    ghost use Rattle.bridge_ports.specs.MemoryWorlds.{pair_of, given_of, coming_of};
+    ghost use Rattle.bridge_ports.specs.Plans.{seen_of};
+    ghost use Rattle.bridge_ports.specs.Worlds.{IsHome, KeepsOthers};
+    ghost use Rattle.bridge_ports.specs.Outside.{FileReads, with_file_open, with_no_file_open, with_pair_out, with_pair_home, with_door_asked, with_back_door, with_shelved_pair};
     ghost use Rattle.bridge_ports.specs.InMemory.{door_of};
     ghost use Rattle.bridge_ports.specs.Doors.{new_door};
 
@@ -177,28 +180,17 @@ impl World for MemoryWorld {
 
     type Door = MemoryDoor;
 
-    ghost world = { λ w. w.world };
-
-    ghost files = { files_of };
-
-    ghost home = { home_of };
-
-    ghost given = { given_in };
-
-    ghost coming = { coming_in };
+    ghost seen = { outside_of };
 
     /// Fails where it is named to, and where there is no file of this path.
     fn open_file(&mut self, path: Text) -> Result<(), Failed>
         requires { self.old.world.asked ≡ None }
         ensures cause { HasCause self.old.world.file_faults self.new.world.file_faults result }
-        ensures done { OnOk result (self.new.world ≡ with_file_open path (files_of self.old path) self.old.world) }
-        ensures failed { OnErr result
-            (self.new.world ≡ with_no_file_open path self.new.world.file_faults self.old.world) }
-        ensures files { files_of self.new ≡ files_of self.old }
-        ensures home { home_of self.new ≡ home_of self.old }
-        ensures given { given_in self.new ≡ given_in self.old }
-        ensures coming { coming_in self.new ≡ coming_in self.old }
+        ensures done { OnOk result (outside_of self.new ≡ with_file_open path (outside_of self.old)) }
+        ensures failed { OnErr result (outside_of self.new
+            ≡ with_no_file_open path self.new.world.file_faults (outside_of self.old)) }
 
+        ensures pairs { self.new.pairs ≡ self.old.pairs }
         ensures counted { IsCounted self.old self.new }
         ensures fails { IsErr result ↔ FailsToOpen self.old self.new path }
     {
@@ -217,12 +209,9 @@ impl World for MemoryWorld {
         requires some { 0 < length into.old }
         ensures bound { ReadsAtMost result into.new }
         ensures cause { HasCause self.old.world.file_faults self.new.world.file_faults result }
-        ensures bytes { FileReads self.old.world self.new.world result into.new }
-        ensures files { files_of self.new ≡ files_of self.old }
-        ensures home { home_of self.new ≡ home_of self.old }
-        ensures given { given_in self.new ≡ given_in self.old }
-        ensures coming { coming_in self.new ≡ coming_in self.old }
+        ensures bytes { FileReads (outside_of self.old) (outside_of self.new) result into.new }
 
+        ensures pairs { self.new.pairs ≡ self.old.pairs }
         ensures counted { IsCounted self.old self.new }
         ensures fails { IsErr result ↔ MustFail self.old self.new }
     {
@@ -240,14 +229,34 @@ impl World for MemoryWorld {
         scrape: &Address,
         post: &Address,
         _interval: u64,
-    ) -> Result<(MemoryWire, MemoryWire), Memory> {
+    ) -> Result<(MemoryWire, MemoryWire), Memory>
+        requires { IsSome (seen_home self.old.pairs number) }
+        ensures pair { IfOk result (λ pair. seen_home self.old.pairs number ≡ Some (seen_of pair.0, seen_of pair.1)) }
+        ensures places { IfOk result (λ pair. IsHome number false (seen_of pair.0) × IsHome number true (seen_of pair.1)) }
+        ensures out { OnOk result (outside_of self.new
+            ≡ with_pair_out number (record { scrape = scrape.now; post = post.now }) (outside_of self.old)) }
+        ensures kept { OnErr result (outside_of self.new ≡ outside_of self.old) }
+
+        ensures wires { IfOk result (λ pair. pair_of self.old.pairs number ≡ Some pair) }
+        ensures others { KeepsOthers number (pair_of self.old.pairs) (pair_of self.new.pairs) }
+        ensures same { OnErr result (self.new ≡ self.old) }
+    {
         match self.pairs.hand_out(alloc, number, scrape, post) {
             Ok(wires) => Ok((wires.scrape, wires.post)),
             Err(memory) => Err(memory),
         }
     }
 
-    fn back(&mut self, number: u32, scrape: MemoryWire, post: MemoryWire) {
+    fn back(&mut self, number: u32, scrape: MemoryWire, post: MemoryWire)
+        requires out { seen_home self.old.pairs number ≡ None }
+        requires given { IsSome (given_of self.old.pairs number) }
+        requires scrape { IsHome number false (seen_of scrape) }
+        requires post { IsHome number true (seen_of post) }
+        ensures seen { outside_of self.new ≡ with_pair_home number (seen_of scrape, seen_of post) (outside_of self.old) }
+
+        ensures wires { pair_of self.new.pairs number ≡ Some (scrape, post) }
+        ensures others { KeepsOthers number (pair_of self.old.pairs) (pair_of self.new.pairs) }
+    {
         self.pairs.take_back(number, Shelved { scrape, post });
     }
 
@@ -255,14 +264,11 @@ impl World for MemoryWorld {
     fn door(&mut self, at: Address) -> Result<MemoryDoor, Failed>
         requires { self.old.world.door_at ≡ None }
         ensures cause { HasCause self.old.world.door_faults self.new.world.door_faults result }
-        ensures asked { self.new.world ≡ record self.old.world
-            { door_at = Some at; door_faults = self.new.world.door_faults } }
-        ensures fresh { IfOk result (λ door. door_of door ≡ new_door (coming_in self.old at)) }
-        ensures files { files_of self.new ≡ files_of self.old }
-        ensures home { home_of self.new ≡ home_of self.old }
-        ensures given { given_in self.new ≡ given_in self.old }
-        ensures coming { KeepsComing at (coming_in self.old) (coming_in self.new) }
+        ensures asked { outside_of self.new ≡ with_door_asked at self.new.world.door_faults
+            (coming_of self.new.doors at) (outside_of self.old) }
+        ensures fresh { IfOk result (λ door. door_of door ≡ new_door (coming_of self.old.doors at)) }
 
+        ensures pairs { self.new.pairs ≡ self.old.pairs }
         ensures counted { IsCounted self.old self.new }
         ensures fails { IsErr result ↔ MustFail self.old self.new }
     {
@@ -275,16 +281,23 @@ impl World for MemoryWorld {
         Ok(door)
     }
 
-    fn door_back(&mut self, door: MemoryDoor) {
+    fn door_back(&mut self, door: MemoryDoor)
+        requires { IsSome self.old.world.door_at }
+        ensures seen { outside_of self.new ≡ with_back_door (door_of door) (outside_of self.old) }
+
+        ensures pairs { self.new.pairs ≡ self.old.pairs }
+    {
         self.back_door = Some(door);
     }
 
-    fn shelve(
-        &mut self,
-        _alloc: Global,
-        scrape: MemoryWire,
-        post: MemoryWire,
-    ) -> Result<(), Memory> {
+    fn shelve(&mut self, _alloc: Global, scrape: MemoryWire, post: MemoryWire) -> Result<(), Memory>
+        requires scrape { scrape.stage ≡ stages.Idle }
+        requires post { post.stage ≡ stages.Idle }
+        ensures done { OnOk result (outside_of self.new ≡ with_shelved_pair scrape post (outside_of self.old)) }
+        ensures refused { OnErr result (outside_of self.new ≡ outside_of self.old) }
+
+        ensures pairs { self.new.pairs ≡ self.old.pairs }
+    {
         match self.shelf.reserve(1) {
             Ok(()) => {}
             Err(memory) => return Err(memory),
@@ -294,7 +307,11 @@ impl World for MemoryWorld {
     }
 
     /// Keeps nothing of it.
-    fn notice(&mut self, _notice: RunNotice) {}
+    fn notice(&mut self, _notice: RunNotice)
+        ensures seen { outside_of self.new ≡ outside_of self.old }
+
+        ensures same { self.new ≡ self.old }
+    {}
 
     fn has_shelf(&self) -> bool {
         // Looked at so that its proof sees it.

@@ -8,9 +8,10 @@ use Rattle.bridge_ports.specs.declared.memory_world.MemoryPair.{MemoryPair}
 use Rattle.bridge_ports.specs.Plans.{MemoryState, seen_of}
 use Rattle.bridge_ports.specs.MemoryWorlds.{FileState, PairState, ListenState, wires_of, pair_of}
 use Rattle.bridge_ports.specs.WorldMaking.{IsRightListen, IsRightPair, MayBeMade, is_one_path}
-use Rattle.memory_world.specs.WorldParts.{fresh_pair}
+use Rattle.memory_world.specs.WorldParts.{fresh_pair, seen_home}
+use Rattle.bridge_ports.specs.Outside.{SeenPair, seen_pair}
 use Rattle.series_table.specs.Records.{IsFresh}
-use Rattle.world_run.specs.Outside.{SeenPair, seen_pair, seen_home, IsSilent, IsUnused}
+use Rattle.world_run.specs.Unused.{IsSilent, IsUnused}
 
 -- a pair that is at home and made no talk
 pub record IsReady (p : PairState) : Type 0 where
@@ -33,7 +34,7 @@ first_there p ps n false e ready rest = rw e rest
 bare_there : (n : ℕ) → 1 ≤ n → n ≤ 256 → IsThere (pair_of [] n)
 bare_there n low high = rw (le-leb 1 n low, le-leb n 256 high) (_, refl, (refl, refl))
 
-pub unused_pairs : (ps : List PairState) (n : ℕ) → AllByRecursion IsReady ps → 1 ≤ n → n ≤ 256 → IsUnused (seen_home seen_of (pair_of ps)) n
+pub unused_pairs : (ps : List PairState) (n : ℕ) → AllByRecursion IsReady ps → 1 ≤ n → n ≤ 256 → IsUnused (seen_home ps) n
 unused_pairs [] n ready low high = bare_there n low high
 unused_pairs (p ∷ ps) n ready low high = first_there p ps n (p.number == n) refl ready.0 (unused_pairs ps n ready.1 low high)
 
@@ -62,5 +63,5 @@ may_be_made files p q l file one two p_right q_right l_right = record {
 
 -- the pairs of two numbers are unused
 pub two_unused : (p q : MemoryPair) (n : ℕ) → IsFresh (seen_of p.wires.scrape) → IsFresh (seen_of p.wires.post) → IsFresh (seen_of q.wires.scrape) → IsFresh (seen_of q.wires.post) → 1 ≤ n → n ≤ 256
-    → IsUnused (seen_home seen_of (pair_of (fresh_pair p ∷ fresh_pair q ∷ []))) n
+    → IsUnused (seen_home (fresh_pair p ∷ fresh_pair q ∷ [])) n
 two_unused p q n a b c d low high = unused_pairs (fresh_pair p ∷ fresh_pair q ∷ []) n (given_ready p a b, (given_ready q c d, tt)) low high

@@ -1,8 +1,6 @@
 //! How the bridge ends over the memory of a row.
 ghost use Rattle.std.specs.Prelude.{◌≡◌, ◌≤◌, ◌↔◌, length, IfOk, IsNone};
-ghost use Rattle.bridge_ports.specs.Plans.{seen_of};
-ghost use Rattle.memory_world.specs.WorldParts.{files_of, given_in, home_of};
-ghost use Rattle.world_run.specs.Outside.{outside_of};
+ghost use Rattle.memory_world.specs.WorldParts.{outside_of};
 ghost use Rattle.bridge_program.specs.RunAnswers.{IsUnasked};
 
 use crate::row::Row;
@@ -87,14 +85,14 @@ fn failing(alloc: Global, row: &Row) -> Result<List<u64>, Memory> {
 /// A world of at most one file.
 fn world(alloc: Global, files: List<MemoryFile>, failing: List<u64>) -> MemoryWorld
     requires { length files ≤ 1 }
-    ensures { IsUnasked (outside_of seen_of result.world (files_of result) (home_of result) (given_in result)) }
+    ensures { IsUnasked (outside_of result) }
 {
     MemoryWorld::new(alloc, files, Vec::new(alloc), Vec::new(alloc), failing)
 }
 
 /// The world of a row.
 fn world_of(alloc: Global, row: &Row) -> Result<MemoryWorld, Memory>
-    ensures { IfOk result (λ w. IsUnasked (outside_of seen_of w.world (files_of w) (home_of w) (given_in w))) }
+    ensures { IfOk result (λ w. IsUnasked (outside_of w)) }
 {
     let files = files(alloc, row)?;
     let failing = failing(alloc, row)?;
@@ -115,7 +113,7 @@ fn run_in<R: Threads + Wait + Sync>(
     row: &Row,
     world: &mut MemoryWorld,
 ) -> Result<Ending, Memory>
-    requires { IsUnasked (outside_of seen_of world.old.world (files_of world.old) (home_of world.old) (given_in world.old)) }
+    requires { IsUnasked (outside_of world.old) }
 {
     let mut input = source(alloc, row)?;
     let mut output = MemorySink::new(alloc, row.asked.setting.room, List::new(alloc))?;

@@ -1,59 +1,44 @@
 -- What a run leaves.
-use Rattle.std.proofs.Common.{◌≡◌, ℕ, List, Option, Result, Ok, Err, sym, ap, subst, ◌∙◌, inl, inr}
+use Rattle.std.proofs.Common.{◌≡◌, ◌⊎◌, ℕ, Bool, List, Option, Result, Ok, Err, sym, ap, subst, ◌∙◌, inl, inr}
 use Rattle.std.specs.Prelude.{IfErr, IsErrAnd}
 use Rattle.bridge_ports.specs.Worlds.{WorldState, OpenFile}
-use Rattle.bridge_config.specs.declared.config.Config.{Config}
+use Rattle.bridge_ports.specs.Outside.{Outside}
 use Rattle.bridge_ports.specs.Inputs.{EndsWithin}
 use Rattle.config_file.specs.declared.file_stop.FileStop.{FileStop}
-use Rattle.config_file.specs.declared.file_stop.FileStop.TheVariants.{Memory}
-use Rattle.config_file.specs.ConfigFiles.{HoldsConfig, IsFileAsked, LeavesFile, StopsReadingFile, left_of, most_config}
+use Rattle.config_file.specs.declared.file_stop.FileStop.TheVariants.{TooLong, Read, Fault, Memory}
+use Rattle.config_file.specs.ConfigFiles.{IsFileAsked, LeavesFile, StopsReadingFile, left_of, most_config}
+use Rattle.bridge_config.specs.declared.config.Config.{Config}
 use Rattle.run_report.specs.declared.target_end.TargetEnd.{TargetEnd}
-use Rattle.world_run.specs.Outside.{Outside}
-use Rattle.world_run.specs.Serving.{Coming, IsServedRun, IsUnserved, EndsServedRun, BeginsNoServedRun, ChangesDoorsAlone, with_world}
-use Rattle.world_run.proofs.Laws.{IsBeside, with_own}
-use Rattle.run_command.specs.RunReports.{MayHaveRun, LeavesPairs}
+use Rattle.world_run.specs.Serving.{IsServedRun, IsUnserved, ChangesDoorsAlone, ChangesAtMost}
+use Rattle.world_run.proofs.Laws.{served_changes, unserved_changes}
+use Rattle.run_command.specs.RunReports.{IsReportOfRun, MayHaveRun, LeavesWorld, IsRunAsked}
 
--- the configuration was read, and nothing but files changed
-pub record IsRead (path : List ℕ) (config : Config) (coming now_coming : Coming) (before between : Outside) : Type 0 where
-  pub holds : HoldsConfig (before.files path) config
-  pub asked : IsFileAsked path before.world between.world
-  pub beside : IsBeside between before
-  pub same_coming : now_coming ≡ coming
+-- no configuration came of the file
+pub stopped : {T : Type 0} (r : Result T FileStop) (path : List ℕ) (before after : Outside) → IsFileAsked path before after → IfErr r (LeavesWorld path before after)
+stopped (Ok x) path before after asked = tt
+stopped (Err TooLong) path before after asked = asked
+stopped (Err Read) path before after asked = asked
+stopped (Err (Fault fault)) path before after asked = asked
+stopped (Err Memory) path before after asked = inl asked
 
--- a run behind that
-pub run_behind : (path : List ℕ) (config : Config) (coming now_coming : Coming) (before between after : Outside) (ends : List TargetEnd) (served : ℕ) → IsRead path config coming now_coming before between → IsServedRun config now_coming between after ends served
-    → IsServedRun config coming (with_world between.world before) after ends served
-run_behind path config coming now_coming before between after ends served read run =
-    subst (λ (b : Outside). IsServedRun config coming b after ends served) (with_own between before read.beside) (subst (λ (k : Coming). IsServedRun config k between after ends served) read.same_coming run)
+-- memory was wanted for a run, or for the report of one
+pub wanting : {T : Type 0} (r : Result T FileStop) (path : List ℕ) (before after : Outside) → IsErrAnd r (λ s. s ≡ Memory) → MayHaveRun path before after → IfErr r (LeavesWorld path before after)
+wanting (Ok x) path before after is may = absurd is
+wanting (Err s) path before after is may = let Left : FileStop → Type 0 = LeavesWorld path before after in subst Left (sym is) (inr may)
 
-not_begun_behind : (path : List ℕ) (config : Config) (coming now_coming : Coming) (before between after : Outside) → IsRead path config coming now_coming before between → IsUnserved config now_coming between after → IsUnserved config coming (with_world between.world before) after
-not_begun_behind path config coming now_coming before between after read run =
-    subst (λ (b : Outside). IsUnserved config coming b after) (with_own between before read.beside) (subst (λ (k : Coming). IsUnserved config k between after) read.same_coming run)
+-- ---- what becomes of a world
 
-wanting : {T W : Type 0} (r : Result T FileStop) (path : List ℕ) (coming : W → Coming) (seen : W → Outside) (before after : W) → IsErrAnd r (λ s. s ≡ Memory) → MayHaveRun path (coming before) (seen before) (seen after)
-    → IfErr r (LeavesPairs path coming seen before after)
-wanting (Ok x) path coming seen before after is may = absurd is
-wanting (Err s) path coming seen before after is may = let Left : FileStop → Type 0 = LeavesPairs path coming seen before after in subst Left (sym is) (inr may)
+-- a run that is reported asked for the file alone, and changed at most what a run may change
+pub report_asked : {path : List ℕ} {before after : Outside} {text : List ℕ} {halted : Bool} → IsReportOfRun path before after text halted → IsRunAsked path before after
+report_asked report = record { config = report.config; asked = report.asked; read = report.read; changes = served_changes report.run }
 
--- memory was wanted for the report of a run that is over
-pub report_wanting : {T W : Type 0} (r : Result T FileStop) (path : List ℕ) (config : Config) (coming : W → Coming) (seen : W → Outside) (before between after : W) (ends : List TargetEnd) (served : ℕ) → IsErrAnd r (λ s. s ≡ Memory)
-    → IsRead path config (coming before) (coming between) (seen before) (seen between) → EndsServedRun config coming seen between after ends served → IfErr r (LeavesPairs path coming seen before after)
-report_wanting r path config coming seen before between after ends served is read run = wanting r path coming seen before after is (record {
-  config = config;
-  asked = (seen between).world;
-  read = record { config_is = read.holds; file = read.asked };
-  left = inr (ends, served, run_behind path config (coming before) (coming between) (seen before) (seen between) (seen after) ends served read run);
-})
+left_changes : (c : Config) (asked after : Outside) → IsUnserved c asked after ⊎ ((ends : List TargetEnd) × (served : ℕ) × IsServedRun c asked after ends served) → ChangesAtMost c.door asked after
+left_changes c asked after (inl not_begun) = unserved_changes not_begun
+left_changes c asked after (inr run) = served_changes run.2
 
--- memory was wanted for a run that was not begun
-pub run_wanting : {T W : Type 0} (r : Result T FileStop) (path : List ℕ) (config : Config) (coming : W → Coming) (seen : W → Outside) (before between after : W) → IsErrAnd r (λ s. s ≡ Memory)
-    → IsRead path config (coming before) (coming between) (seen before) (seen between) → BeginsNoServedRun config coming seen between after → IfErr r (LeavesPairs path coming seen before after)
-run_wanting r path config coming seen before between after is read run = wanting r path coming seen before after is (record {
-  config = config;
-  asked = (seen between).world;
-  read = record { config_is = read.holds; file = read.asked };
-  left = inl (not_begun_behind path config (coming before) (coming between) (seen before) (seen between) (seen after) read run);
-})
+-- and so did one that may have been
+pub run_asked : {path : List ℕ} {before after : Outside} → MayHaveRun path before after → IsRunAsked path before after
+run_asked may = record { config = may.config; asked = may.asked; read = may.read; changes = left_changes may.config may.asked _ may.left }
 
 -- ---- the file
 

@@ -2,8 +2,8 @@
 ghost use Rattle.std.specs.Prelude.{◌≡◌, None, IfOk, IfErr, OnErr};
 ghost use Rattle.bridge_config.specs.declared.config.Config.{Config as AnyConfig};
 ghost use Rattle.config_file.specs.ConfigFiles.{StopsAtFile, LeavesFile};
-ghost use Rattle.world_run.specs.Outside.{seen_home, seen_world, AreUnused};
-ghost use Rattle.run_command.specs.RunReports.{ReportsRun, LeavesPairs, IsRunAsked, MayKeepComing};
+ghost use Rattle.world_run.specs.Unused.{AreUnused};
+ghost use Rattle.run_command.specs.RunReports.{IsReportOfRun, LeavesWorld};
 
 use crate::report::{Report, report_of};
 use bridge_ports::{Conn, Door, World};
@@ -37,18 +37,13 @@ pub fn run<R: Threads + Wait + Sync, K: Conn, E: Door<Conn = K>, W: World<Door =
     path: Text,
     world: &mut W,
 ) -> Result<Report, FileStop>
-    requires asked { (W.world world.old).asked ≡ None }
-    requires no_door { (W.world world.old).door_at ≡ None }
-    requires unused { AreUnused (seen_home W.Wire.state (W.home world.old)) }
-    ensures report { IfOk result (λ report. ReportsRun path W.coming
-        (seen_world W.Wire.state W.world W.files W.home W.given) world.old world.new report.text.items report.halted) }
-    ensures stop { IfErr result (StopsAtFile (W.files world.old path)) }
-    ensures pairs { IfErr result (LeavesPairs path W.coming
-        (seen_world W.Wire.state W.world W.files W.home W.given) world.old world.new) }
-    ensures leaves { LeavesFile (W.files world.old path) (W.world world.old) (W.world world.new) result }
-    ensures asked { IsRunAsked path (W.world world.old) (W.world world.new) }
-    ensures files { W.files world.new ≡ W.files world.old }
-    ensures coming { MayKeepComing (W.files world.old path) (W.coming world.old) (W.coming world.new) }
+    requires asked { (W.seen world.old).world.asked ≡ None }
+    requires no_door { (W.seen world.old).world.door_at ≡ None }
+    requires unused { AreUnused (W.seen world.old).home }
+    ensures report { IfOk result (λ report. IsReportOfRun path (W.seen world.old) (W.seen world.new) report.text.items report.halted) }
+    ensures stop { IfErr result (StopsAtFile ((W.seen world.old).files path)) }
+    ensures world { IfErr result (LeavesWorld path (W.seen world.old) (W.seen world.new)) }
+    ensures leaves { LeavesFile ((W.seen world.old).files path) (W.seen world.old).world (W.seen world.new).world result }
 {
     let config = config_in(alloc, path, world)?;
     let end = run_config(rt, alloc, &config, world)?;

@@ -1,3 +1,4 @@
+pub mod Edges
 pub mod Machine
 pub mod DoorCounts
 pub mod Pairs

@@ -2,8 +2,8 @@
 -- The bridge's own.
 use Rattle.std.specs.Prelude.{ℕ, List, [], Option, None, option_map}
 use Rattle.bridge_ports.specs.declared.talk.Address.{Address}
-use Rattle.bridge_ports.specs.Talks.{WireState}
-use Rattle.bridge_ports.specs.Worlds.{WorldState, OpenFile, BackDoor, no_back_door, Given}
+use Rattle.bridge_ports.specs.Worlds.{WorldState, OpenFile, BackDoor, no_back_door}
+use Rattle.bridge_ports.specs.Outside.{Outside}
 use Rattle.std_edge.specs.Pairs.{PairSeen, home_in, last_given_in}
 
 -- a world: how many calls on files failed, and how many on doors; the file asked for, and the one that is open; the door asked for, and what came back of it; and the pairs that were handed out, by number
@@ -24,24 +24,12 @@ new_machine = record { file_faults = 0; door_faults = 0; asked = None; file = No
 abbrev pub open_seen : {F : Type 0} → Option F → Option OpenFile
 open_seen file = option_map (λ _. record { left = None }) file
 
--- ---- the members of a world
+-- ---- what is seen of a world
 
--- what is seen of it but its pairs; no shelf is told
+-- files and doors; no shelf is told
 abbrev pub machine_world : MachineState → WorldState
 machine_world w = record { file_faults = w.file_faults; door_faults = w.door_faults; asked = w.asked; file = w.file; door_at = w.door_at; back_door = w.back_door; shelf = None }
 
--- the bytes of a file are not told
-abbrev pub machine_files : MachineState → List ℕ → Option (List ℕ)
-machine_files w path = None
-
--- the pair of a number that is at home
-abbrev pub machine_home : MachineState → ℕ → Option (WireState × WireState)
-machine_home w number = home_in w.pairs number
-
--- the addresses with which the pair of a number was handed out
-abbrev pub machine_given : MachineState → ℕ → Option Given
-machine_given w number = last_given_in w.pairs number
-
--- what is to come at a door is not told
-abbrev pub machine_coming : MachineState → Address → Option (List (List ℕ))
-machine_coming w at = None
+-- all of it: the bytes of a file, and those that are to come at a door, are not told
+abbrev pub machine_outside : MachineState → Outside
+machine_outside w = record { world = machine_world w; files = λ _. None; home = home_in w.pairs; given = last_given_in w.pairs; coming = λ _. None }

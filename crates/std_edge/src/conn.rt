@@ -7,7 +7,7 @@ ghost use Rattle.bridge_ports.specs.Edges.{untold};
 ghost use Rattle.bridge_ports.specs.InMemory.{one_more};
 
 use crate::deadline::{Deadline, MOST_LINGER, MOST_WAIT};
-use bridge_ports::std_edge::StdStream;
+use crate::stream::StdStream;
 use bridge_ports::{Conn, Failed, Reason, Sink, Source};
 use std::io;
 use std::marker::Model;

@@ -9,8 +9,8 @@ use crate::pace::Pace;
 use crate::pairs::NetPairs;
 use crate::peer::{PeerName, host_of};
 use crate::steady_clock::SteadyClock;
+use crate::stream::StdStream;
 use crate::wire::NetWire;
-use bridge_ports::std_edge::StdStream;
 use bridge_ports::{Address, Failed, MemoryWire, Reason, RunNotice, Source, World};
 use label_sets::{Memory, Text};
 use std::alloc::Global;
@@ -127,34 +127,22 @@ where
         + Send
         + Drop,
 {
-    ghost use Rattle.bridge_ports.specs.Worlds.{KeepsComing, FileReads, with_file_open, with_no_file_open};
+    ghost use Rattle.bridge_ports.specs.Outside.{FileReads, with_file_open, with_no_file_open, with_door_asked};
     ghost use Rattle.bridge_ports.specs.Doors.{new_door};
-    ghost use Rattle.std_edge.specs.World.{machine_world, machine_files, machine_home, machine_given, machine_coming};
+    ghost use Rattle.std_edge.specs.World.{machine_outside};
 
     type Wire = NetWire<R>;
 
     type Door = NetDoor<R>;
 
-    ghost world = { machine_world };
-
-    ghost files = { machine_files };
-
-    ghost home = { machine_home };
-
-    ghost given = { machine_given };
-
-    ghost coming = { machine_coming };
+    ghost seen = { machine_outside };
 
     fn open_file(&mut self, path: Text) -> Result<(), Failed>
         requires { self.old.asked ≡ None }
         ensures cause { HasCause self.old.file_faults self.new.file_faults result }
-        ensures done { OnOk result (machine_world self.new ≡ with_file_open path (machine_files self.old path) (machine_world self.old)) }
-        ensures failed { OnErr result
-            (machine_world self.new ≡ with_no_file_open path self.new.file_faults (machine_world self.old)) }
-        ensures files { machine_files self.new ≡ machine_files self.old }
-        ensures home { machine_home self.new ≡ machine_home self.old }
-        ensures given { machine_given self.new ≡ machine_given self.old }
-        ensures coming { machine_coming self.new ≡ machine_coming self.old }
+        ensures done { OnOk result (machine_outside self.new ≡ with_file_open path (machine_outside self.old)) }
+        ensures failed { OnErr result (machine_outside self.new
+            ≡ with_no_file_open path self.new.file_faults (machine_outside self.old)) }
 
         ensures fault { OnErr result (self.new.file_faults ≡ one_more self.old.file_faults) }
     {
@@ -177,11 +165,7 @@ where
         requires some { 0 < length into.old }
         ensures bound { ReadsAtMost result into.new }
         ensures cause { HasCause self.old.file_faults self.new.file_faults result }
-        ensures bytes { FileReads (machine_world self.old) (machine_world self.new) result into.new }
-        ensures files { machine_files self.new ≡ machine_files self.old }
-        ensures home { machine_home self.new ≡ machine_home self.old }
-        ensures given { machine_given self.new ≡ machine_given self.old }
-        ensures coming { machine_coming self.new ≡ machine_coming self.old }
+        ensures bytes { FileReads (machine_outside self.old) (machine_outside self.new) result into.new }
 
         ensures fault { OnErr result (self.new.file_faults ≡ one_more self.old.file_faults) }
     {
@@ -221,13 +205,9 @@ where
     fn door(&mut self, at: Address) -> Result<NetDoor<R>, Failed>
         requires { self.old.door_at ≡ None }
         ensures cause { HasCause self.old.door_faults self.new.door_faults result }
-        ensures asked { machine_world self.new ≡ record (machine_world self.old)
-            { door_at = Some at; door_faults = self.new.door_faults } }
-        ensures fresh { IfOk result (λ door. door ≡ new_door (machine_coming self.old at)) }
-        ensures files { machine_files self.new ≡ machine_files self.old }
-        ensures home { machine_home self.new ≡ machine_home self.old }
-        ensures given { machine_given self.new ≡ machine_given self.old }
-        ensures coming { KeepsComing at (machine_coming self.old) (machine_coming self.new) }
+        ensures asked { machine_outside self.new
+            ≡ with_door_asked at self.new.door_faults None (machine_outside self.old) }
+        ensures fresh { IfOk result (λ door. door ≡ new_door None) }
 
         ensures fault { OnErr result (self.new.door_faults ≡ one_more self.old.door_faults) }
     {

@@ -8,6 +8,7 @@ use Rattle.bridge_ports.specs.declared.talk.Address.{Address}
 use Rattle.bridge_ports.specs.Targets.{Scraped}
 use Rattle.bridge_ports.specs.Talks.{Plan}
 use Rattle.bridge_ports.specs.Worlds.{Given}
+use Rattle.bridge_ports.specs.Outside.{Outside}
 use Rattle.series_table.specs.HttpTalks.{talking}
 use Rattle.series_table.specs.declared.counts.Counts.{Counts}
 use Rattle.series_table.specs.Talking.{Followed}
@@ -17,7 +18,7 @@ use Rattle.scraper_pool.specs.Turns.{run_of}
 use Rattle.bridge_config.specs.declared.config.Config.{Config}
 use Rattle.bridge_config.specs.RightConfigs.{IsRightConfig}
 use Rattle.run_report.specs.declared.target_end.TargetEnd.{TargetEnd}
-use Rattle.world_run.specs.Outside.{Outside, most_pairs}
+use Rattle.world_run.specs.Unused.{most_pairs}
 use Rattle.world_run.specs.Ends.{config_followed, AreCountsOf, IsEndAtHome, AreEndsAtHome, KeepsRest, IsRunEnd, IsNotBegun}
 use Rattle.run_report.specs.Ends.{track_end}
 use Rattle.world_run.specs.Taken.{EachTrack, IsFirstTrack, IsPairOf, IsOut, IsInPlace}
@@ -118,7 +119,7 @@ ends_from c o number (t ∷ ts) (l ∷ ls) same each =
     )
 
 -- the end of the target at a place
-end_there : (c : Config) (ks ls : List Kept) (mid after : Outside) → EachTrack (IsFirstTrack c) ks → map (λ (k : Kept). k.followed.target) ks ≡ c.targets → EachTrack (IsOut mid.home mid.given) ks → IsRunOver talking (run_of c.rounds ks) ls
+end_there : (c : Config) (ks ls : List Kept) (mid after : Outside) → EachTrack (IsFirstTrack c) ks → map (λ (k : Kept). k.followed.target) ks ≡ c.targets → EachTrack (IsOut mid) ks → IsRunOver talking (run_of c.rounds ks) ls
     → EachTrack (IsPairOf after.home) ls → after.given ≡ mid.given → (i : ℕ) (t : Scraped) (d : Kept) → i < length ls → IsEndAtHome c after (1 + i) (get_or c.targets i t) (track_end (get_or ls i d))
 end_there c ks ls mid after first targets out over home given i t d within =
     let less : i < length ks = omega (arith, as_many_back c.rounds ks ls over, within) in
@@ -132,7 +133,7 @@ end_there c ks ls mid after first targets out over home given i t d within =
     (end_at_home c after i (get_or ks i d) (get_or ls i d) (first i d less) at (over.visited i d within) (home i d within) told_to))
 
 -- a run that is over, whose wires came home
-pub run_end : (c : Config) (ks ls : List Kept) (ends : List TargetEnd) (before mid after : Outside) → EachTrack (IsFirstTrack c) ks → map (λ (k : Kept). k.followed.target) ks ≡ c.targets → EachTrack (IsOut mid.home mid.given) ks
+pub run_end : (c : Config) (ks ls : List Kept) (ends : List TargetEnd) (before mid after : Outside) → EachTrack (IsFirstTrack c) ks → map (λ (k : Kept). k.followed.target) ks ≡ c.targets → EachTrack (IsOut mid) ks
     → KeepsRest (length c.targets) before mid → IsRunOver talking (run_of c.rounds ks) ls → ends ≡ map track_end ls → EachTrack (IsPairOf after.home) ls → KeepsRest (length ls) mid after → after.given ≡ mid.given → IsRunEnd c before after ends
 run_end c ks ls ends before mid after first targets out rest over ends_are home rest_after given =
     let many : length ls ≡ length c.targets = as_many_back c.rounds ks ls over ∙ as_many_targets c ks targets in

@@ -1,6 +1,6 @@
 -- The pairs of a run: how they are taken, and how they come home.
 use Rattle.std.proofs.Common.{◌≡◌, ◌≢◌, ℕ, zero, suc, ◌+◌, ◌<◌, ◌≤◌, ◌⊎◌, inl, inr, Bool, true, false, List, [], ◌∷◌, ◌++◌, length, map, take, get_or, Option, Some, None, refl, sym, ap, subst, ◌∙◌, arith}
-use Rattle.std.specs.Prelude.{option_map, is_some, IsSome}
+use Rattle.std.specs.Prelude.{is_some, IsSome}
 use Rattle.std.proofs.lemmas.Bool.{cases_lt, cases_eq}
 use Rattle.std.proofs.lemmas.List.{append-nil, append_assoc, length-append, map-append, take_more}
 use Rattle.std.proofs.Math.Seq.{get_or-append_seam}
@@ -9,29 +9,72 @@ use Rattle.bridge_ports.specs.Targets.{Scraped, IsScraped}
 use Rattle.bridge_ports.specs.Talks.{WireState}
 use Rattle.bridge_ports.specs.declared.talk.Stage.TheVariants.{Idle}
 use Rattle.bridge_ports.specs.Worlds.{Given, IsHome, KeepsOthers}
+use Rattle.bridge_ports.specs.Outside.{SeenPair, Outside, at_number, with_pairs, with_pair_out, with_pair_home}
+use Rattle.bridge_ports.proofs.Laws.{at_same, at_others}
 use Rattle.series_table.specs.HttpTalks.{talking}
 use Rattle.series_table.specs.declared.counts.Counts.{Counts}
 use Rattle.series_table.specs.Talking.{Followed}
 use Rattle.series_table.specs.Records.{Kept, IsNew, IsTrack}
 use Rattle.bridge_config.specs.declared.config.Config.{Config}
-use Rattle.world_run.specs.Outside.{SeenPair, seen_pair, seen_home, Outside, most_pairs, IsUnused, AreUnused}
+use Rattle.world_run.specs.Unused.{most_pairs, IsUnused, AreUnused}
 use Rattle.world_run.specs.Ends.{KeepsRest}
 use Rattle.world_run.specs.Taken.{EachTrack, IsFirstTrack, IsPairOf, IsOut, IsInPlace, IsAway, KeepsOtherPairs}
 
--- ---- pairs as they are seen
+-- ---- worlds as they are seen
 
--- a pair that is not seen at home is not there
-pub not_there : {A : Type 0} (state : A → WireState) (pair : Option (A × A)) → option_map (seen_pair state) pair ≡ None → pair ≡ None
-not_there state None e = refl
-not_there state (Some p) e = cc (e)
+-- once a pair was handed out it is not at home, and has its addresses
+pub out_now : (number : ℕ) (given : Given) (o next : Outside) → next ≡ with_pair_out number given o → (next.home number ≡ None) × (next.given number ≡ Some given)
+out_now number given o next is = (
+  ap (λ (x : Outside). x.home number) is ∙ at_same number None o.home,
+  ap (λ (x : Outside). x.given number) is ∙ at_same number (Some given) o.given,
+)
 
--- what holds of the others holds of them as they are seen
-pub others_seen : {A : Type 0} (state : A → WireState) (number : ℕ) (home next : ℕ → Option (A × A)) → KeepsOthers number home next → KeepsOthers number (seen_home state home) (seen_home state next)
-others_seen state number home next others = λ n other. ap (option_map (seen_pair state)) (others n other)
+-- what changed but pairs is as it was, over two stretches of the way
+chained : (a b c : Outside) → b ≡ with_pairs b.home b.given a → c ≡ with_pairs c.home c.given b → c ≡ with_pairs c.home c.given a
+chained a b c first then = then ∙ ap (with_pairs c.home c.given) first
 
--- a pair that is at home, as it is seen
-pub pair_seen_home : {A : Type 0} (state : A → WireState) (home : ℕ → Option (A × A)) (number : ℕ) (a b : A) (scrape post : WireState) → home number ≡ Some (a, b) → state a ≡ scrape → state b ≡ post → seen_home state home number ≡ Some (scrape, post)
-pair_seen_home state home number a b scrape post is s p = ap (option_map (seen_pair state)) is ∙ cc (s, p)
+-- what changed but one pair and its addresses is as it was
+with_own_pairs : (home : ℕ → Option SeenPair) (given : ℕ → Option Given) (o next : Outside) → next ≡ with_pairs home given o → next ≡ with_pairs next.home next.given o
+with_own_pairs home given o next is =
+    let home_is : home ≡ next.home = sym (ap (λ (x : Outside). x.home) is) in
+    let given_is : given ≡ next.given = sym (ap (λ (x : Outside). x.given) is) in
+    is ∙ (λ i. with_pairs (home_is i) (given_is i) o)
+
+pub out_keeps : (number : ℕ) (given : Given) (o next : Outside) → next ≡ with_pair_out number given o → KeepsOtherPairs number o next
+out_keeps number given o next is = record {
+  but_pairs = with_own_pairs (at_number number None o.home) (at_number number (Some given) o.given) o next is;
+  homes = λ n other. ap (λ (x : Outside). x.home n) is ∙ at_others number None o.home n other;
+  addresses = λ n other. ap (λ (x : Outside). x.given n) is ∙ at_others number (Some given) o.given n other;
+}
+
+-- a pair that came home is there, and the others are where they were
+pub back_now : (number : ℕ) (pair : SeenPair) (o next : Outside) → next ≡ with_pair_home number pair o → next.home number ≡ Some pair
+back_now number pair o next is = ap (λ (x : Outside). x.home number) is ∙ at_same number (Some pair) o.home
+
+pub back_others : (number : ℕ) (pair : SeenPair) (o next : Outside) → next ≡ with_pair_home number pair o → KeepsOthers number o.home next.home
+back_others number pair o next is = λ n other. ap (λ (x : Outside). x.home n) is ∙ at_others number (Some pair) o.home n other
+
+back_keeps : (number : ℕ) (pair : SeenPair) (o next : Outside) → next ≡ with_pair_home number pair o → KeepsOtherPairs number o next
+back_keeps number pair o next is = record {
+  but_pairs = with_own_pairs (at_number number (Some pair) o.home) o.given o next is;
+  homes = back_others number pair o next is;
+  addresses = λ n other. ap (λ (x : Outside). x.given n) is;
+}
+
+both_keep : (number : ℕ) (a b c : Outside) → KeepsOtherPairs number a b → KeepsOtherPairs number b c → KeepsOtherPairs number a c
+both_keep number a b c first then = record {
+  but_pairs = chained a b c first.but_pairs then.but_pairs;
+  homes = λ n other. then.homes n other ∙ first.homes n other;
+  addresses = λ n other. then.addresses n other ∙ first.addresses n other;
+}
+
+-- a pair that was handed out and came back at once leaves the others as they were
+pub out_and_back : (number : ℕ) (given : Given) (pair : SeenPair) (o out next : Outside) → out ≡ with_pair_out number given o → next ≡ with_pair_home number pair out → KeepsOtherPairs number o next
+out_and_back number given pair o out next is then = both_keep number o out next (out_keeps number given o out is) (back_keeps number pair out next then)
+
+-- and where nothing changed, they are too
+pub same_keeps : (number : ℕ) (o next : Outside) → next ≡ o → KeepsOtherPairs number o next
+same_keeps number o next is = subst (KeepsOtherPairs number o) (sym is) (record { but_pairs = refl; homes = λ n other. refl; addresses = λ n other. refl })
 
 -- a wire of this state is at home
 pub wire_home : (wire state : WireState) (number : ℕ) (post : Bool) → wire ≡ state → state.stage ≡ Idle → state.place ≡ record { number = number; post = post } → IsHome number post wire
@@ -56,13 +99,19 @@ first_track c place t to scrape post k new same track scrape_home post_home scra
   goes_on = new.goes_on;
 }
 
+-- its pair is out, with these addresses
+pub out_with : (place : ℕ) (given : Given) (o next : Outside) (k : Kept) → next ≡ with_pair_out (place + 1) given o → given ≡ record { scrape = k.followed.target.address; post = k.followed.to } → IsOut next place k
+out_with place given o next k is given_is =
+    let now = out_now (place + 1) given o next is in
+    record { away = now.0; given_is = now.1 ∙ ap (λ (g : Given). Some g) given_is }
+
 -- the tracks of the targets so far, whose pairs are out
 pub record AreTaken (c : Config) (at : ℕ) (ks : List Kept) (before now : Outside) : Type 0 where
   pub many : length ks ≡ at
   pub first : EachTrack (IsFirstTrack c) ks
   pub targets : map (λ (k : Kept). k.followed.target) ks ≡ take at c.targets
   pub was : EachTrack (IsPairOf before.home) ks
-  pub out : EachTrack (IsOut now.home now.given) ks
+  pub out : EachTrack (IsOut now) ks
   pub rest : KeepsRest at before now
 
 -- before the first track none is taken
@@ -73,7 +122,7 @@ none_taken c ks o none = subst (λ (ls : List Kept). AreTaken c 0 ls o o) (sym n
   targets = refl;
   was = λ i d within. absurd (omega (arith, within));
   out = λ i d within. absurd (omega (arith, within));
-  rest = record { world = refl; files = refl; homes = λ n outside. refl; addresses = λ n outside. refl };
+  rest = record { but_pairs = refl; homes = λ n outside. refl; addresses = λ n outside. refl };
 })
 
 each_more : (P : ℕ → Kept → Type 0) (ks : List Kept) (k : Kept) → EachTrack P ks → P (length ks) k → EachTrack P (ks ++ k ∷ [])
@@ -94,8 +143,7 @@ another at many n within (inr above) = λ same. omega (arith, within, above, sam
 -- the rest stays once the pair of the next number changes
 rest_more : (at many : ℕ) (before now next : Outside) → at < many → KeepsRest at before now → KeepsOtherPairs (at + 1) now next → KeepsRest many before next
 rest_more at many before now next within rest others = record {
-  world = others.world ∙ rest.world;
-  files = others.files ∙ rest.files;
+  but_pairs = chained before now next rest.but_pairs others.but_pairs;
   homes = λ n outside. others.homes n (another at many n within outside) ∙ rest.homes n (outside_fewer at many n (omega (arith, within)) outside);
   addresses = λ n outside. others.addresses n (another at many n within outside) ∙ rest.addresses n (outside_fewer at many n (omega (arith, within)) outside);
 }
@@ -107,7 +155,7 @@ unused_still at before now unused rest few =
     (was.0, rest.homes (at + 1) (inr (omega arith)) ∙ was.1, was.2)
 
 -- the tracks that are out stay out while the pair of another number changes
-pub still_out : (at : ℕ) (ks : List Kept) (now next : Outside) → length ks ≡ at → EachTrack (IsOut now.home now.given) ks → KeepsOtherPairs (at + 1) now next → EachTrack (IsOut next.home next.given) ks
+pub still_out : (at : ℕ) (ks : List Kept) (now next : Outside) → length ks ≡ at → EachTrack (IsOut now) ks → KeepsOtherPairs (at + 1) now next → EachTrack (IsOut next) ks
 still_out at ks now next many out others = λ i d within.
     let other : i + 1 ≢ at + 1 = λ same. omega (arith, many, within, same) in
     record {
@@ -117,19 +165,19 @@ still_out at ks now next many out others = λ i d within.
 
 -- one track more is taken
 one_taken : (c : Config) (at : ℕ) (t : Scraped) (ks : List Kept) (k : Kept) (before now next : Outside) → at < length c.targets → t ≡ get_or c.targets at t → AreTaken c at ks before now
-    → IsFirstTrack c at k → k.followed.target ≡ t → IsPairOf now.home at k → IsOut next.home next.given at k → KeepsOtherPairs (at + 1) now next → AreTaken c (at + 1) (ks ++ k ∷ []) before next
+    → IsFirstTrack c at k → k.followed.target ≡ t → IsPairOf now.home at k → IsOut next at k → KeepsOtherPairs (at + 1) now next → AreTaken c (at + 1) (ks ++ k ∷ []) before next
 one_taken c at t ks k before now next within is taken first target was out others = record {
   many = length-append ks (k ∷ []) ∙ ap (λ n. n + 1) taken.many;
   first = each_more (IsFirstTrack c) ks k taken.first (subst (λ n. IsFirstTrack c n k) (sym taken.many) first);
   targets = map-append (λ (l : Kept). l.followed.target) ks (k ∷ []) ∙ ap (λ ts. ts ++ k.followed.target ∷ []) taken.targets
       ∙ ap (λ u. take at c.targets ++ u ∷ []) (target ∙ is) ∙ sym (take_more c.targets at t within);
   was = each_more (IsPairOf before.home) ks k taken.was (subst (λ n. IsPairOf before.home n k) (sym taken.many) (sym (taken.rest.homes (at + 1) (inr (omega arith))) ∙ was));
-  out = each_more (IsOut next.home next.given) ks k (still_out at ks now next taken.many taken.out others) (subst (λ n. IsOut next.home next.given n k) (sym taken.many) out);
+  out = each_more (IsOut next) ks k (still_out at ks now next taken.many taken.out others) (subst (λ n. IsOut next n k) (sym taken.many) out);
   rest = rest_more at (at + 1) before now next (omega arith) taken.rest others;
 }
 
 pub next_taken : (c : Config) (at : ℕ) (t : Scraped) (ks more : List Kept) (k : Kept) (before now next : Outside) → more ≡ ks ++ k ∷ [] → at < length c.targets → t ≡ get_or c.targets at t → AreTaken c at ks before now
-    → IsFirstTrack c at k → k.followed.target ≡ t → IsPairOf now.home at k → IsOut next.home next.given at k → KeepsOtherPairs (at + 1) now next → AreTaken c (at + 1) more before next
+    → IsFirstTrack c at k → k.followed.target ≡ t → IsPairOf now.home at k → IsOut next at k → KeepsOtherPairs (at + 1) now next → AreTaken c (at + 1) more before next
 next_taken c at t ks more k before now next are within is taken first target was out others =
     subst (λ ls. AreTaken c (at + 1) ls before next) (sym are) (one_taken c at t ks k before now next within is taken first target was out others)
 
@@ -139,14 +187,14 @@ next_taken c at t ks more k before now next are within is taken first target was
 pub first_in_place : (c : Config) (ks : List Kept) → EachTrack (IsFirstTrack c) ks → EachTrack IsInPlace ks
 first_in_place c ks first = λ i d within. record { scrape = (first i d within).at.scrape_place; post = (first i d within).at.post_place }
 
-some_given : (given : ℕ → Option Given) (n : ℕ) (g : Given) → given n ≡ Some g → IsSome (given n)
+pub some_given : (given : ℕ → Option Given) (n : ℕ) (g : Given) → given n ≡ Some g → IsSome (given n)
 some_given given n g is = ap (λ (o : Option Given). is_some o) is
 
 -- pairs that are out are away
-pub out_away : (ks ls : List Kept) (home : ℕ → Option SeenPair) (given : ℕ → Option Given) → EachTrack (IsOut home given) ks → length ls ≡ length ks → EachTrack (IsAway home given) ls
-out_away ks ls home given out same = λ i d within.
-    let o = out i d (omega (arith, same, within)) in
-    (o.away, some_given given (i + 1) _ o.given_is)
+pub out_away : (ks ls : List Kept) (o : Outside) → EachTrack (IsOut o) ks → length ls ≡ length ks → EachTrack (IsAway o) ls
+out_away ks ls o out same = λ i d within.
+    let is = out i d (omega (arith, same, within)) in
+    (is.away, some_given o.given (i + 1) _ is.given_is)
 
 -- while wires come home: those of the last tracks are there, and every other pair is as it was
 pub record ComesHome (ks left : List Kept) (before now : Outside) : Type 0 where
@@ -154,9 +202,7 @@ pub record ComesHome (ks left : List Kept) (before now : Outside) : Type 0 where
   pub all : ks ≡ left ++ gone
   pub back : (j : ℕ) (d : Kept) → j < length gone → IsPairOf now.home (length left + j) (get_or gone j d)
   pub homes : (n : ℕ) → (n ≤ length left) ⊎ (length ks < n) → now.home n ≡ before.home n
-  pub given : now.given ≡ before.given
-  pub world : now.world ≡ before.world
-  pub files : now.files ≡ before.files
+  pub but_homes : now ≡ with_pairs now.home before.given before
 
 pub none_home : (ks : List Kept) (before : Outside) → ComesHome ks ks before before
 none_home ks before = record {
@@ -164,9 +210,7 @@ none_home ks before = record {
   all = sym (append-nil ks);
   back = λ j d within. absurd (omega (arith, within));
   homes = λ n other. refl;
-  given = refl;
-  world = refl;
-  files = refl;
+  but_homes = refl;
 }
 
 -- the track that comes home next is the one at its place
@@ -202,26 +246,28 @@ pub ending : (ks left rest : List Kept) (k : Kept) (before now : Outside) → le
 ending ks left rest k before now are is = subst (λ ls. ComesHome ks ls before now) are is
 
 -- one pair more is at home
-pub one_home : (ks rest : List Kept) (k : Kept) (n : ℕ) (before now next : Outside) → length rest ≡ n → ComesHome ks (rest ++ k ∷ []) before now → KeepsOthers (n + 1) now.home next.home → IsPairOf next.home n k
-    → next.given ≡ now.given → next.world ≡ now.world → next.files ≡ now.files → ComesHome ks rest before next
-one_home ks rest k n before now next at is others here given world files =
-    let others_at = subst (λ m. KeepsOthers (m + 1) now.home next.home) (sym at) others in
+pub one_home : (ks rest : List Kept) (k : Kept) (n : ℕ) (before now next : Outside) (scrape post : WireState) → length rest ≡ n → ComesHome ks (rest ++ k ∷ []) before now → next ≡ with_pair_home (n + 1) (scrape, post) now
+    → scrape ≡ k.scrape → post ≡ k.post → ComesHome ks rest before next
+one_home ks rest k n before now next scrape post at is changed scrape_is post_is =
+    let pair : SeenPair = (scrape, post) in
+    let here : IsPairOf next.home n k = back_now (n + 1) pair now next changed ∙ (λ i. Some (scrape_is i, post_is i)) in
+    let others_at = subst (λ m. KeepsOthers (m + 1) now.home next.home) (sym at) (back_others (n + 1) pair now next changed) in
+    let home_is : at_number (n + 1) (Some pair) now.home ≡ next.home = sym (ap (λ (o : Outside). o.home) changed) in
+    let own : next ≡ with_pairs next.home now.given now = changed ∙ ap (λ (home : ℕ → Option SeenPair). with_pairs home now.given now) home_is in
     record {
       gone = k ∷ is.gone;
       all = is.all ∙ append_assoc rest (k ∷ []) is.gone;
       back = back_more now next rest is.gone k is.back others_at (subst (λ m. IsPairOf next.home m k) (sym at) here);
       homes = homes_more ks rest k before now next is others_at;
-      given = given ∙ is.given;
-      world = world ∙ is.world;
-      files = files ∙ is.files;
+      but_homes = own ∙ ap (λ (o : Outside). with_pairs next.home o.given o) is.but_homes;
     }
 
 -- the pair of the track that comes home next is away, as it was
-pub still_away : (ks rest : List Kept) (k : Kept) (n : ℕ) (before now : Outside) → length rest ≡ n → ComesHome ks (rest ++ k ∷ []) before now → EachTrack (IsAway before.home before.given) ks → IsAway now.home now.given n k
+pub still_away : (ks rest : List Kept) (k : Kept) (n : ℕ) (before now : Outside) → length rest ≡ n → ComesHome ks (rest ++ k ∷ []) before now → EachTrack (IsAway before) ks → IsAway now n k
 still_away ks rest k n before now at is away =
     let more : length (rest ++ k ∷ []) ≡ n + 1 = length-append rest (k ∷ []) ∙ ap (λ m. m + 1) at in
-    let was = subst (λ m. IsAway before.home before.given m k) at (away (length rest) k (last_is ks rest k k before now is).0) in
-    (is.homes (n + 1) (inl (omega (arith, more))) ∙ was.0, subst (λ (given : ℕ → Option Given). IsSome (given (n + 1))) (sym is.given) was.1)
+    let was = subst (λ m. IsAway before m k) at (away (length rest) k (last_is ks rest k k before now is).0) in
+    (is.homes (n + 1) (inl (omega (arith, more))) ∙ was.0, subst (λ (o : Outside). IsSome (o.given (n + 1))) (sym is.but_homes) was.1)
 
 -- the wires of the track that comes home next are in the places of its number
 pub next_in_place : (ks rest : List Kept) (k : Kept) (n : ℕ) (before now : Outside) → length rest ≡ n → ComesHome ks (rest ++ k ∷ []) before now → EachTrack IsInPlace ks → IsInPlace n k
@@ -245,12 +291,15 @@ outside_all : (ks : List Kept) (n : ℕ) → (n ≡ 0) ⊎ (length ks < n) → (
 outside_all ks n (inl none) = inl (omega (arith, none))
 outside_all ks n (inr above) = inr above
 
+-- no pair was handed out
+pub given_home : (ks : List Kept) (before after : Outside) → ComesHome ks [] before after → after.given ≡ before.given
+given_home ks before after is = ap (λ (o : Outside). o.given) is.but_homes
+
 pub home_rest : (ks : List Kept) (before after : Outside) → ComesHome ks [] before after → KeepsRest (length ks) before after
 home_rest ks before after is = record {
-  world = is.world;
-  files = is.files;
+  but_pairs = is.but_homes ∙ ap (λ (given : ℕ → Option Given). with_pairs after.home given before) (sym (given_home ks before after is));
   homes = λ n outside. is.homes n (outside_all ks n outside);
-  addresses = λ n outside. ap (λ (given : ℕ → Option Given). given n) is.given;
+  addresses = λ n outside. ap (λ (given : ℕ → Option Given). given n) (given_home ks before after is);
 }
 
 -- ---- pairs that no visit used
@@ -280,8 +329,7 @@ none_kept c at ks before now next after taken others same back rest =
 -- the rest is as it was, over two stretches of the way
 pub rest_through : (m many : ℕ) (before mid after : Outside) → m ≤ many → KeepsRest many before mid → KeepsRest m mid after → KeepsRest many before after
 rest_through m many before mid after few first then = record {
-  world = then.world ∙ first.world;
-  files = then.files ∙ first.files;
+  but_pairs = chained before mid after first.but_pairs then.but_pairs;
   homes = λ n outside. then.homes n (outside_fewer m many n few outside) ∙ first.homes n outside;
   addresses = λ n outside. then.addresses n (outside_fewer m many n few outside) ∙ first.addresses n outside;
 }

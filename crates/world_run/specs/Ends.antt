@@ -6,6 +6,7 @@ use Rattle.bridge_ports.specs.declared.talk.Talk.{Talk}
 use Rattle.bridge_ports.specs.Targets.{Scraped}
 use Rattle.bridge_ports.specs.Talks.{Plan, WireState}
 use Rattle.bridge_ports.specs.Worlds.{IsHome}
+use Rattle.bridge_ports.specs.Outside.{Outside, with_pairs}
 use Rattle.otlp_sender.specs.declared.posted.Posted.{Posted}
 use Rattle.series_table.specs.Talking.{Followed}
 use Rattle.series_table.specs.HttpTalks.{talking}
@@ -14,7 +15,6 @@ use Rattle.series_table.specs.Records.{talks_of, further_talks, BodiesOf}
 use Rattle.series_table.specs.Counting.{visit_counts}
 use Rattle.bridge_config.specs.declared.config.Config.{Config}
 use Rattle.run_report.specs.declared.target_end.TargetEnd.{TargetEnd}
-use Rattle.world_run.specs.Outside.{Outside}
 
 -- a target of a configuration as it is visited: over wires of these plans
 abbrev pub config_followed : Config → Option Plan → Option Plan → Scraped → Followed
@@ -53,8 +53,7 @@ AreEndsAtHome c outside number _ _ = ⊥
 
 -- what is not a pair of these targets is as it was
 pub record KeepsRest (targets : ℕ) (before after : Outside) : Type 0 where
-  pub world : after.world ≡ before.world
-  pub files : after.files ≡ before.files
+  pub but_pairs : after ≡ with_pairs after.home after.given before
   pub homes : (n : ℕ) → (n ≡ 0) ⊎ (targets < n) → after.home n ≡ before.home n
   pub addresses : (n : ℕ) → (n ≡ 0) ⊎ (targets < n) → after.given n ≡ before.given n
 
@@ -67,11 +66,3 @@ pub record IsRunEnd (c : Config) (before after : Outside) (ends : List TargetEnd
 pub record IsNotBegun (c : Config) (before after : Outside) : Type 0 where
   pub homes : (n : ℕ) → after.home n ≡ before.home n
   pub rest : KeepsRest (length c.targets) before after
-
--- a run of a configuration's targets came to these ends, of a world as it is seen before and after it
-abbrev pub EndsRun : {W : Type 0} → Config → (W → Outside) → W → W → List TargetEnd → Type 0
-EndsRun c seen before after ends = IsRunEnd c (seen before) (seen after) ends
-
--- no run of a configuration's targets was begun, of a world as it is seen before and after
-abbrev pub BeginsNoRun : {W : Type 0} → Config → (W → Outside) → W → W → Type 0
-BeginsNoRun c seen before after = IsNotBegun c (seen before) (seen after)

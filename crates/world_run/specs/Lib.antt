@@ -1,4 +1,4 @@
-pub mod Outside
+pub mod Unused
 pub mod Ends
 pub mod Taken
 pub mod Serving

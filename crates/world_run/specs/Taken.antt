@@ -2,13 +2,13 @@
 -- The bridge's own.
 use Rattle.std.specs.Prelude.{◌≡◌, ℕ, ◌+◌, ◌<◌, true, false, List, length, slice_index_or, Option, Some, None, IsSome}
 use Rattle.bridge_ports.specs.Targets.{IsScraped}
-use Rattle.bridge_ports.specs.Worlds.{Given, KeepsOthers}
+use Rattle.bridge_ports.specs.Worlds.{KeepsOthers}
+use Rattle.bridge_ports.specs.Outside.{SeenPair, Outside, with_pairs}
 use Rattle.series_table.specs.HttpTalks.{talking}
 use Rattle.series_table.specs.Records.{Kept}
 use Rattle.target_table.specs.Tables.{IsTrackAt}
 use Rattle.bridge_config.specs.declared.config.Config.{Config}
 use Rattle.run_report.specs.declared.target_end.TargetEnd.{TargetEnd}
-use Rattle.world_run.specs.Outside.{SeenPair, Outside}
 
 -- this holds of each track, by its place from 0 on
 abbrev pub EachTrack : (ℕ → Kept → Type 0) → List Kept → Type 0
@@ -28,9 +28,9 @@ abbrev pub IsPairOf : (ℕ → Option SeenPair) → ℕ → Kept → Type 0
 IsPairOf home place k = home (place + 1) ≡ Some (k.scrape, k.post)
 
 -- the pair of a track is out, and was handed out with the addresses of its target and of the collector
-pub record IsOut (home : ℕ → Option SeenPair) (given : ℕ → Option Given) (place : ℕ) (k : Kept) : Type 0 where
-  pub away : home (place + 1) ≡ None
-  pub given_is : given (place + 1) ≡ Some (record { scrape = k.followed.target.address; post = k.followed.to })
+pub record IsOut (outside : Outside) (place : ℕ) (k : Kept) : Type 0 where
+  pub away : outside.home (place + 1) ≡ None
+  pub given_is : outside.given (place + 1) ≡ Some (record { scrape = k.followed.target.address; post = k.followed.to })
 
 -- the wires of a track are in the places of its number
 pub record IsInPlace (place : ℕ) (k : Kept) : Type 0 where
@@ -38,13 +38,12 @@ pub record IsInPlace (place : ℕ) (k : Kept) : Type 0 where
   pub post : k.post.place ≡ record { number = place + 1; post = true }
 
 -- the pair of a track was handed out and is not at home
-abbrev pub IsAway : (ℕ → Option SeenPair) → (ℕ → Option Given) → ℕ → Kept → Type 0
-IsAway home given place k = (home (place + 1) ≡ None) × IsSome (given (place + 1))
+abbrev pub IsAway : Outside → ℕ → Kept → Type 0
+IsAway outside place k = (outside.home (place + 1) ≡ None) × IsSome (outside.given (place + 1))
 
 -- what is not the pair of this number is as it was
 pub record KeepsOtherPairs (number : ℕ) (before after : Outside) : Type 0 where
-  pub world : after.world ≡ before.world
-  pub files : after.files ≡ before.files
+  pub but_pairs : after ≡ with_pairs after.home after.given before
   pub homes : KeepsOthers number before.home after.home
   pub addresses : KeepsOthers number before.given after.given
 

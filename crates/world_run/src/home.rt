@@ -1,6 +1,6 @@
 //! The wires of tracks come home.
 ghost use Rattle.std.specs.Prelude.{◌≡◌, ◌≤◌, length};
-ghost use Rattle.world_run.specs.Outside.{seen_home, seen_world, most_pairs};
+ghost use Rattle.world_run.specs.Unused.{most_pairs};
 ghost use Rattle.world_run.specs.Ends.{KeepsRest};
 ghost use Rattle.world_run.specs.Taken.{EachTrack, IsInPlace, IsPairOf, IsAway};
 
@@ -11,13 +11,10 @@ use scraper_pool::Track;
 pub(crate) fn bring_home<W: World>(world: &mut W, tracks: Vec<Track<W::Wire>>)
     requires few { length tracks.items ≤ most_pairs }
     requires places { EachTrack IsInPlace tracks.items }
-    requires away { EachTrack (IsAway (seen_home W.Wire.state (W.home world.old)) (W.given world.old)) tracks.items }
-    ensures home { EachTrack (IsPairOf (seen_home W.Wire.state (W.home world.new))) tracks.items }
-    ensures rest { KeepsRest (length tracks.items)
-        (seen_world W.Wire.state W.world W.files W.home W.given world.old)
-        (seen_world W.Wire.state W.world W.files W.home W.given world.new) }
-    ensures given { W.given world.new ≡ W.given world.old }
-    ensures coming { W.coming world.new ≡ W.coming world.old }
+    requires away { EachTrack (IsAway (W.seen world.old)) tracks.items }
+    ensures home { EachTrack (IsPairOf (W.seen world.new).home) tracks.items }
+    ensures rest { KeepsRest (length tracks.items) (W.seen world.old) (W.seen world.new) }
+    ensures given { (W.seen world.new).given ≡ (W.seen world.old).given }
 {
     let mut left = tracks;
     for _ in 0..left.len() {

@@ -6,9 +6,9 @@ ghost use Rattle.target_table.specs.Tables.{IsRunOver};
 ghost use Rattle.scraper_pool.specs.Serving.{IsUnopened, ServesAt};
 ghost use Rattle.scraper_pool.specs.Turns.{run_of};
 ghost use Rattle.bridge_config.specs.RightConfigs.{IsRightConfig};
-ghost use Rattle.world_run.specs.Outside.{seen_home, seen_world, AreUnused};
-ghost use Rattle.world_run.specs.Ends.{EndsRun, BeginsNoRun};
-ghost use Rattle.world_run.specs.Serving.{EndsServedRun, BeginsNoServedRun, KeepsOtherComing};
+ghost use Rattle.world_run.specs.Unused.{AreUnused};
+ghost use Rattle.world_run.specs.Ends.{IsRunEnd, IsNotBegun};
+ghost use Rattle.world_run.specs.Serving.{IsServedRun, IsUnserved};
 ghost use Rattle.run_report.specs.Ends.{track_end};
 ghost use Rattle.world_run.specs.Taken.{EachTrack, IsFirstTrack};
 
@@ -100,15 +100,12 @@ fn run_beside<R: Threads + Wait + Sync, K: Conn, E: Door<Conn = K>, W: World<Doo
     world: &mut W,
 ) -> Beside<E>
     requires right { IsRightConfig config.now }
-    requires unused { AreUnused (seen_home W.Wire.state (W.home world.old)) }
+    requires unused { AreUnused (W.seen world.old).home }
     requires fresh { IfSome door (λ d. IsUnopened (E.door d)) }
-    ensures run { IfOk result.end (λ end. EndsRun config.now
-        (seen_world W.Wire.state W.world W.files W.home W.given) world.old world.new end.targets.items) }
+    ensures run { IfOk result.end (λ end. IsRunEnd config.now (W.seen world.old) (W.seen world.new) end.targets.items) }
     ensures served { IfOk result.end (λ end. ServesAt config.now.pages (option_map E.door door) (option_map E.door result.door) end.served) }
-    ensures memory { OnErr result.end (BeginsNoRun config.now
-        (seen_world W.Wire.state W.world W.files W.home W.given) world.old world.new) }
+    ensures memory { OnErr result.end (IsNotBegun config.now (W.seen world.old) (W.seen world.new)) }
     ensures door { OnErr result.end (result.door ≡ door) }
-    ensures coming { W.coming world.new ≡ W.coming world.old }
 {
     let tracks = match new_tracks(alloc, config, world) {
         Ok(tracks) => tracks,
@@ -171,13 +168,10 @@ pub fn run_config<R: Threads + Wait + Sync, K: Conn, E: Door<Conn = K>, W: World
     world: &mut W,
 ) -> Result<RunEnd, Memory>
     requires right { IsRightConfig config.now }
-    requires unused { AreUnused (seen_home W.Wire.state (W.home world.old)) }
-    requires no_door { (W.world world.old).door_at ≡ None }
-    ensures run { IfOk result (λ end. EndsServedRun config.now W.coming
-        (seen_world W.Wire.state W.world W.files W.home W.given) world.old world.new end.targets.items end.served) }
-    ensures memory { OnErr result (BeginsNoServedRun config.now W.coming
-        (seen_world W.Wire.state W.world W.files W.home W.given) world.old world.new) }
-    ensures coming { KeepsOtherComing config.now.door (W.coming world.old) (W.coming world.new) }
+    requires unused { AreUnused (W.seen world.old).home }
+    requires no_door { (W.seen world.old).world.door_at ≡ None }
+    ensures run { IfOk result (λ end. IsServedRun config.now (W.seen world.old) (W.seen world.new) end.targets.items end.served) }
+    ensures memory { OnErr result (IsUnserved config.now (W.seen world.old) (W.seen world.new)) }
 {
     let door = open_door(config, world)?;
     let beside = run_beside(rt, alloc, config, door, world);

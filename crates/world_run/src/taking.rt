@@ -2,7 +2,7 @@
 ghost use Rattle.std.specs.Prelude.{◌≡◌, ◌+◌, ◌<◌, ℕ, length, map, IfOk, OnErr};
 ghost use Rattle.series_table.specs.Records.{Kept};
 ghost use Rattle.bridge_config.specs.RightConfigs.{IsRightConfig};
-ghost use Rattle.world_run.specs.Outside.{seen_home, seen_world, most_pairs, IsUnused, AreUnused};
+ghost use Rattle.world_run.specs.Unused.{most_pairs, IsUnused, AreUnused};
 ghost use Rattle.world_run.specs.Ends.{KeepsRest};
 ghost use Rattle.world_run.specs.Taken.{EachTrack, IsFirstTrack, IsPairOf, IsOut, KeepsOtherPairs};
 
@@ -25,16 +25,13 @@ fn new_track<W: World>(
 ) -> Result<Track<W::Wire>, Memory>
     requires right { IsRightConfig config.now }
     requires few { place < most_pairs }
-    requires unused { IsUnused (seen_home W.Wire.state (W.home world.old)) (place + 1) }
+    requires unused { IsUnused (W.seen world.old).home (place + 1) }
     ensures first { IfOk result (IsFirstTrack config.now place) }
     ensures target { IfOk result (λ track. track.followed.target ≡ target.now) }
-    ensures was { IfOk result (IsPairOf (seen_home W.Wire.state (W.home world.old)) place) }
-    ensures out { IfOk result (IsOut (seen_home W.Wire.state (W.home world.new)) (W.given world.new) place) }
-    ensures kept { OnErr result (seen_home W.Wire.state (W.home world.new) (place + 1) ≡ seen_home W.Wire.state (W.home world.old) (place + 1)) }
-    ensures rest { KeepsOtherPairs (place + 1)
-        (seen_world W.Wire.state W.world W.files W.home W.given world.old)
-        (seen_world W.Wire.state W.world W.files W.home W.given world.new) }
-    ensures coming { W.coming world.new ≡ W.coming world.old }
+    ensures was { IfOk result (IsPairOf (W.seen world.old).home place) }
+    ensures out { IfOk result (IsOut (W.seen world.new) place) }
+    ensures kept { OnErr result ((W.seen world.new).home (place + 1) ≡ (W.seen world.old).home (place + 1)) }
+    ensures rest { KeepsOtherPairs (place + 1) (W.seen world.old) (W.seen world.new) }
 {
     let number = place + 1;
     let scraped = target.copy()?;
@@ -66,16 +63,13 @@ pub(crate) fn new_tracks<W: World>(
     world: &mut W,
 ) -> Result<Vec<Track<W::Wire>>, Memory>
     requires right { IsRightConfig config.now }
-    requires unused { AreUnused (seen_home W.Wire.state (W.home world.old)) }
+    requires unused { AreUnused (W.seen world.old).home }
     ensures first { IfOk result (λ tracks. EachTrack (IsFirstTrack config.now) tracks.items) }
     ensures targets { IfOk result (λ tracks. map (λ (k : Kept). k.followed.target) tracks.items ≡ config.now.targets) }
-    ensures was { IfOk result (λ tracks. EachTrack (IsPairOf (seen_home W.Wire.state (W.home world.old))) tracks.items) }
-    ensures out { IfOk result (λ tracks. EachTrack (IsOut (seen_home W.Wire.state (W.home world.new)) (W.given world.new)) tracks.items) }
-    ensures kept { OnErr result ((n : ℕ) → seen_home W.Wire.state (W.home world.new) n ≡ seen_home W.Wire.state (W.home world.old) n) }
-    ensures rest { KeepsRest (length config.now.targets)
-        (seen_world W.Wire.state W.world W.files W.home W.given world.old)
-        (seen_world W.Wire.state W.world W.files W.home W.given world.new) }
-    ensures coming { W.coming world.new ≡ W.coming world.old }
+    ensures was { IfOk result (λ tracks. EachTrack (IsPairOf (W.seen world.old).home) tracks.items) }
+    ensures out { IfOk result (λ tracks. EachTrack (IsOut (W.seen world.new)) tracks.items) }
+    ensures kept { OnErr result ((n : ℕ) → (W.seen world.new).home n ≡ (W.seen world.old).home n) }
+    ensures rest { KeepsRest (length config.now.targets) (W.seen world.old) (W.seen world.new) }
 {
     let targets = config.targets.as_slice();
     let mut tracks = Vec::with_capacity(alloc, targets.len())?;

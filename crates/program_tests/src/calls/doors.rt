@@ -4,8 +4,7 @@ ghost use Rattle.bridge_ports.specs.InMemory.{IsFreshConn};
 ghost use Rattle.bridge_ports.specs.Plans.{seen_of};
 ghost use Rattle.bridge_ports.specs.WorldMaking.{IsRightListen, IsRightPair};
 ghost use Rattle.series_table.specs.Records.{IsFresh};
-ghost use Rattle.memory_world.specs.WorldParts.{fresh_pair, files_of, given_in, home_of, listen_given};
-ghost use Rattle.world_run.specs.Outside.{outside_of};
+ghost use Rattle.memory_world.specs.WorldParts.{fresh_pair, listen_given, outside_of};
 ghost use Rattle.bridge_program.specs.RunAnswers.{IsUnasked};
 
 use crate::calls::bare_runs::strings;
@@ -115,7 +114,7 @@ fn file(alloc: Global, start: &[u8]) -> Result<List<MemoryFile>, Memory>
 
 /// A world of a file whose configuration begins so, the wires of its two targets and a door.
 pub(crate) fn world(alloc: Global, start: &[u8]) -> Result<MemoryWorld, Memory>
-    ensures { IfOk result (λ world. IsUnasked (outside_of seen_of world.world (files_of world) (home_of world) (given_in world))) }
+    ensures { IfOk result (λ world. IsUnasked (outside_of world)) }
 {
     let (first, second) = (pair(alloc, 1)?, pair(alloc, 2)?);
     let pairs = Vec::from_array(alloc, [first, second])?;
@@ -131,7 +130,7 @@ pub(crate) fn ending_in<R: Threads + Wait + Sync, K: Conn, E: Door<Conn = K>, W:
     world: &mut W,
     wanted: &str,
 ) -> Result<(u8, bool), Memory>
-    requires { IsUnasked (outside_of W.Wire.state (W.world world.old) (W.files world.old) (W.home world.old) (W.given world.old)) }
+    requires { IsUnasked (W.seen world.old) }
 {
     let words = strings(alloc, &["run", "bridge.toml"])?;
     let mut input = MemorySource::new(Bytes::from_slice(alloc, b"")?, List::new(alloc));

@@ -2,7 +2,7 @@
 //! connection to the other. Contracts see no gate: such a world is the world in memory in it.
 ghost use Rattle.std.specs.Prelude.{◌≡◌};
 ghost use Rattle.bridge_ports.specs.MemoryWorlds.{MemoryWorldState};
-ghost use Rattle.memory_world.specs.WorldParts.{coming_in, files_of, given_in, home_of};
+ghost use Rattle.memory_world.specs.WorldParts.{outside_of};
 
 use bridge_ports::{Address, Failed, MemoryDoor, MemoryWire, RunNotice, World};
 use gated_wires::{Gate, GatedWire, Gates};
@@ -40,15 +40,7 @@ impl<'a, R: Clock + Sync> World for GatedWorld<'a, R> {
 
     type Door = MemoryDoor;
 
-    ghost world = { λ w. w.world };
-
-    ghost files = { files_of };
-
-    ghost home = { home_of };
-
-    ghost given = { given_in };
-
-    ghost coming = { coming_in };
+    ghost seen = { outside_of };
 
     fn open_file(&mut self, path: Text) -> Result<(), Failed> {
         self.world.open_file(path)

@@ -5,7 +5,6 @@ ghost use Rattle.bridge_ports.specs.Doors.{most_handed};
 ghost use Rattle.bridge_ports.specs.InMemory.{IsFreshConn};
 ghost use Rattle.bridge_ports.specs.declared.talk.Stage.TheVariants as stages;
 
-use bridge_ports::std_edge::StdStream;
 use bridge_ports::{
     Door, End, Failed, MemoryConn, MemoryDoor, MemoryReply, MemorySink, MemorySource, MemoryWire,
     Place, Sink, Source, SureSource, Wire,
@@ -15,6 +14,7 @@ use std::alloc::{AllocError, Global};
 use std::io;
 use std::io::{Error, ErrorKind, Read, Write};
 use std::test::Fail;
+use std_edge::StdStream;
 
 /// What a stream does at one call.
 #[derive(Clone, Copy)]

@@ -36,7 +36,7 @@ fn address(alloc: Global) -> Result<Address, Memory> {
 
 /// How many bytes one read of the file of this path gives, where a world opens it.
 fn read_of<W: World>(world: &mut W, path: Text) -> Option<u32>
-    requires { (W.world world.old).asked ≡ None }
+    requires { (W.seen world.old).world.asked ≡ None }
 {
     let mut into = [0u8; 3];
     match world.open_file(path) {

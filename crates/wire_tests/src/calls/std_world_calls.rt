@@ -81,8 +81,8 @@ fn lend<W: World>(
     scrape: &Address,
     post: &Address,
 ) -> Result<(), Memory>
-    requires home { IsSome (W.home world.old 7) }
-    ensures home { OnOk result (IsSome (W.home world.new 7)) }
+    requires home { IsSome ((W.seen world.old).home 7) }
+    ensures home { OnOk result (IsSome ((W.seen world.new).home 7)) }
 {
     let (scrape, post) = world.wires(alloc, 7, scrape, post, 0)?;
     world.back(7, scrape, post);
@@ -148,7 +148,7 @@ fn asked_at_door<W: World, V: Wire>(
     wire: &mut V,
     at: Address,
 ) -> Result<(bool, Option<u64>), Memory>
-    requires door { (W.world world.old).door_at ≡ None }
+    requires door { (W.seen world.old).world.door_at ≡ None }
     requires idle { (V.state wire.old).stage ≡ stages.Idle }
 {
     match world.door(at) {

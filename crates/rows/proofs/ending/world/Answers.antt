@@ -4,11 +4,10 @@ use Rattle.std.specs.List.{IsDistinct}
 use Rattle.std.proofs.lemmas.Bool.{le-leb}
 use Rattle.std.proofs.lemmas.List.{length-map}
 use Rattle.std.proofs.lemmas.List.Elements.{All-nil}
-use Rattle.bridge_ports.specs.Plans.{seen_of}
-use Rattle.bridge_ports.specs.MemoryWorlds.{FileState, PairState, MemoryWorldState, pair_of}
+use Rattle.bridge_ports.specs.MemoryWorlds.{FileState, PairState, MemoryWorldState}
 use Rattle.bridge_ports.specs.WorldMaking.{IsRightListen, IsRightPair, MayBeMade, is_one_path}
-use Rattle.memory_world.specs.WorldParts.{file_given, fresh_pair}
-use Rattle.world_run.specs.Outside.{IsUnused, seen_home}
+use Rattle.memory_world.specs.WorldParts.{file_given, fresh_pair, seen_home}
+use Rattle.world_run.specs.Unused.{IsUnused}
 use Rattle.rows.proofs.ending.world.Goals as goal
 
 -- the path of at most one file is there once
@@ -30,7 +29,7 @@ may_be_made files few = record {
 }
 
 -- the pair of a number that none was given for is unused
-bare_unused : (n : ℕ) → 1 ≤ n → n ≤ 256 → IsUnused (seen_home seen_of (pair_of [])) n
+bare_unused : (n : ℕ) → 1 ≤ n → n ≤ 256 → IsUnused (seen_home []) n
 bare_unused n low high = rw (le-leb 1 n low, le-leb n 256 high) (_, refl, (refl, refl))
 
 pub new-requires-3 : goal.new-requires-3
@@ -43,6 +42,6 @@ returns c = record {
   no_file = ap (λ (w : MemoryWorldState). w.world.asked) c.new-3.ensures;
   no_door = ap (λ (w : MemoryWorldState). w.world.door_at) c.new-3.ensures;
   pairs = λ n low high.
-      subst (λ (ps : List PairState). IsUnused (seen_home seen_of (pair_of ps)) n) (sym (ap (λ (w : MemoryWorldState). w.pairs) c.new-3.ensures ∙ ap (map fresh_pair) c.new.ensures.items))
+      subst (λ (ps : List PairState). IsUnused (seen_home ps) n) (sym (ap (λ (w : MemoryWorldState). w.pairs) c.new-3.ensures ∙ ap (map fresh_pair) c.new.ensures.items))
       (bare_unused n low high);
 }

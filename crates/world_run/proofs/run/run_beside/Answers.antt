@@ -12,7 +12,7 @@ pub bring_home-requires-clause-places : goal.bring_home-requires-clause-places
 bring_home-requires-clause-places g c κs within = back_in_place _ _ _ c.in-Ok-visit_all.ensures.over
 
 pub bring_home-requires-clause-away : goal.bring_home-requires-clause-away
-bring_home-requires-clause-away g c κs within = out_away c.in-Ok.tracks.items c.in-Ok-visit_all.visited.tracks.items _ _ c.in-Ok.ensures.out (as_many_back _ _ _ c.in-Ok-visit_all.ensures.over)
+bring_home-requires-clause-away g c κs within = out_away c.in-Ok.tracks.items c.in-Ok-visit_all.visited.tracks.items _ c.in-Ok.ensures.out (as_many_back _ _ _ c.in-Ok-visit_all.ensures.over)
 
 pub returns-in-Ok-visit_all-clause-run : goal.returns-in-Ok-visit_all-clause-run
 returns-in-Ok-visit_all-clause-run g c =
@@ -20,7 +20,7 @@ returns-in-Ok-visit_all-clause-run g c =
     c.in-Ok-visit_all.ensures.over c.in-Ok-visit_all.ensures.ends c.bring_home.ensures.home c.bring_home.ensures.rest c.bring_home.ensures.given
 
 pub bring_home-requires-in-Err-visit_all-clause-away : goal.bring_home-requires-in-Err-visit_all-clause-away
-bring_home-requires-in-Err-visit_all-clause-away g c κs within = out_away c.in-Ok.tracks.items c.in-Err-visit_all.tracks.items _ _ c.in-Ok.ensures.out (ap (length {A = Kept}) c.in-Err-visit_all.ensures.back)
+bring_home-requires-in-Err-visit_all-clause-away g c κs within = out_away c.in-Ok.tracks.items c.in-Err-visit_all.tracks.items _ c.in-Ok.ensures.out (ap (length {A = Kept}) c.in-Err-visit_all.ensures.back)
 
 pub returns-in-Err-visit_all-clause-memory : goal.returns-in-Err-visit_all-clause-memory
 returns-in-Err-visit_all-clause-memory g c =

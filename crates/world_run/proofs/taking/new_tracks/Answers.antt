@@ -18,7 +18,6 @@ loop-at-preserved g c =
       omega (arith, c.push_reserved.ensures.len, c.loop-at.invariant.2),
       omega (arith, c.push_reserved.ensures.capacity, c.loop-at.invariant.3),
       next_taken _ _ t _ _ _ _ _ _ c.push_reserved.ensures.items (omega (arith, many, c.loop-at-test.true)) is c.loop-at.invariant.4 c.in-Ok.ensures.first c.in-Ok.ensures.target c.in-Ok.ensures.was c.in-Ok.ensures.out c.in-Ok.ensures.rest,
-      c.in-Ok.ensures.coming ∙ c.loop-at.invariant.5,
     )
 
 pub bring_home-requires-clause-places : goal.bring_home-requires-clause-places
@@ -26,7 +25,7 @@ bring_home-requires-clause-places g c κs within = first_in_place _ _ c.loop-at.
 
 pub bring_home-requires-clause-away : goal.bring_home-requires-clause-away
 bring_home-requires-clause-away g c κs within =
-    out_away c.loop-at.tracks.items c.loop-at.tracks.items _ _ (still_out _ _ _ _ c.loop-at.invariant.4.many c.loop-at.invariant.4.out c.in-Err.ensures.rest) refl
+    out_away c.loop-at.tracks.items c.loop-at.tracks.items _ (still_out _ _ _ _ c.loop-at.invariant.4.many c.loop-at.invariant.4.out c.in-Err.ensures.rest) refl
 
 pub returns-in-Err-clause-kept : goal.returns-in-Err-clause-kept
 returns-in-Err-clause-kept g c = none_kept _ _ _ _ _ _ _ c.loop-at.invariant.4 c.in-Err.ensures.rest c.in-Err.ensures.kept c.bring_home.ensures.home c.bring_home.ensures.rest

@@ -1,9 +1,8 @@
 use Rattle.std.proofs.Common.{◌≡◌, List, length, map, sym, ap, subst, ◌∙◌}
 use Rattle.std.proofs.lemmas.List.{length-map}
-use Rattle.bridge_ports.specs.Plans.{seen_of}
-use Rattle.bridge_ports.specs.MemoryWorlds.{PairState, MemoryWorldState, pair_of}
-use Rattle.memory_world.specs.WorldParts.{file_given, fresh_pair, listen_given}
-use Rattle.world_run.specs.Outside.{seen_home, IsUnused}
+use Rattle.bridge_ports.specs.MemoryWorlds.{PairState, MemoryWorldState}
+use Rattle.memory_world.specs.WorldParts.{file_given, fresh_pair, listen_given, seen_home}
+use Rattle.world_run.specs.Unused.{IsUnused}
 use Rattle.program_tests.proofs.Worlds.{may_be_made, two_unused}
 use Rattle.program_tests.proofs.calls.doors.world.Goals as goal
 
@@ -18,6 +17,6 @@ returns c = record {
   no_file = ap (λ (w : MemoryWorldState). w.world.asked) c.new-2.ensures;
   no_door = ap (λ (w : MemoryWorldState). w.world.door_at) c.new-2.ensures;
   pairs = λ n low high.
-      subst (λ (ps : List PairState). IsUnused (seen_home seen_of (pair_of ps)) n) (sym (ap (λ (w : MemoryWorldState). w.pairs) c.new-2.ensures ∙ ap (map fresh_pair) c.in_ok-pairs.ensures.items))
+      subst (λ (ps : List PairState). IsUnused (seen_home ps) n) (sym (ap (λ (w : MemoryWorldState). w.pairs) c.new-2.ensures ∙ ap (map fresh_pair) c.in_ok-pairs.ensures.items))
       (two_unused c.in_ok-first.first c.in_ok-second.second n c.in_ok-first.ensures.scrape c.in_ok-first.ensures.post c.in_ok-second.ensures.scrape c.in_ok-second.ensures.post low high);
 }

@@ -1,4 +1,4 @@
-//! Adapters over the standard library's readers and writers. They tell no bytes, and count each
+//! Streams over the standard library's readers and writers. They tell no bytes, and count each
 //! call that fails.
 ghost use Rattle.std.specs.Prelude.{◌≡◌, ℕ, ◌<◌, ◌≤◌, [], Option, is_some, IfOk, OnErr, length};
 ghost use Rattle.std.specs.Io.{ReadsAtMost, WritesAtMost};
@@ -7,7 +7,7 @@ ghost use Rattle.bridge_ports.specs.Causes.{HasCause, Rose};
 ghost use Rattle.bridge_ports.specs.Edges.{untold};
 ghost use Rattle.bridge_ports.specs.InMemory.{one_more};
 
-use crate::{Failed, Reason, Sink, Source};
+use bridge_ports::{Failed, Reason, Sink, Source};
 use std::io::{ErrorKind, Read, Write};
 use std::marker::Model;
 
@@ -29,7 +29,7 @@ pub struct StdStream<S> {
 }
 
 impl<S> Model for StdStream<S> {
-    ghost use Rattle.bridge_ports.specs.Edges.{Edge};
+    ghost use Rattle.std_edge.specs.Edges.{Edge};
 
     ghost Value = { Edge S };
 
