@@ -108,12 +108,12 @@ type SeenPages = (Result<bool, Memory>, Result<(bool, usize), Memory>);
 
 /// Has one thread make a visit, and another read the page behind it.
 fn seen_pages<
+    W: Wire,
     N: RunName + Send + Sync,
     A: Lane + Send + Sync,
     B: Lane + Send + Sync,
     C: Lane + Send + Sync,
     D: Lane + Send + Sync,
-    W: Wire,
     R: Threads + Wait + Clock + Sync,
 >(
     rt: &R,
