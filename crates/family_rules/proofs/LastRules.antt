@@ -16,8 +16,9 @@ use Rattle.sample_groups.specs.Parts.{is_grouped, part_of, sample_time, member_o
 use Rattle.family_rules.specs.KeyedValues.{is_key_of, samples_at_end, is_passed}
 use Rattle.packed_keys.specs.declared.sample_key.SampleKey.{SampleKey}
 use Rattle.family_rules.specs.Checking.{Checking, key_of, Stands}
-use Rattle.family_rules.specs.Samples.{told_part, with_member, told_member, seen_rule, sample_stop}
+use Rattle.family_rules.specs.Samples.{told_part, with_member, told_member}
 use Rattle.family_rules.proofs.Faults.{left_fault, measure_fault}
+use Rattle.family_rules.proofs.Joined.{seen_rule, plain_stop}
 use Rattle.family_rules.proofs.Seen.{duplicate_seen}
 
 -- ---- the rules that come last
@@ -28,9 +29,9 @@ or_none (Some r) = refl
 
 -- Interleaved or Duplicate, then what else is broken, then TooMany, by the lists
 pub stop_kept : (st : Setting) (c : Checking) (earlier : List Item) (s : Sample) (own : ℕ) (broken : Option Rule) → Stands st c earlier
-    → sample_stop c own (key_of c.setting s) broken
+    → plain_stop c own (key_of c.setting s) broken
     ≡ cond (is_duplicate st (owned_lines st.format earlier) s) (Some (seen_rule own (kept_labels c.setting.treatment s.labels) c.seen)) (option_or broken (cond (is_past_limit st earlier) (Some rules.TooMany) None))
-unfolding sample_stop is_past_limit
+unfolding is_past_limit
 stop_kept st c earlier s own broken stands =
     let double : is_key_of (key_of c.setting s) c.seen ≡ is_duplicate st (owned_lines st.format earlier) s =
     (λ i. is_key_of (key_of (stands.setting i) s) (stands.seen i)) ∙ duplicate_seen st (owned_lines st.format earlier) s in
@@ -38,8 +39,7 @@ stop_kept st c earlier s own broken stands =
     λ i. cond (double i) (Some (seen_rule own (kept_labels c.setting.treatment s.labels) c.seen)) (option_or broken (cond (past i) (Some rules.TooMany) None))
 
 -- a rule that is broken refuses the sample
-pub stop_some : (c : Checking) (own : ℕ) (key : SampleKey) (rule : Rule) → sample_stop c own key (Some rule) ≡ None → ⊥
-unfolding sample_stop
+pub stop_some : (c : Checking) (own : ℕ) (key : SampleKey) (rule : Rule) → plain_stop c own key (Some rule) ≡ None → ⊥
 stop_some c own key rule h = by (is_key_of key c.seen) h
   where
     by : (b : Bool) → cond b (Some (seen_rule own key.labels c.seen)) (Some rule) ≡ None → ⊥
@@ -54,7 +54,7 @@ last_fault st earlier F s = let above = owned_lines st.format earlier in
 -- the rest of the rules, by what the kind forbids and by what is left
 pub rest_kept : (st : Setting) (c : Checking) (earlier : List Item) (s : Sample) (F : List ℕ) (own : ℕ) (back : Bool) (measure left : Option Rule) → Stands st c earlier
     → is_passed (kept_labels c.setting.treatment s.labels) (samples_at_end own c.seen) ≡ back → measure ≡ measure_fault st (kind_of (owned_lines st.format earlier) F) F (samples_of (owned_lines st.format earlier) F) s → left ≡ left_fault st (owned_lines st.format earlier) (Some F)
-    → sample_stop c own (key_of c.setting s) (option_or measure left) ≡ cond (is_duplicate st (owned_lines st.format earlier) s) (Some (cond back rules.Interleaved rules.Duplicate)) (last_fault st earlier F s)
+    → plain_stop c own (key_of c.setting s) (option_or measure left) ≡ cond (is_duplicate st (owned_lines st.format earlier) s) (Some (cond back rules.Interleaved rules.Duplicate)) (last_fault st earlier F s)
 rest_kept st c earlier s F own back measure left stands b m l = stop_kept st c earlier s own (option_or measure left) stands
     ∙ (λ i. cond (is_duplicate st (owned_lines st.format earlier) s) (Some (cond (b i) rules.Interleaved rules.Duplicate)) (option_or (option_or (m i) (l i)) (cond (is_past_limit st earlier) (Some rules.TooMany) None)))
 
@@ -67,12 +67,6 @@ back_first true true true rest h = refl
 back_first true false true rest h = refl
 back_first true false false rest h = refl
 back_first true true false rest h = absurd (let f : true ≡ false = h refl refl in cc)
-
-pub back_or_suffix : (alone back : Bool) → cond (not alone && back) rules.Interleaved (cond (alone && back) rules.Interleaved rules.Suffix) ≡ cond back rules.Interleaved rules.Suffix
-back_or_suffix true true = refl
-back_or_suffix true false = refl
-back_or_suffix false true = refl
-back_or_suffix false false = refl
 
 -- either of two tests refuses
 pub either_refuses : {A : Type 0} (a b : Bool) (x r : A) → cond a x (cond b x r) ≡ cond (a || b) x r

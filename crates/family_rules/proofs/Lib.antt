@@ -8,6 +8,7 @@ pub mod RunLaws
 pub mod GroupedBack
 pub mod Kept
 pub mod Seen
+pub mod Joined
 pub mod NewGroups
 pub mod Standing
 pub mod Endings

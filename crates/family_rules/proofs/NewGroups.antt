@@ -1,7 +1,6 @@
 -- Keys that tell which groups of a family are new.
 use Rattle.std.proofs.Common.{◌≡◌, ℕ, Bool, true, false, cond, not, ◌&&◌, ◌||◌, ◌+◌, List, [], ◌∷◌, ◌++◌, Option, Some, None, refl, sym, ap, subst, ◌∙◌, map, ◌-◌, arith, length-append}
 use Rattle.std.specs.Prelude.{nat_le, nat_lt, Ok, length, slice_get, option_map}
-use Rattle.std.specs.Option.{option_or}
 use Rattle.std.specs.Cmp.Lexicographic.{bytes_decides}
 use Rattle.std.specs.List.{zip}
 use Rattle.std.proofs.lemmas.List.{map-append}
@@ -9,6 +8,7 @@ use Rattle.std.proofs.lemmas.List.Folds.{list_any-append}
 use Rattle.label_sets.specs.declared.kind.Kind.TheVariants.{Counter}
 use Rattle.label_sets.specs.declared.label_set.LabelSet.{LabelSet}
 use Rattle.label_sets.specs.Labels.{label_sets_eq}
+use Rattle.label_sets.specs.Lists.{when_true}
 use Rattle.label_sets.proofs.Laws.{sets_decide}
 use Rattle.packed_keys.specs.declared.sample_key.SampleKey.{SampleKey}
 use Rattle.packed_keys.specs.Packing.{sample_key_eq}
@@ -17,7 +17,7 @@ use Rattle.page_model.specs.declared.format.Format.TheVariants as formats
 use Rattle.page_model.specs.declared.rule.Rule.{Rule}
 use Rattle.page_model.specs.declared.rule.Rule.TheVariants as rules
 use Rattle.page_model.specs.Rules.{is_open_metrics}
-use Rattle.sample_groups.specs.declared.member.Member.{Member}
+use Rattle.sample_groups.specs.Members.{Member}
 use Rattle.sample_groups.specs.Groups.{Gathered, known_group, or_empty, put_group, with_one, with_part, breaks_order, is_overtaken}
 use Rattle.sample_groups.specs.LastSeen.{EndsWith}
 use Rattle.sample_groups.proofs.Laws.{first_fits}
@@ -25,11 +25,13 @@ use Rattle.family_rules.specs.declared.family.Current.{Current}
 use Rattle.family_rules.specs.declared.group_keys.GroupKeys.TheVariants as told
 use Rattle.family_rules.specs.declared.timed_values.TimedValue.{TimedValue}
 use Rattle.family_rules.specs.GroupRuns.{group_key}
-use Rattle.family_rules.specs.KeyedValues.{is_key_of}
+use Rattle.family_rules.specs.LeastRule.{least}
+use Rattle.family_rules.specs.KeyedValues.{is_key_of, samples_at_end, is_passed}
 use Rattle.family_rules.specs.GroupKeys.{IsNewGroup, NameTells, TellTrue}
 use Rattle.family_rules.specs.Checking.{Checking}
 use Rattle.family_rules.specs.Steps.{current_with}
-use Rattle.family_rules.specs.Samples.{family_with_sample, current_samples, runs_with, with_sample, with_part_in, with_part_at, with_key, own_samples, seen_rule, sample_stop, order_stop, is_overtaken_in, is_back_in_groups, is_told_back, key_stop}
+use Rattle.family_rules.specs.Samples.{family_with_sample, current_samples, runs_with, with_sample, with_part_in, with_part_at, with_key, own_samples, passed_stop, known_stop, seen_stop, limit_stop, sample_stop, fits_order, order_stop, is_overtaken_in, is_back_in_groups, is_told_back, part_stop, key_stop}
+use Rattle.family_rules.proofs.Joined.{least_none, first_joined}
 
 -- ---- a sample more
 
@@ -122,7 +124,7 @@ begun_tells key member current grown seen here old is name t =
 
 new_fits : (current : Option Current) (labels : LabelSet) (member : Member) → IsNewGroup current labels → order_stop Counter labels member.part current ≡ None
 new_fits None labels member h = refl
-new_fits (Some k) labels member h = ap (λ b. cond (not b) None (Some rules.Order)) (ap (λ g. breaks_order (or_empty g) member.part) h ∙ first_fits member.part)
+new_fits (Some k) labels member h = ap (λ b. when_true (not (not b)) rules.Order) (ap (λ g. breaks_order (or_empty g) member.part) h ∙ first_fits member.part)
 
 not_overtaken : (es : List (LabelSet × Gathered)) (labels : LabelSet) → known_group es labels ≡ None → is_overtaken es labels ≡ false
 not_overtaken [] labels h = refl
@@ -145,48 +147,27 @@ none_own c = by (is_open_metrics c.setting.format)
     by false = refl
 
 -- a counter's sample goes back to its group by the groups of its family, where the format has the rule
-back_in : (f : Format) (labels : LabelSet) (member : Member) (current : Option Current) → is_back_in_groups f Counter labels current ≡ is_told_back f Counter labels (Ok (Some member)) current
-back_in formats.Text labels member current = by (is_overtaken_in Counter labels current)
-  where
-    by : (b : Bool) → false ≡ (b && false)
-    by true = refl
-    by false = refl
-back_in formats.OpenMetrics labels member current = by (is_overtaken_in Counter labels current)
-  where
-    by : (b : Bool) → b ≡ (b && true)
-    by true = refl
-    by false = refl
-
--- where it doesn't go back, it answers what its key does
-key_alone : (c : Checking) (key : SampleKey) (member : Member) → NameTells key.name c.current c.seen
-    → sample_stop c (own_samples c Counter) key (order_stop Counter key.labels member.part c.current) ≡ sample_stop c 0 key None
-unfolding sample_stop
-key_alone c key member old = ap (λ n. sample_stop c n key (order_stop Counter key.labels member.part c.current)) (none_own c) ∙ by (is_key_of key c.seen) refl
-  where
-    past : Option Rule
-    past = cond (nat_le c.setting.limit c.samples) (Some rules.TooMany) None
-
-    by : (b : Bool) → is_key_of key c.seen ≡ b → cond b (Some (seen_rule 0 key.labels c.seen)) (option_or (order_stop Counter key.labels member.part c.current) past) ≡ cond b (Some (seen_rule 0 key.labels c.seen)) past
-    by true e = refl
-    by false e = ap (λ o. option_or o past) (new_fits c.current key.labels member (old key.labels e))
-
-stop_cond : (c : Checking) (key : SampleKey) (member : Member) (back : Bool) → NameTells key.name c.current c.seen → is_told_back c.setting.format Counter key.labels (Ok (Some member)) c.current ≡ back
-    → key_stop c Counter key (Ok (Some member)) ≡ cond back (Some rules.Interleaved) (sample_stop c 0 key None)
-stop_cond c key member back old told = ap (λ b. cond b (Some rules.Interleaved) (sample_stop c (own_samples c Counter) key (order_stop Counter key.labels member.part c.current))) told
-    ∙ ap (λ (o : Option Rule). cond back (Some rules.Interleaved) o) (key_alone c key member old)
+back_in : (f : Format) (labels : LabelSet) (member : Member) (current : Option Current) → is_back_in_groups f Counter labels current ≡ is_told_back f Counter labels (Ok (Some member.part)) current
+back_in formats.Text labels member current = refl
+back_in formats.OpenMetrics labels member current = refl
 
 -- it goes back, or answers what its key does
 pub first_stop : (c : Checking) (key : SampleKey) (member : Member) (back : Bool) → NameTells key.name c.current c.seen → back ≡ is_back_in_groups c.setting.format Counter key.labels c.current
-    → cond back (Some rules.Interleaved) (sample_stop c 0 key None) ≡ key_stop c Counter key (Ok (Some member))
-first_stop c key member back old told = sym (stop_cond c key member back old (sym (back_in c.setting.format key.labels member c.current) ∙ sym told))
+    → least (when_true back rules.Interleaved) (sample_stop c 0 key None) ≡ key_stop c Counter key (Ok (Some member.part))
+unfolding sample_stop
+first_stop c key member back old told =
+    ap (λ b. least (when_true b rules.Interleaved) (least (seen_stop 0 key c.seen) (limit_stop c))) (told ∙ back_in c.setting.format key.labels member c.current)
+    ∙ first_joined (is_told_back c.setting.format Counter key.labels (Ok (Some member.part)) c.current) (is_key_of key c.seen) (is_passed key.labels (samples_at_end 0 c.seen))
+    (nat_le c.setting.limit c.samples) (fits_order Counter key.labels member.part c.current) (λ unseen. new_fits c.current key.labels member (old key.labels unseen))
+    ∙ ap (λ n. least (seen_stop n key c.seen) (least (part_stop c.setting.format Counter key.labels (Ok (Some member.part)) c.current) (limit_stop c))) (sym (none_own c))
 
 -- a key that breaks no rule is new
 unseen_here : (c : Checking) (key : SampleKey) → sample_stop c 0 key None ≡ None → is_key_of key c.seen ≡ false
 unfolding sample_stop
-unseen_here c key h = by (is_key_of key c.seen) h
+unseen_here c key h = by (is_key_of key c.seen) (least_none (seen_stop 0 key c.seen) (limit_stop c) h).0
   where
-    by : (b : Bool) → cond b (Some (seen_rule 0 key.labels c.seen)) (cond (nat_le c.setting.limit c.samples) (Some rules.TooMany) None) ≡ None → b ≡ false
-    by true e = absurd (let f : Some (seen_rule 0 key.labels c.seen) ≡ None = e in cc)
+    by : (b : Bool) → cond b (known_stop 0 key.labels c.seen) None ≡ None → b ≡ false
+    by true e = absurd (let f : Some rules.Duplicate ≡ None = (least_none (passed_stop 0 key.labels c.seen) (Some rules.Duplicate) e).1 in cc)
     by false e = refl
 
 module _ (c mid : Checking) (key : SampleKey) (value : TimedValue) (member : Member) (old : NameTells key.name c.current c.seen) (stop : None ≡ sample_stop c 0 key None) (step : mid ≡ with_sample c key value) where
@@ -209,11 +190,13 @@ module _ (c mid : Checking) (key : SampleKey) (value : TimedValue) (member : Mem
   unfolding with_sample
   name_tells = subst (λ (m : Checking). NameTells key.name m.current m.seen) (sym step) (more_tells key.name c.current c.seen ((key, value) ∷ []) old)
 
-  pub first_none : None ≡ key_stop c Counter key (Ok (Some member))
-  first_none = stop ∙ sym (stop_cond c key member false old (by (new_stays c.current key.labels (old key.labels unseen))))
+  pub first_none : None ≡ key_stop c Counter key (Ok (Some member.part))
+  first_none = stop ∙ first_stop c key member false old (sym (back_in c.setting.format key.labels member c.current
+      ∙ ap (λ b. is_open_metrics c.setting.format && b) (new_stays c.current key.labels (old key.labels unseen)) ∙ never (is_open_metrics c.setting.format)))
     where
-      by : is_overtaken_in Counter key.labels c.current ≡ false → is_told_back c.setting.format Counter key.labels (Ok (Some member)) c.current ≡ false
-      by e = ap (λ b. b && is_open_metrics c.setting.format) e
+      never : (b : Bool) → (b && false) ≡ false
+      never true = refl
+      never false = refl
 
   pub first_added : (d : Checking) → d ≡ with_part_at mid Counter key.labels member → d ≡ with_key c Counter key value (Ok (Some member))
   unfolding with_sample

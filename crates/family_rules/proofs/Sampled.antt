@@ -7,7 +7,7 @@ use Rattle.std.proofs.lemmas.List.{append-nil}
 use Rattle.label_sets.specs.declared.kind.Kind.{Kind}
 use Rattle.label_sets.specs.declared.kind.Kind.TheVariants.{Counter, Histogram, GaugeHistogram, Unknown}
 use Rattle.label_sets.specs.declared.label_set.LabelSet.{LabelSet}
-use Rattle.label_sets.specs.Lists.{some_passes}
+use Rattle.label_sets.specs.Lists.{some_passes, when_true}
 use Rattle.page_model.specs.declared.item.Exemplar.{Exemplar}
 use Rattle.page_model.specs.declared.item.Item.{Item}
 use Rattle.page_model.specs.declared.item.Item.TheVariants as items
@@ -19,20 +19,23 @@ use Rattle.page_model.specs.Suffixes.{is_sample_name}
 use Rattle.page_model.specs.Owners.{Owned, kind_of, sample_owner, owned_lines, samples_of, kept_labels}
 use Rattle.page_model.specs.Rules.{is_open_metrics, is_after_eof, is_split, is_interleaved, has_suffix, may_have_exemplar, exemplar_characters, is_bad_exemplar, has_wrong_suffix, has_bad_value, has_bad_threshold, is_out_of_order, is_duplicate, sample_group}
 use Rattle.page_model.specs.Faults.{item_fault}
-use Rattle.sample_groups.specs.declared.member.Member.{Member}
+use Rattle.sample_groups.specs.Members.{Member}
 use Rattle.sample_groups.specs.declared.part.Part.{Part}
 use Rattle.sample_groups.specs.Groups.{groups_from, known_group, or_empty, breaks_order, is_overtaken, shared_labels}
 use Rattle.sample_groups.specs.Parts.{is_grouped, entry_of, part_of, sample_time, member_of}
 use Rattle.sample_groups.proofs.Laws.{shared_group, order_kept}
+use Rattle.family_rules.specs.declared.family.Current.{Current}
 use Rattle.family_rules.specs.declared.timed_values.TimedValue.{TimedValue}
 use Rattle.family_rules.specs.KeyedValues.{samples_at_end, is_passed}
 use Rattle.packed_keys.specs.declared.sample_key.SampleKey.{SampleKey}
 use Rattle.family_rules.specs.GroupRuns.{is_alone, has_own_runs, has_runs, goes_back}
 use Rattle.family_rules.specs.Checking.{Checking, groups_so_far, so_far, key_of, timed, Stands}
-use Rattle.family_rules.specs.Steps.{is_current_family, current_kind, with_current, begun, left_stop, Takes, IsReady}
-use Rattle.family_rules.specs.Samples.{is_current_sample, TellsPart, told_part, with_member, told_member, told_left, has_bad_exemplar, is_bad_plain_value, current_samples, own_samples, key_in, is_overtaken_in, is_back_in_groups, is_told_back, is_back, entered_by, part_stop, order_stop, with_told, with_sample, with_added, sample_stop, add_stop, name_stop}
+use Rattle.family_rules.specs.LeastRule.{least}
+use Rattle.family_rules.specs.Steps.{is_current_family, current_kind, with_current, begun, has_incomplete, left_stop, Takes, IsReady}
+use Rattle.family_rules.specs.Samples.{is_current_sample, TellsPart, told_part, with_member, told_member, told_left, has_bad_exemplar, is_bad_plain_value, current_samples, own_samples, key_in, is_overtaken_in, is_back_in_groups, is_told_back, is_back, is_any_back, with_runs, entered_by, measure_stop, part_stop, order_stop, with_told, with_sample, with_key, with_added, sample_stop, key_stop, add_stop, name_stop}
 use Rattle.family_rules.proofs.Lists.{bytes_same}
-use Rattle.family_rules.proofs.LastRules.{or_none, stop_some, last_fault, rest_kept, back_first, back_or_suffix, either_refuses, no_own, not_wrong, member_told}
+use Rattle.family_rules.proofs.LastRules.{or_none, stop_some, last_fault, rest_kept, back_first, either_refuses, no_own, not_wrong, member_told}
+use Rattle.family_rules.proofs.Joined.{least_none, none_told, stop_free, IsLate, late_measure, late_left, suffix_joined, plain_stop, key_plain}
 use Rattle.family_rules.proofs.Faults.{fit_lines, together_samples, sound_samples, left_fault, measure_fault, rest_fault, sample_fault}
 use Rattle.family_rules.proofs.Plain.{suffix_is, plain_value, plain_threshold, plain_order}
 use Rattle.family_rules.proofs.RunLaws.{interleaved_kept}
@@ -44,34 +47,22 @@ use Rattle.family_rules.proofs.Taking.{refused, reached_same, reached_other}
 
 -- ---- what the steps of one sample did
 
-module _ (c mid after : Checking) (k : Kind) (labels : LabelSet) (told : Result (Option Member) Rule) (own : ℕ) (key : SampleKey) (broken : Option Rule) (entered : mid ≡ entered_by c k labels) where
-  pub added_stop : after ≡ with_current mid after.current → broken ≡ part_stop k labels told mid.current → (answer : Option Rule) → answer ≡ sample_stop after own key broken → is_back c k labels ≡ false
-      → is_told_back mid.setting.format k labels told mid.current ≡ false
-      → answer ≡ cond (is_back c k labels) (Some rules.Interleaved) (cond (is_told_back c.setting.format k labels told c.current) (Some rules.Interleaved) (sample_stop c own key (part_stop k labels told c.current)))
+module _ (c mid after : Checking) (k : Kind) (key : SampleKey) (told : Result (Option Part) Rule) (back : Bool) (grouped broken : Option Rule) (joined : broken ≡ least (when_true back rules.Interleaved) grouped) where
+  pub added_stop : mid ≡ with_runs c mid.runs → after ≡ with_current mid after.current → (own : ℕ) → own ≡ own_samples c k → back ≡ is_back c k key.labels
+      → grouped ≡ part_stop mid.setting.format k key.labels told mid.current → (answer : Option Rule) → answer ≡ sample_stop after own key broken → answer ≡ key_stop c k key told
   unfolding sample_stop
-  added_stop rest told_is answer stop free told_free =
-      stop ∙ ap (λ x. sample_stop x own key broken) (rest ∙ ap (λ m. with_current m after.current) entered)
-      ∙ ap (sample_stop c own key) (told_is ∙ ap (λ (m : Checking). part_stop k labels told m.current) entered)
-      ∙ sym (λ i. cond (free i) (Some rules.Interleaved) (cond (here i) (Some rules.Interleaved) (sample_stop c own key (part_stop k labels told c.current))))
+  added_stop runs rest own own_is back_is grouped_is answer stop =
+      stop ∙ ap (λ (x : Checking). sample_stop x own key broken) (rest ∙ ap (λ (m : Checking). with_current m after.current) runs)
+      ∙ (λ i. sample_stop c (own_is i) key ((joined ∙ (λ j. least (when_true (back_is j) rules.Interleaved) (here j))) i))
     where
-      here : is_told_back c.setting.format k labels told c.current ≡ false
-      here = sym (ap (λ (m : Checking). is_told_back m.setting.format k labels told m.current) entered) ∙ told_free
+      here : grouped ≡ part_stop c.setting.format k key.labels told c.current
+      here = grouped_is ∙ ap (λ (m : Checking). part_stop m.setting.format k key.labels told m.current) runs
 
-  -- it goes back by what was told
-  pub told_back_stop : is_told_back mid.setting.format k labels told mid.current ≡ true → is_back c k labels ≡ false
-      → Some rules.Interleaved ≡ cond (is_back c k labels) (Some rules.Interleaved) (cond (is_told_back c.setting.format k labels told c.current) (Some rules.Interleaved) (sample_stop c own key (part_stop k labels told c.current)))
-  told_back_stop back free = sym (λ i. cond (free i) (Some rules.Interleaved) (cond (here i) (Some rules.Interleaved) (sample_stop c own key (part_stop k labels told c.current))))
-    where
-      here : is_told_back c.setting.format k labels told c.current ≡ true
-      here = sym (ap (λ (m : Checking). is_told_back m.setting.format k labels told m.current) entered) ∙ back
-
-  pub added_more : (broken ≡ None → after ≡ with_told mid k labels told) → (d : Checking) (value : TimedValue) (answer : Option Rule) → answer ≡ sample_stop after own key broken
-      → (answer ≡ None → d ≡ with_sample after key value) → answer ≡ None → d ≡ with_sample (with_told (entered_by c k labels) k labels told) key value
-  added_more taken d value answer stop step none = step none ∙ (λ i. with_sample ((taken (right broken (sym stop ∙ none)) ∙ ap (λ m. with_told m k labels told) entered) i) key value)
-    where
-      right : (b : Option Rule) → sample_stop after own key b ≡ None → b ≡ None
-      right None e = refl
-      right (Some rule) e = absurd (stop_some after own key rule e)
+  pub added_more : (given : Result (Option Member) Rule) → (back ≡ false → mid ≡ entered_by c k key.labels) → (grouped ≡ None → after ≡ with_told mid k key.labels given) → (own : ℕ) (d : Checking) (value : TimedValue)
+      → (answer : Option Rule) → answer ≡ sample_stop after own key broken → (answer ≡ None → d ≡ with_sample after key value) → answer ≡ None → d ≡ with_key c k key value given
+  added_more given entered taken own d value answer stop step none =
+      let free = least_none (when_true back rules.Interleaved) grouped (sym joined ∙ stop_free after own key broken (sym stop ∙ none)) in
+      step none ∙ (λ i. with_sample ((taken free.1 ∙ ap (λ (m : Checking). with_told m k key.labels given) (entered (none_told back rules.Interleaved free.0))) i) key value)
 
 -- ---- a checker that is ready for a sample of this family
 
@@ -113,26 +104,19 @@ module _ (st : Setting) (c : Checking) (earlier : List Item) (F : List ℕ) (r :
           ∙ overtaken_kept st K F format_is (samples_of above F) (together_samples st above F (fit_lines st earlier r.faultless)) s
 
   -- the same, where something is told of the sample
-  told_back_here : is_told_back c.setting.format k labels (told_member st (kind_of above F) F s) c.current ≡ (is_grouped st.format (kind_of above F) && is_interleaved st (kind_of above F) F (samples_of above F) s)
+  told_back_here : is_told_back c.setting.format k labels (told_part st (kind_of above F) F s) c.current ≡ (is_grouped st.format (kind_of above F) && is_interleaved st (kind_of above F) F (samples_of above F) s)
   told_back_here = by (has_bad_value st.format (kind_of above F) F s) (has_bad_threshold (kind_of above F) F s) (is_grouped st.format (kind_of above F)) refl
     where
       I : Bool
       I = is_interleaved st (kind_of above F) F (samples_of above F) s
 
-      grouped_told : is_grouped st.format (kind_of above F) ≡ true → (is_overtaken_in k labels c.current && is_open_metrics c.setting.format) ≡ I
+      grouped_told : is_grouped st.format (kind_of above F) ≡ true → (is_open_metrics c.setting.format && is_overtaken_in k labels c.current) ≡ I
       grouped_told here =
-          swapped (is_overtaken_in k labels c.current) (is_open_metrics c.setting.format)
-          ∙ ap (λ b. b && is_open_metrics c.setting.format && is_overtaken_in k labels c.current) (sym ((λ i. is_grouped (r.setting i).format (kind i)) ∙ here))
+          ap (λ b. b && is_open_metrics c.setting.format && is_overtaken_in k labels c.current) (sym ((λ i. is_grouped (r.setting i).format (kind i)) ∙ here))
           ∙ grouped_here ∙ ap (λ b. b && I) here
-        where
-          swapped : (a b : Bool) → (a && b) ≡ (true && b && a)
-          swapped true true = refl
-          swapped true false = refl
-          swapped false true = refl
-          swapped false false = refl
 
       by : (v t g : Bool) → is_grouped st.format (kind_of above F) ≡ g
-          → is_told_back c.setting.format k labels (cond v (Err rules.Value) (cond t (Err rules.Threshold) (Ok (cond g (Some (member_of st.format F s)) None)))) c.current ≡ (g && I)
+          → is_told_back c.setting.format k labels (cond v (Err rules.Value) (cond t (Err rules.Threshold) (Ok (cond g (Some (part_of F s)) None)))) c.current ≡ (g && I)
       by true t g here = grouped_here ∙ ap (λ b. b && I) here
       by false true g here = grouped_here ∙ ap (λ b. b && I) here
       by false false true here = grouped_told here
@@ -155,20 +139,20 @@ module _ (st : Setting) (c : Checking) (earlier : List Item) (F : List ℕ) (r :
       let label_is : shared_labels k labels ≡ sample_group st K F s = (λ i. shared_labels (kind i) (kept_labels (r.setting i).treatment s.labels)) ∙ sym (shared_group st K F s here) in
       let order = order_kept st K F (samples_of above F) s here (sound_samples st above F (fit_lines st earlier r.faultless)) named valued placed in
       ap (order_stop k labels (part_of F s)) r.current
-      ∙ (λ i. cond (not (breaks_order (or_empty (known_group (groups i) (label_is i))) (part_of F s))) None (Some rules.Order))
+      ∙ (λ i. when_true (not (not (breaks_order (or_empty (known_group (groups i) (label_is i))) (part_of F s)))) rules.Order)
       ∙ flip (breaks_order (or_empty (known_group (groups_from (map (entry_of st K F) (reverse (samples_of above F)))) (sample_group st K F s))) (part_of F s))
       ∙ ap (λ b. cond b (Some rules.Order) None) (sym order)
     where
-      flip : (b : Bool) → cond (not b) None (Some rules.Order) ≡ cond b (Some rules.Order) None
+      flip : (b : Bool) → when_true (not (not b)) rules.Order ≡ cond b (Some rules.Order) None
       flip true = refl
       flip false = refl
 
   -- Value, Threshold or Order, by what was told
-  measure_here : has_wrong_suffix st (kind_of above F) F s ≡ false → part_stop k labels (told_member st (kind_of above F) F s) c.current ≡ measure_fault st (kind_of above F) F (samples_of above F) s
+  measure_here : has_wrong_suffix st (kind_of above F) F s ≡ false → measure_stop k labels (told_part st (kind_of above F) F s) c.current ≡ measure_fault st (kind_of above F) F (samples_of above F) s
   measure_here named = by (has_bad_value st.format (kind_of above F) F s) (has_bad_threshold (kind_of above F) F s) (is_grouped st.format (kind_of above F)) refl refl refl
     where
       by : (v t g : Bool) → has_bad_value st.format (kind_of above F) F s ≡ v → has_bad_threshold (kind_of above F) F s ≡ t → is_grouped st.format (kind_of above F) ≡ g
-          → part_stop k labels (cond v (Err rules.Value) (cond t (Err rules.Threshold) (Ok (cond g (Some (member_of st.format F s)) None)))) c.current
+          → measure_stop k labels (cond v (Err rules.Value) (cond t (Err rules.Threshold) (Ok (cond g (Some (part_of F s)) None)))) c.current
           ≡ cond v (Some rules.Value) (cond t (Some rules.Threshold) (cond (is_out_of_order st (kind_of above F) F (samples_of above F) s) (Some rules.Order) None))
       by true t g e f h = refl
       by false true g e f h = refl
@@ -237,20 +221,23 @@ module _ (s : Sample) (c : Checking) (d : Checking) (own : is_current_sample c.s
         let above : List Owned = owned_lines st.format earlier in
         let ready = own_ready st earlier stands in
         let kind = own_kind st earlier stands in
-        let measure : part_stop k (kept_labels c.setting.treatment s.labels) given c.current ≡ measure_fault st K F (samples_of above F) s =
-        ap (λ t. part_stop k (kept_labels c.setting.treatment s.labels) t c.current) (given_here st earlier stands) ∙ measure_here st c earlier F ready s k kind (own_named st earlier stands) in
+        let measure : measure_stop k (kept_labels c.setting.treatment s.labels) told c.current ≡ measure_fault st K F (samples_of above F) s =
+        ap (λ t. measure_stop k (kept_labels c.setting.treatment s.labels) t c.current) (told_here st earlier stands) ∙ measure_here st c earlier F ready s k kind (own_named st earlier stands) in
         let left : None ≡ left_fault st above (Some F) = sym (ap (λ b. cond b (Some rules.Incomplete) None) (stays st c earlier stands F (ap (λ k. is_current_family k F) stands.current ∙ (current_owner st c earlier stands s.name own).current))) in
         let back : Bool = is_interleaved st K F (samples_of above F) s in
         let passed : is_passed (kept_labels c.setting.treatment s.labels) (samples_at_end (own_samples c k) c.seen) ≡ (is_alone K && back) =
         passed_here st c earlier F ready s k kind ((current_owner st c earlier stands s.name own).together (items.Sample s)) in
-        let rest : sample_stop c (own_samples c k) (key_of c.setting s) (part_stop k (kept_labels c.setting.treatment s.labels) given c.current)
+        let rest : plain_stop c (own_samples c k) (key_of c.setting s) (measure_stop k (kept_labels c.setting.treatment s.labels) told c.current)
         ≡ cond (is_duplicate st above s) (Some (cond (is_alone K && back) rules.Interleaved rules.Duplicate)) (last_fault st earlier F s) =
-        ap (sample_stop c (own_samples c k) (key_of c.setting s)) (measure ∙ sym (or_none (measure_fault st K F (samples_of above F) s)))
+        ap (plain_stop c (own_samples c k) (key_of c.setting s)) (measure ∙ sym (or_none (measure_fault st K F (samples_of above F) s)))
         ∙ rest_kept st c earlier s F (own_samples c k) (is_alone K && back) (measure_fault st K F (samples_of above F) s) None stands passed refl left in
-        let told_back : is_told_back c.setting.format k (kept_labels c.setting.treatment s.labels) given c.current ≡ (is_grouped st.format K && back) =
-        ap (λ t. is_told_back c.setting.format k (kept_labels c.setting.treatment s.labels) t c.current) (given_here st earlier stands) ∙ told_back_here st c earlier F ready s k kind in
+        let told_back : is_told_back c.setting.format k (kept_labels c.setting.treatment s.labels) told c.current ≡ (is_grouped st.format K && back) =
+        ap (λ t. is_told_back c.setting.format k (kept_labels c.setting.treatment s.labels) t c.current) (told_here st earlier stands) ∙ told_back_here st c earlier F ready s k kind in
         let last : Option Rule = cond (is_duplicate st above s) (Some (cond (is_alone K && back) rules.Interleaved rules.Duplicate)) (last_fault st earlier F s) in
-        (λ i. cond (back_here st c earlier F ready s k kind i) (Some rules.Interleaved) (cond (told_back i) (Some rules.Interleaved) (rest i)))
+        let late : IsLate (measure_stop k (kept_labels c.setting.treatment s.labels) told c.current) =
+        subst IsLate (sym measure) (late_measure (has_bad_value st.format K F s) (has_bad_threshold K F s) (is_out_of_order st K F (samples_of above F) s)) in
+        key_plain c k (key_of c.setting s) told late
+        ∙ (λ i. cond (back_here st c earlier F ready s k kind i) (Some rules.Interleaved) (cond (told_back i) (Some rules.Interleaved) (rest i)))
         ∙ either_refuses (has_own_runs K && back) (is_grouped st.format K && back) (Some rules.Interleaved) last
         ∙ ap (λ b. cond b (Some rules.Interleaved) last) (either_here st c earlier F ready s k kind)
         ∙ back_first (is_alone K) back (is_duplicate st above s) (last_fault st earlier F s) (back_seen st above F s (fit_lines st earlier stands.faultless) (own_named st earlier stands))
@@ -318,25 +305,30 @@ module _ (s : Sample) (c : Checking) (d : Checking) (other : is_current_sample c
 
   module _ (x : is_some s.exemplar ≡ false) where
     -- the family of its name is the current one, whose kind doesn't allow the name
-    pub other_named : is_current_family c.current s.name ≡ true → (rule : Rule) → rule ≡ name_stop c s → Takes (items.Sample s) c d (Some rule)
+    pub other_named : is_current_family c.current s.name ≡ true → (rule : Option Rule) → rule ≡ name_stop c s → Takes (items.Sample s) c d rule
     unfolding has_wrong_suffix
-    other_named h rule told = refused (items.Sample s) c d rule (λ st earlier stands before.
+    other_named h rule told =
+        let any : Bool = is_any_back c (current_kind c.current) (kept_labels c.setting.treatment s.labels) in
+        subst (λ o. Takes (items.Sample s) c d o) (sym (told ∙ suffix_joined any)) (refused (items.Sample s) c d (cond any rules.Interleaved rules.Suffix) (λ st earlier stands before.
         let above : List Owned = owned_lines st.format earlier in
-        let back : Bool = is_interleaved st (kind_of above s.name) s.name (samples_of above s.name) s in
+        let K : Kind = kind_of above s.name in
+        let back : Bool = is_interleaved st K s.name (samples_of above s.name) s in
         let here : IsReady st c earlier s.name = ready st earlier stands in
         let kind = ready_kind st c earlier s.name here in
         let passed = passed_here st c earlier s.name here s (current_kind c.current) kind (split_own st c earlier stands s.name (items.Sample s) h) in
-        let K : Kind = kind_of above s.name in
-        let last : Rule = cond (is_alone K && back) rules.Interleaved rules.Suffix in
-        ap Some (told
-        ∙ (λ i. cond (back_here st c earlier s.name here s (current_kind c.current) kind i) rules.Interleaved
-        (cond (grouped_here st c earlier s.name here s (current_kind c.current) kind i) rules.Interleaved (cond (passed i) rules.Interleaved rules.Suffix)))
-        ∙ either_refuses (has_own_runs K && back) (is_grouped st.format K && back) rules.Interleaved last
-        ∙ ap (λ b. cond b rules.Interleaved last) (either_here st c earlier s.name here s (current_kind c.current) kind)
-        ∙ back_or_suffix (is_alone (kind_of above s.name)) back)
+        ap (λ b. Some (cond b rules.Interleaved rules.Suffix)) (
+        (λ i. back_here st c earlier s.name here s (current_kind c.current) kind i || grouped_here st c earlier s.name here s (current_kind c.current) kind i || passed i)
+        ∙ ap (λ b. b || (is_alone K && back)) (either_here st c earlier s.name here s (current_kind c.current) kind)
+        ∙ either_way (is_alone K) back
+        )
         ∙ either back
-        ∙ sym (other_fault st earlier stands before false false back true x (split_own st c earlier stands s.name (items.Sample s) h) refl (ap not (name_here st earlier stands))))
+        ∙ sym (other_fault st earlier stands before false false back true x (split_own st c earlier stands s.name (items.Sample s) h) refl (ap not (name_here st earlier stands)))))
       where
+        either_way : (alone back : Bool) → ((not alone && back) || (alone && back)) ≡ back
+        either_way true back = refl
+        either_way false true = refl
+        either_way false false = refl
+
         either : (b : Bool) → Some (cond b rules.Interleaved rules.Suffix) ≡ cond b (Some rules.Interleaved) (Some rules.Suffix)
         either true = refl
         either false = refl
@@ -388,25 +380,26 @@ module _ (s : Sample) (c : Checking) (d : Checking) (other : is_current_sample c
           sym (ap (λ k. measure_fault st k s.name samples s) (sym (unknown st earlier stands))
           ∙ (λ i. cond (value i) (Some rules.Value) (cond (plain_threshold st.format Unknown s.name s refl i) (Some rules.Threshold) (cond (plain_order st Unknown s.name samples s refl i) (Some rules.Order) None))))
 
-      -- what the sample gives its group, where this rule is broken: nothing
-      abbrev given_left : Option Rule → Result (Option Member) Rule
-      given_left o = with_member (sample_time c.setting.format s) s.exemplar (told_left o)
-
-      told_back : (o : Option Rule) (labels : LabelSet) → part_stop Unknown labels (given_left o) (begun c s.name).current ≡ o
+      -- what is told of the sample is the rule of the family that is left
+      told_back : (o : Option Rule) (labels : LabelSet) → measure_stop Unknown labels (told_left o) (begun c s.name).current ≡ o
       told_back None _ = refl
       told_back (Some rule) _ = refl
 
       -- nor does it go back
-      unmet : (o : Option Rule) (labels : LabelSet) → is_told_back c.setting.format Unknown labels (given_left o) (begun c s.name).current ≡ false
+      unmet : (o : Option Rule) (labels : LabelSet) → is_told_back c.setting.format Unknown labels (told_left o) (begun c s.name).current ≡ false
       unmet None _ = refl
       unmet (Some rule) _ = refl
 
-      begin_stop : add_stop (begun c s.name) Unknown s (told_left (left_stop c.current)) ≡ sample_stop c 0 (key_of c.setting s) (left_stop c.current)
-      unfolding sample_stop
+      late : (o : Option Current) (labels : LabelSet) → IsLate (measure_stop Unknown labels (told_left (left_stop o)) (begun c s.name).current)
+      late None labels = tt
+      late (Some k) labels = subst IsLate (sym (told_back (left_stop (Some k)) labels)) (late_left (has_incomplete k.family))
+
+      begin_stop : add_stop (begun c s.name) Unknown s (told_left (left_stop c.current)) ≡ plain_stop c 0 (key_of c.setting s) (left_stop c.current)
       begin_stop =
-          ap (λ b. cond b (Some rules.Interleaved) (sample_stop (begun c s.name) (own_samples (begun c s.name) Unknown) (key_of c.setting s) (part_stop Unknown (kept_labels c.setting.treatment s.labels) (given_left (left_stop c.current)) (begun c s.name).current)))
+          key_plain (begun c s.name) Unknown (key_of c.setting s) (told_left (left_stop c.current)) (late c.current (kept_labels c.setting.treatment s.labels))
+          ∙ ap (λ b. cond b (Some rules.Interleaved) (plain_stop (begun c s.name) (own_samples (begun c s.name) Unknown) (key_of c.setting s) (measure_stop Unknown (kept_labels c.setting.treatment s.labels) (told_left (left_stop c.current)) (begun c s.name).current)))
           (unmet (left_stop c.current) (kept_labels c.setting.treatment s.labels))
-          ∙ (λ i. sample_stop c (no_own (is_open_metrics c.setting.format && true) i) (key_of c.setting s) (told_back (left_stop c.current) (kept_labels c.setting.treatment s.labels) i))
+          ∙ (λ i. plain_stop c (no_own (is_open_metrics c.setting.format && true) i) (key_of c.setting s) (told_back (left_stop c.current) (kept_labels c.setting.treatment s.labels) i))
 
       pub other_begins : (answer : Option Rule) → answer ≡ add_stop (begun c s.name) Unknown s (told_left (left_stop c.current))
           → (answer ≡ None → d ≡ with_added (begun c s.name) Unknown s (told_left (left_stop c.current))) → Takes (items.Sample s) c d answer
@@ -424,7 +417,7 @@ module _ (s : Sample) (c : Checking) (d : Checking) (other : is_current_sample c
             where
               by : (o : Option Rule) → left_stop c.current ≡ o → o ≡ None
               by None e = refl
-              by (Some rule) e = absurd (stop_some c 0 (key_of c.setting s) rule (ap (sample_stop c 0 (key_of c.setting s)) (sym e) ∙ sym begin_stop ∙ sym stop ∙ none))
+              by (Some rule) e = absurd (stop_some c 0 (key_of c.setting s) rule (ap (plain_stop c 0 (key_of c.setting s)) (sym e) ∙ sym begin_stop ∙ sym stop ∙ none))
 
           fault : (st : Setting) (earlier : List Item) → Stands st c earlier → is_after_eof st earlier ≡ false → answer ≡ item_fault st earlier (items.Sample s)
           fault st earlier stands before =

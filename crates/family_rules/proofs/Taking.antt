@@ -4,6 +4,7 @@ use Rattle.std.proofs.lemmas.Bool.Decides.{nat_tests}
 use Rattle.std.proofs.Common.{◌≡◌, ◌≤◌, ◌<◌, ◌⊎◌, arith, ℕ, Bool, true, false, cond, not, ◌&&◌, ◌||◌, List, [], ◌∷◌, ◌++◌, Option, Some, None, Result, Ok, Err, refl, sym, ap, subst, ◌∙◌, inl, inr, ◌+◌, is_some, count_by}
 use Rattle.std.specs.Prelude.{OnOk, IfOk, IfSome, nat_le}
 use Rattle.std.specs.Option.{option_or}
+use Rattle.label_sets.specs.Lists.{when_true}
 use Rattle.page_model.specs.declared.item.Item.{Item}
 use Rattle.page_model.specs.declared.item.Item.TheVariants as items
 use Rattle.page_model.specs.declared.rule.Rule.{Rule}
@@ -16,13 +17,15 @@ use Rattle.page_model.specs.Faults.{item_fault}
 use Rattle.family_rules.specs.declared.family.Descriptor.{Descriptor}
 use Rattle.family_rules.specs.declared.timed_values.TimedValue.{TimedValue}
 use Rattle.packed_keys.specs.declared.sample_key.SampleKey.{SampleKey}
-use Rattle.family_rules.specs.KeyedValues.{is_key_of}
+use Rattle.family_rules.specs.KeyedValues.{is_key_of, samples_at_end, is_passed}
 use Rattle.family_rules.specs.GroupRuns.{nearest_runs}
 use Rattle.family_rules.specs.Checking.{Checking, so_far, left_families, current_family, seen_above, Stands}
 use Rattle.family_rules.specs.Steps.{line_of, is_current_family, begun, reached, with_descriptor, left_stop, place_stop, unit_stop, has_ended, Takes, TakesAny, IsReady}
-use Rattle.family_rules.specs.Samples.{with_counted, with_sample, seen_rule, sample_stop}
+use Rattle.family_rules.specs.LeastRule.{lesser, least}
+use Rattle.family_rules.specs.Samples.{with_counted, with_sample, known_stop, limit_stop, sample_stop}
 use Rattle.family_rules.proofs.Lists.{pairs}
 use Rattle.family_rules.proofs.Faults.{ended_fault, described_fault, unit_fault, left_fault, blank_fault, comment_fault, eof_fault}
+use Rattle.family_rules.proofs.Joined.{many_last, many_behind}
 use Rattle.family_rules.proofs.Standing.{ready_reached, stands_described, unit_kept, place_kept, left_at_end}
 
 pub on_ok : {T E : Type 0} (P Q : Type 0) (r : Result T E) → (P → Q) → OnOk r P → OnOk r Q
@@ -112,14 +115,20 @@ pub negated_true : (a b : Bool) → a ≡ not b → a ≡ true → b ≡ false
 negated_true a false h e = refl
 negated_true a true h e = absurd (let f : true ≡ false = sym e ∙ h in cc)
 
-pub stop_seen : (c : Checking) (own : ℕ) (key : SampleKey) (broken : Option Rule) → is_key_of key c.seen ≡ true → (rule : Rule) → rule ≡ seen_rule own key.labels c.seen → Some rule ≡ sample_stop c own key broken
+pub stop_seen : (c : Checking) (own : ℕ) (key : SampleKey) (broken : Option Rule) → is_key_of key c.seen ≡ true → (rule : Option Rule) → rule ≡ known_stop own key.labels c.seen → least rule broken ≡ sample_stop c own key broken
 unfolding sample_stop
-stop_seen c own key broken h rule told = ap Some told ∙ sym (ap (λ b. cond b (Some (seen_rule own key.labels c.seen)) (option_or broken (cond (nat_le c.setting.limit c.samples) (Some rules.TooMany) None))) h)
+stop_seen c own key broken h rule told =
+    ap (λ o. least o broken) told ∙ by (is_passed key.labels (samples_at_end own c.seen))
+    ∙ sym (ap (λ b. least (cond b (known_stop own key.labels c.seen) None) (least broken (limit_stop c))) h)
+  where
+    by : (p : Bool) → least (least (when_true p rules.Interleaved) (Some rules.Duplicate)) broken ≡ least (least (when_true p rules.Interleaved) (Some rules.Duplicate)) (least broken (limit_stop c))
+    by true = many_behind (lesser rules.Interleaved rules.Duplicate) broken (nat_le c.setting.limit c.samples)
+    by false = many_behind rules.Duplicate broken (nat_le c.setting.limit c.samples)
 
 pub stop_broken : (c : Checking) (own : ℕ) (key : SampleKey) (broken : Option Rule) → is_key_of key c.seen ≡ false → is_some broken ≡ true → broken ≡ sample_stop c own key broken
 unfolding sample_stop
 stop_broken c own key None h some = absurd (let f : false ≡ true = some in cc)
-stop_broken c own key (Some rule) h some = rw h refl
+stop_broken c own key (Some rule) h some = sym (ap (λ b. least (cond b (known_stop own key.labels c.seen) None) (least (Some rule) (limit_stop c))) h ∙ many_last (Some rule) (nat_le c.setting.limit c.samples))
 
 pub stop_many : (c : Checking) (own : ℕ) (key : SampleKey) (broken : Option Rule) → is_key_of key c.seen ≡ false → is_some broken ≡ false → c.setting.limit ≤ c.samples → Some rules.TooMany ≡ sample_stop c own key broken
 unfolding sample_stop

@@ -1,3 +1,4 @@
+pub mod LeastRule
 pub mod LeftFamilies
 pub mod Rare
 pub mod TimedValues

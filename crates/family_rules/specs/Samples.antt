@@ -1,6 +1,5 @@
 -- What a sample does to what a checker keeps (the bridge's own).
 use Rattle.std.specs.Prelude.{◌≡◌, ℕ, Bool, true, false, not, ◌&&◌, ◌||◌, ◌+◌, List, [], ◌∷◌, ◌++◌, Option, Some, None, Result, Ok, Err, nat_le, sum_by, if◌then◌else◌}
-use Rattle.std.specs.Option.{option_or}
 use Rattle.exact_decimal.specs.declared.number.Number.{Number}
 use Rattle.exact_decimal.specs.Numbers.{number_of}
 use Rattle.exact_decimal.specs.Order.{same}
@@ -9,7 +8,7 @@ use Rattle.label_sets.specs.declared.kind.Kind.TheVariants.{Info, StateSet}
 use Rattle.label_sets.specs.declared.label.Label.{Label}
 use Rattle.label_sets.specs.Labels.{has_name}
 use Rattle.label_sets.specs.declared.label_set.LabelSet.{LabelSet}
-use Rattle.label_sets.specs.Lists.{some_passes}
+use Rattle.label_sets.specs.Lists.{some_passes, when_true}
 use Rattle.page_model.specs.declared.format.Format.{Format}
 use Rattle.page_model.specs.declared.item.Exemplar.{Exemplar}
 use Rattle.page_model.specs.declared.item.Sample.{Sample}
@@ -19,16 +18,16 @@ use Rattle.page_model.specs.Written.{Setting}
 use Rattle.page_model.specs.Suffixes.{is_sample_name}
 use Rattle.page_model.specs.Owners.{kept_labels, group_of}
 use Rattle.page_model.specs.Rules.{characters, is_open_metrics, is_bad_exemplar, has_wrong_suffix, has_bad_value, has_bad_threshold}
-use Rattle.sample_groups.specs.declared.member.Member.{Member}
+use Rattle.sample_groups.specs.Members.{Member}
 use Rattle.sample_groups.specs.declared.part.Part.{Part}
 use Rattle.sample_groups.specs.Groups.{shared_labels, known_group, or_empty, with_part, breaks_order, is_overtaken}
 use Rattle.sample_groups.specs.Parts.{is_grouped, part_of, sample_time, member_of}
 use Rattle.packed_keys.specs.declared.sample_key.SampleKey.{SampleKey}
-use Rattle.family_rules.specs.declared.checker.samples.Told.{Told}
 use Rattle.family_rules.specs.declared.family.Current.{Current}
 use Rattle.family_rules.specs.declared.family.FamilySoFar.{FamilySoFar}
 use Rattle.family_rules.specs.declared.keyed_sample.KeyedSample.{KeyedSample}
 use Rattle.family_rules.specs.declared.timed_values.TimedValue.{TimedValue}
+use Rattle.family_rules.specs.LeastRule.{least}
 use Rattle.family_rules.specs.KeyedValues.{is_key_of, samples_at_end, is_passed}
 use Rattle.family_rules.specs.GroupRuns.{Runs, is_alone, has_runs, group_key, goes_back, with_group}
 use Rattle.family_rules.specs.Checking.{Checking, kind_in, key_of, timed}
@@ -76,7 +75,7 @@ fits_order kind labels part (Some k) = not (breaks_order (or_empty (known_group 
 
 -- Order
 abbrev pub order_stop : Kind → LabelSet → Part → Option Current → Option Rule
-order_stop kind labels part current = if fits_order kind labels part current then None else Some rules.Order
+order_stop kind labels part current = when_true (not (fits_order kind labels part current)) rules.Order
 
 -- how many samples the current family has
 abbrev pub current_samples : Option Current → ℕ
@@ -87,15 +86,25 @@ current_samples (Some k) = k.family.samples
 abbrev pub own_samples : Checking → Kind → ℕ
 own_samples c kind = if is_open_metrics c.setting.format && is_alone kind then current_samples c.current else 0
 
--- Interleaved or Duplicate, of a key that was seen: it goes back to one of so many samples at the end, or not
-abbrev pub seen_rule : ℕ → LabelSet → List (SampleKey × TimedValue) → Rule
-seen_rule own labels seen = if is_passed labels (samples_at_end own seen) then rules.Interleaved else rules.Duplicate
+-- Interleaved, where one of so many samples at the end has these labels, and the last one has not
+abbrev pub passed_stop : ℕ → LabelSet → List (SampleKey × TimedValue) → Option Rule
+passed_stop own labels seen = when_true (is_passed labels (samples_at_end own seen)) rules.Interleaved
 
--- Interleaved or Duplicate, then what else is broken, then TooMany
+-- Interleaved or Duplicate, of a key that was seen with these labels
+abbrev pub known_stop : ℕ → LabelSet → List (SampleKey × TimedValue) → Option Rule
+known_stop own labels seen = least (passed_stop own labels seen) (Some rules.Duplicate)
+
+-- the same of any key
+abbrev pub seen_stop : ℕ → SampleKey → List (SampleKey × TimedValue) → Option Rule
+seen_stop own key seen = if is_key_of key seen then known_stop own key.labels seen else None
+
+-- TooMany
+abbrev pub limit_stop : Checking → Option Rule
+limit_stop c = when_true (nat_le c.setting.limit c.samples) rules.TooMany
+
+-- Interleaved or Duplicate of a key, what else is broken, and TooMany
 unfoldable pub sample_stop : Checking → ℕ → SampleKey → Option Rule → Option Rule
-sample_stop c own key broken =
-    if is_key_of key c.seen then Some (seen_rule own key.labels c.seen)
-    else option_or broken (if nat_le c.setting.limit c.samples then Some rules.TooMany else None)
+sample_stop c own key broken = least (seen_stop own key c.seen) (least broken (limit_stop c))
 
 -- ---- what a sample is to its group
 
@@ -134,22 +143,17 @@ told_member st kind family s =
     else if has_bad_threshold kind family s then Err rules.Threshold
     else Ok (if is_grouped st.format kind then Some (member_of st.format family s) else None)
 
--- a sample of this kind, of which this was told, on its way through a checker
-abbrev pub keyed_sample : Checking → Kind → Sample → Result (Option Part) Rule → KeyedSample
-keyed_sample c kind s told = record {
-  kind = kind;
-  key = key_of c.setting s;
-  value = timed c.setting s;
-  told = with_member (sample_time c.setting.format s) s.exemplar told;
-}
+-- the same of a sample on its way through a checker
+abbrev pub given_by : KeyedSample → Result (Option Member) Rule
+given_by line = with_member line.value.time line.exemplar.now line.told.now
 
 -- what was told of a sample, or Order
-abbrev pub part_stop : Kind → LabelSet → Result (Option Member) Rule → Option Current → Option Rule
-part_stop kind labels (Err rule) current = Some rule
-part_stop kind labels (Ok None) current = None
-part_stop kind labels (Ok (Some member)) current = order_stop kind labels member.part current
+abbrev pub measure_stop : Kind → LabelSet → Result (Option Part) Rule → Option Current → Option Rule
+measure_stop kind labels (Err rule) current = Some rule
+measure_stop kind labels (Ok None) current = None
+measure_stop kind labels (Ok (Some part)) current = order_stop kind labels part current
 
--- the current family has what was told of a sample
+-- the current family has what a sample gives its group
 abbrev pub with_told : Checking → Kind → LabelSet → Result (Option Member) Rule → Checking
 with_told c kind labels (Err rule) = c
 with_told c kind labels (Ok None) = c
@@ -185,19 +189,22 @@ abbrev pub is_back_in_groups : Format → Kind → LabelSet → Option Current �
 is_back_in_groups f kind labels current = is_grouped f kind && is_open_metrics f && is_overtaken_in kind labels current
 
 -- Interleaved, where something is told of a sample by the groups
-abbrev pub is_told_back : Format → Kind → LabelSet → Result (Option Member) Rule → Option Current → Bool
+abbrev pub is_told_back : Format → Kind → LabelSet → Result (Option Part) Rule → Option Current → Bool
 is_told_back f kind labels (Ok None) current = false
-is_told_back f kind labels (Ok (Some member)) current = is_overtaken_in kind labels current && is_open_metrics f
+is_told_back f kind labels (Ok (Some part)) current = is_open_metrics f && is_overtaken_in kind labels current
 is_told_back f kind labels (Err rule) current = is_back_in_groups f kind labels current
 
--- the answer to what was told of a sample
-pub record AnswersTold (c : Checking) (kind : Kind) (labels : LabelSet) (told : Result (Option Member) Rule) (answer : Told) : Type 0 where
-  pub back : answer.back ≡ is_told_back c.setting.format kind labels told c.current
-  pub broken : answer.broken ≡ part_stop kind labels told c.current
+-- Interleaved, what was told of a sample, and Order
+abbrev pub part_stop : Format → Kind → LabelSet → Result (Option Part) Rule → Option Current → Option Rule
+part_stop f kind labels told current = least (when_true (is_told_back f kind labels told current) rules.Interleaved) (measure_stop kind labels told current)
 
 -- Interleaved: a sample of the current family goes back to its group, by the groups that have begun
 abbrev pub is_back : Checking → Kind → LabelSet → Bool
 is_back c kind labels = has_runs c.setting.format kind && some_passes (λ k. goes_back c.runs (key_in k kind labels)) c.current
+
+-- the checker with other groups that have begun
+abbrev pub with_runs : Checking → Runs → Checking
+with_runs c runs = record c { runs = runs }
 
 -- the groups with a sample of the current family more, where they are kept
 abbrev pub runs_with : Format → Option Current → Kind → LabelSet → Runs → Runs
@@ -210,32 +217,32 @@ entered_by c kind labels = record c { runs = runs_with c.setting.format c.curren
 
 -- ---- a sample more
 
--- Interleaved or Duplicate, then what was told or Order, then TooMany, of a sample with this key
-abbrev pub key_stop : Checking → Kind → SampleKey → Result (Option Member) Rule → Option Rule
-key_stop c kind key told =
-    if is_back c kind key.labels then Some rules.Interleaved
-    else if is_told_back c.setting.format kind key.labels told c.current then Some rules.Interleaved
-    else sample_stop c (own_samples c kind) key (part_stop kind key.labels told c.current)
+-- all that a sample with this key breaks
+abbrev pub key_stop : Checking → Kind → SampleKey → Result (Option Part) Rule → Option Rule
+key_stop c kind key told = sample_stop c (own_samples c kind) key
+    (least (when_true (is_back c kind key.labels) rules.Interleaved) (part_stop c.setting.format kind key.labels told c.current))
 
 -- the current family has a sample with this key more
 abbrev pub with_key : Checking → Kind → SampleKey → TimedValue → Result (Option Member) Rule → Checking
-with_key c kind key value told = with_sample (with_told (entered_by c kind key.labels) kind key.labels told) key value
+with_key c kind key value given = with_sample (with_told (entered_by c kind key.labels) kind key.labels given) key value
 
--- Interleaved or Duplicate, then what was told or Order, then TooMany, of a sample
+-- all that a sample breaks
 abbrev pub add_stop : Checking → Kind → Sample → Result (Option Part) Rule → Option Rule
-add_stop c kind s told = let line = keyed_sample c kind s told in key_stop c line.kind line.key line.told
+add_stop c kind s told = key_stop c kind (key_of c.setting s) told
 
 -- the current family has the sample
 abbrev pub with_added : Checking → Kind → Sample → Result (Option Part) Rule → Checking
-with_added c kind s told = let line = keyed_sample c kind s told in with_key c line.kind line.key line.value line.told
+with_added c kind s told = with_key c kind (key_of c.setting s) (timed c.setting s) (with_member (sample_time c.setting.format s) s.exemplar told)
+
+-- a sample of the current family goes back to its group, by what tells it of its kind
+abbrev pub is_any_back : Checking → Kind → LabelSet → Bool
+is_any_back c kind labels = is_back c kind labels || is_back_in_groups c.setting.format kind labels c.current
+    || is_passed labels (samples_at_end (own_samples c kind) c.seen)
 
 -- Interleaved or Suffix, of a sample with these labels whose name the current family's kind doesn't allow
-abbrev pub labels_stop : Checking → LabelSet → Rule
-labels_stop c labels = let kind = current_kind c.current in
-    if is_back c kind labels then rules.Interleaved
-    else if is_back_in_groups c.setting.format kind labels c.current then rules.Interleaved
-    else if is_passed labels (samples_at_end (own_samples c kind) c.seen) then rules.Interleaved else rules.Suffix
+abbrev pub labels_stop : Checking → LabelSet → Option Rule
+labels_stop c labels = least (when_true (is_any_back c (current_kind c.current) labels) rules.Interleaved) (Some rules.Suffix)
 
 -- the same of a sample
-abbrev pub name_stop : Checking → Sample → Rule
+abbrev pub name_stop : Checking → Sample → Option Rule
 name_stop c s = labels_stop c (kept_labels c.setting.treatment s.labels)

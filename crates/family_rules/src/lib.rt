@@ -8,6 +8,7 @@ mod family;
 mod group_keys;
 mod keyed_sample;
 mod keyed_values;
+mod least_rule;
 mod left;
 mod page_checker;
 mod pages;

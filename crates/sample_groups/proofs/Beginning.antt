@@ -9,11 +9,11 @@ use Rattle.label_sets.specs.Labels.{label_sets_eq}
 use Rattle.label_sets.proofs.Laws.{sets_decide}
 use Rattle.packed_keys.specs.Packing.{with_set}
 use Rattle.sample_groups.specs.declared.added.Added.{Added}
-use Rattle.sample_groups.specs.declared.member.Member.{Member}
+use Rattle.sample_groups.specs.Members.{Member}
 use Rattle.sample_groups.specs.declared.part.Part.{Part}
 use Rattle.sample_groups.specs.declared.part.Part.TheVariants as parts
 use Rattle.sample_groups.specs.Beside.{AreBeside}
-use Rattle.sample_groups.specs.Groups.{Gathered, empty_group, group_of, with_one, or_empty, known_group, put_group, with_part, breaks_order, is_overtaken, is_whole_group, shared_labels, AddsPart}
+use Rattle.sample_groups.specs.Groups.{Gathered, empty_group, group_of_parts, with_one, or_empty, known_group, put_group, with_part, breaks_order, is_overtaken, is_whole_group, shared_labels, AddsPart}
 use Rattle.sample_groups.proofs.BesideLaws.{zip-snoc, suc_same, first_apart_from, distinct_rest, beside_more}
 
 -- ---- packing
@@ -42,7 +42,7 @@ packed_more xs i x old new d within at before after =
 
 -- the first part of a group fits
 pub first_fits : (p : Part) → breaks_order empty_group p ≡ false
-unfolding group_of
+unfolding group_of_parts
 first_fits (parts.Bucket b) = refl
 first_fits _ = refl
 

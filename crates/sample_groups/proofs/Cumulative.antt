@@ -15,10 +15,10 @@ use Rattle.page_model.specs.Written.{Setting}
 use Rattle.page_model.specs.Rules.{is_histogram, is_bucket, is_bound, is_up, sample_group, threshold, has_bad_threshold, is_out_of_order}
 use Rattle.page_model.specs.Readings.{bucket_of}
 use Rattle.page_model.proofs.Laws.{label_sets_decide}
-use Rattle.sample_groups.specs.declared.member.Member.{Member}
+use Rattle.sample_groups.specs.Members.{Member}
 use Rattle.sample_groups.specs.declared.part.Part.TheVariants as parts
 use Rattle.sample_groups.specs.Parts.{is_grouped, part_of, entry_of}
-use Rattle.sample_groups.specs.Groups.{Gathered, bucket_in, group_of, group_from, members_in, parts_in, groups_from, breaks_last, breaks_order, ends_with, is_whole_group}
+use Rattle.sample_groups.specs.Groups.{Gathered, bucket_in, group_of_parts, group_from, members_in, parts_in, groups_from, breaks_last, breaks_order, ends_with, is_whole_group}
 use Rattle.sample_groups.specs.Sound.{IsSoundSample, AreSound}
 use Rattle.sample_groups.proofs.KindCases.{of_histograms}
 use Rattle.sample_groups.proofs.Members.{when}
@@ -78,7 +78,7 @@ module _ (st : Setting) (kind : Kind) (family : List ℕ) (histogram : is_histog
   -- a sound bucket is above the last of its group
   above_last : (s : Sample) (above : List Sample) (labels : LabelSet) → AreSound st kind family above → IsSoundSample st kind family above s → sample_group st kind family s ≡ labels → is_bucket family s ≡ true
       → breaks_last (last_or None (buckets_at above labels)) (bucket_of s) ≡ false
-  unfolding group_from group_of
+  unfolding group_from group_of_parts
   above_last s above labels sound own group bucket =
       let es : List (LabelSet × Member) = entries st kind family (reverse above) in
       let part : part_of family s ≡ parts.Bucket (bucket_of s) = bucket_is family s bucket in
@@ -109,7 +109,7 @@ module _ (st : Setting) (kind : Kind) (family : List ℕ) (histogram : is_histog
   -- the buckets of whole groups rise to the bucket `+Inf`
   pub whole_rise : (above : List Sample) → AreSound st kind family above → list_all (λ (g : LabelSet × Gathered). is_whole_group g.1) (groups_from (map (entry_of st kind family) (reverse above))) ≡ true
       → AllByRecursion (λ (g : LabelSet × Gathered). RiseToUp g.1.buckets) (groups_from (map (entry_of st kind family) (reverse above)))
-  unfolding groups_from group_from group_of
+  unfolding groups_from group_from group_of_parts
   whole_rise above sound whole = each (first_of_each label_sets_eq (labels_of (entries st kind family (reverse above)))) whole
     where
       each : (ls : List LabelSet) → list_all (λ (g : LabelSet × Gathered). is_whole_group g.1) (map (λ labels. (labels, group_at (entries st kind family (reverse above)) labels)) ls) ≡ true

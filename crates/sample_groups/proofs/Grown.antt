@@ -14,14 +14,14 @@ use Rattle.page_model.specs.declared.item.Exemplar.{Exemplar}
 use Rattle.page_model.specs.declared.page.Bucket.{Bucket}
 use Rattle.page_model.specs.declared.page.Quantile.{Quantile}
 use Rattle.page_model.specs.Rules.{is_up}
-use Rattle.sample_groups.specs.declared.member.Member.{Member}
+use Rattle.sample_groups.specs.Members.{Member}
 use Rattle.sample_groups.specs.declared.part.Part.{Part}
 use Rattle.sample_groups.specs.declared.part.Part.TheVariants as parts
-use Rattle.sample_groups.specs.Groups.{Gathered, bucket_in, quantile_in, count_in, is_measure, time_in, exemplar_in, group_of, with_one, breaks_last, breaks_order, ends_with, is_whole_group, group_value}
+use Rattle.sample_groups.specs.Groups.{Gathered, bucket_in, quantile_in, count_in, is_measure, time_in, exemplar_in, group_of_parts, with_one, breaks_last, breaks_order, ends_with, is_whole_group, group_value}
 use Rattle.sample_groups.specs.ExtraValues.{ExtraValue, with_exemplar, first_time, group_kept}
 use Rattle.sample_groups.specs.Kept.{KnowsPlaces, AddsPlace, AddsTime, AddsMember}
 use Rattle.sample_groups.proofs.Members.{first_some-head}
-use Rattle.sample_groups.proofs.Steps.{group_of-snoc, none_more, some_more}
+use Rattle.sample_groups.proofs.Steps.{group_of_parts-snoc, none_more, some_more}
 use Rattle.sample_groups.proofs.Whole.{counts_are}
 
 -- what two clauses say of an answer
@@ -96,9 +96,9 @@ all_added a b c d ps m place time exemplar =
 
 pub with_more : (ps new : List Part) (x y : ExtraValue) (m : Member) (g : Gathered) → new ≡ ps ++ m.part ∷ [] → AddsMember x ps m y → group_kept ps x ≡ g → group_kept new y ≡ with_one g m
 with_more ps new x y m g more adds is =
-    ap (λ (l : List Part). group_of l (first_time l y.time) y.exemplars) more
-    ∙ (λ i. group_of (ps ++ m.part ∷ []) (adds.first i) (adds.exemplars i))
-    ∙ group_of-snoc ps (first_time ps x.time) x.exemplars m
+    ap (λ (l : List Part). group_of_parts l (first_time l y.time) y.exemplars) more
+    ∙ (λ i. group_of_parts (ps ++ m.part ∷ []) (adds.first i) (adds.exemplars i))
+    ∙ group_of_parts-snoc ps (first_time ps x.time) x.exemplars m
     ∙ ap (λ h. with_one h m) is
 
 -- the same of what was taken out of the group
@@ -116,14 +116,14 @@ knows_more y ps new p more knows = subst (λ (l : List Part). KnowsPlaces y.plac
 
 pub breaks_bucket : (ps slice : List Part) (x : ExtraValue) (g : Gathered) (b : Bucket) (last : Option Bucket) (breaks : Bool) → slice ≡ ps → group_kept ps x ≡ g → last ≡ last_or None (filter_map bucket_in slice) → breaks ≡ breaks_last last b
     → breaks ≡ breaks_order g (parts.Bucket b)
-unfolding group_of
+unfolding group_of_parts
 breaks_bucket ps slice x g b last breaks same is found answer =
     answer ∙ ap (λ l. breaks_last l b) (found ∙ ap (λ l. last_or None (filter_map bucket_in l)) same) ∙ ap (λ (h : Gathered). breaks_order h (parts.Bucket b)) is
 
 -- the last bucket and the counts decide whether a group is whole
 pub whole_by : (ps slice : List Part) (x : ExtraValue) (g : Gathered) (b : Bucket) (up counts : Bool) → slice ≡ ps → group_kept ps x ≡ g → Some b ≡ last_or None (filter_map bucket_in slice)
     → up ≡ is_up b.le → counts ≡ list_all (λ n. n == b.count) (filter_map count_in slice) → (up && counts) ≡ is_whole_group g
-unfolding group_of
+unfolding group_of_parts
 whole_by ps slice x g b up counts same is last up_is counts_is =
     (λ i. up_is i && (counts_is ∙ ap (λ l. list_all (λ n. n == b.count) (filter_map count_in l)) same) i)
     ∙ ap (λ c. is_up b.le && c) (sym (counts_are (filter_map count_in ps) b.count)) ∙ regrouped (is_up b.le) _ _
@@ -136,12 +136,12 @@ whole_by ps slice x g b up counts same is last up_is counts_is =
     regrouped false b c = refl
 
 pub never_whole : (ps slice : List Part) (x : ExtraValue) (g : Gathered) → slice ≡ ps → group_kept ps x ≡ g → None ≡ last_or None (filter_map bucket_in slice) → false ≡ is_whole_group g
-unfolding group_of
+unfolding group_of_parts
 never_whole ps slice x g same is none = ap (λ l. ends_with l (group_kept ps x)) (none ∙ ap (λ l. last_or None (filter_map bucket_in l)) same) ∙ ap is_whole_group is
 
 -- its time is what is kept, where a part is more than a created time
 pub time_kept : (ps slice : List Part) (x : ExtraValue) (g : Gathered) (any : Bool) → slice ≡ ps → group_kept ps x ≡ g → any ≡ list_any is_measure slice → cond any x.time None ≡ option_flatten g.first
-unfolding group_of
+unfolding group_of_parts
 time_kept ps slice x g any same is told =
     ap (λ b. cond b x.time None) (told ∙ ap (list_any is_measure) same) ∙ flat (list_any is_measure ps) ∙ ap (λ (h : Gathered). option_flatten h.first) is
   where
@@ -150,11 +150,11 @@ time_kept ps slice x g any same is told =
     flat false = refl
 
 -- its value is that of its parts
-pub value_kept : (kind : Kind) (ps slice : List Part) (x : ExtraValue) (g : Gathered) → slice ≡ ps → group_kept ps x ≡ g → group_value kind (group_of slice None []) ≡ group_value kind g
-unfolding group_of
-value_kept kind ps slice x g same is = ap (λ (l : List Part). group_value kind (group_of l None [])) same ∙ by kind ∙ ap (group_value kind) is
+pub value_kept : (kind : Kind) (ps slice : List Part) (x : ExtraValue) (g : Gathered) → slice ≡ ps → group_kept ps x ≡ g → group_value kind (group_of_parts slice None []) ≡ group_value kind g
+unfolding group_of_parts
+value_kept kind ps slice x g same is = ap (λ (l : List Part). group_value kind (group_of_parts l None [])) same ∙ by kind ∙ ap (group_value kind) is
   where
-    by : (k : Kind) → group_value k (group_of ps None []) ≡ group_value k (group_kept ps x)
+    by : (k : Kind) → group_value k (group_of_parts ps None []) ≡ group_value k (group_kept ps x)
     by Counter = refl
     by Summary = refl
     by _ = refl

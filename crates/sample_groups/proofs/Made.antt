@@ -22,10 +22,10 @@ use Rattle.page_model.specs.Written.{Setting}
 use Rattle.page_model.specs.Rules.{has_suffix, is_bucket, may_have_exemplar, sample_group}
 use Rattle.page_model.specs.Readings.{value_with, either_value, bucket_of, buckets_of, quantile_of, quantiles_of, sum_of, is_measured, counter_suffix, value_of, stamp_of, exemplars_of, key_name, reading_of, readings_of}
 use Rattle.page_model.proofs.Laws.{Member, stamp_in, stamp_kept}
-use Rattle.sample_groups.specs.declared.member.Member.{Member as GroupMember}
+use Rattle.sample_groups.specs.Members.{Member as GroupMember}
 use Rattle.sample_groups.specs.declared.part.Part.{Part}
 use Rattle.sample_groups.specs.Parts.{is_grouped, part_of, member_of, entry_of}
-use Rattle.sample_groups.specs.Groups.{Gathered, bucket_in, quantile_in, sum_in, count_in, total_in, created_in, time_in, exemplar_in, group_of, group_from, members_in, parts_in, groups_from, is_measured_group, group_value, reading_from}
+use Rattle.sample_groups.specs.Groups.{Gathered, bucket_in, quantile_in, sum_in, count_in, total_in, created_in, time_in, exemplar_in, group_of_parts, group_from, members_in, parts_in, groups_from, is_measured_group, group_value, reading_from}
 use Rattle.sample_groups.specs.Sound.{AreSound}
 use Rattle.sample_groups.proofs.KindCases.{of_grouped}
 use Rattle.sample_groups.proofs.Members.{when, filter_map-map, filter_map-filter, filter_map-agree, filter_map-when, first_some-map, first_some-agree, first_some-when, list_any-agree, find-none, find-member, member-filter, member-reverse}
@@ -115,8 +115,8 @@ any_of a b c (p ∷ ps) = by (a p) (b p) (c p) (list_any a ps) (list_any b ps) (
     by false false true false false w = refl
     by false false false u v w = refl
 
-measured_group : (ps : List Part) (first : Option (Option ℕ)) (exemplars : List Exemplar) → is_measured_group (group_of ps first exemplars) ≡ list_any is_measured_part ps
-unfolding group_of
+measured_group : (ps : List Part) (first : Option (Option ℕ)) (exemplars : List Exemplar) → is_measured_group (group_of_parts ps first exemplars) ≡ list_any is_measured_part ps
+unfolding group_of_parts
 measured_group ps first exemplars = (λ i. some_in quantile_in ps i || first_in count_in ps i || first_in sum_in ps i) ∙ any_of (λ p. is_some (quantile_in p)) (λ p. is_some (count_in p)) (λ p. is_some (sum_in p)) ps
 
 -- ---- the reading of one group
@@ -150,7 +150,7 @@ module _ (st : Setting) (family : List ℕ) (samples : List Sample) (labels : La
     own_fair s m = fair s (member-filter (is_in_group st kind family labels) samples s m).0
 
     own_created : is_grouped st.format kind ≡ true → value_with family (codes "_created") (own kind) ≡ (kept kind).created
-    unfolding group_from group_of
+    unfolding group_from group_of_parts
     own_created grouped = own_value family (own kind) created_in (codes "_created") (λ s m. created_is kind st family s grouped (own_fair s m)) ∙ in_kept kind (first_some created_in)
 
     -- a sample gives its group the time that its page gives the reading, where it is the first that is more than a created time
@@ -161,14 +161,14 @@ module _ (st : Setting) (family : List ℕ) (samples : List Sample) (labels : La
         λ i. when_true (measured i) (time i)
 
     own_stamp : is_grouped st.format kind ≡ true → stamp_of st.format family (own kind) ≡ option_flatten (kept kind).first
-    unfolding group_from group_of
+    unfolding group_from group_of_parts
     own_stamp grouped =
         stamp_kept st.format family (own kind)
         ∙ ap option_flatten (first_some-agree (stamp_in st.format family) (λ s. time_in (member_of st.format family s)) (own kind) (sample_stamp grouped)
         ∙ sym (first_some-map time_in (member_of st.format family) (own kind)) ∙ in_members kind (first_some time_in))
 
     own_exemplars : is_grouped st.format kind ≡ true → exemplars_of kind family (own kind) ≡ (kept kind).exemplars
-    unfolding exemplars_of group_from group_of
+    unfolding exemplars_of group_from group_of_parts
     own_exemplars grouped =
         filter_map-filter (λ (s : Sample). s.exemplar) (may_have_exemplar kind family) (own kind)
         ∙ filter_map-agree (λ (s : Sample). when (may_have_exemplar kind family s) s.exemplar) (λ s. exemplar_in (member_of st.format family s)) (own kind)
@@ -191,7 +191,7 @@ module _ (st : Setting) (family : List ℕ) (samples : List Sample) (labels : La
 
     counter_reading : (fair : (s : Sample) → Member s samples → IsFair st Counter family s) → is_grouped st.format Counter ≡ true
         → reading_of st Counter family unit samples labels ≡ reading_from st.format Counter family unit (labels, kept Counter)
-    unfolding reading_of value_of group_from group_of
+    unfolding reading_of value_of group_from group_of_parts
     counter_reading fair grouped =
         let total = own_value family (own Counter) total_in (codes "_total") (λ s m. counter_total st family s grouped (own_fair Counter fair s m)) ∙ in_kept Counter (first_some total_in) in
         let value : value_of st.format Counter family (own Counter) ≡ group_value Counter (kept Counter)
@@ -202,7 +202,7 @@ module _ (st : Setting) (family : List ℕ) (samples : List Sample) (labels : La
         λ i. reading_with Counter (value i) (created i) (stamp i) (exemplars i)
 
     histogram_reading : (fair : (s : Sample) → Member s samples → IsFair st Histogram family s) → reading_of st Histogram family unit samples labels ≡ reading_from st.format Histogram family unit (labels, kept Histogram)
-    unfolding reading_of value_of group_from group_of
+    unfolding reading_of value_of group_from group_of_parts
     histogram_reading fair =
         let sum = own_sum family (own Histogram) (λ s m. histogram_sum st family s (own_fair Histogram fair s m)) (λ s m. histogram_gsum st family s (own_fair Histogram fair s m)) ∙ in_kept Histogram (first_some sum_in) in
         let buckets = kept_buckets Histogram in
@@ -212,7 +212,7 @@ module _ (st : Setting) (family : List ℕ) (samples : List Sample) (labels : La
         λ i. reading_with Histogram (Some (values.Buckets (buckets i) (sum i))) (created i) (stamp i) (exemplars i)
 
     gauge_reading : (fair : (s : Sample) → Member s samples → IsFair st GaugeHistogram family s) → reading_of st GaugeHistogram family unit samples labels ≡ reading_from st.format GaugeHistogram family unit (labels, kept GaugeHistogram)
-    unfolding reading_of value_of group_from group_of
+    unfolding reading_of value_of group_from group_of_parts
     gauge_reading fair =
         let sum = own_gsum family (own GaugeHistogram) (λ s m. gauge_sum st family s (own_fair GaugeHistogram fair s m)) (λ s m. gauge_no_sum st family s (own_fair GaugeHistogram fair s m)) ∙ in_kept GaugeHistogram (first_some sum_in) in
         let buckets = kept_buckets GaugeHistogram in
@@ -222,7 +222,7 @@ module _ (st : Setting) (family : List ℕ) (samples : List Sample) (labels : La
         λ i. reading_with GaugeHistogram (Some (values.Buckets (buckets i) (sum i))) (created i) (stamp i) (exemplars i)
 
     summary_reading : (fair : (s : Sample) → Member s samples → IsFair st Summary family s) → reading_of st Summary family unit samples labels ≡ reading_from st.format Summary family unit (labels, kept Summary)
-    unfolding reading_of value_of group_from group_of members_in
+    unfolding reading_of value_of group_from group_of_parts members_in
     summary_reading fair =
         let parts : List Part = parts_in labels (entries st Summary family samples) in
         let quantiles = own_quantiles family (own Summary) ∙ in_kept Summary (filter_map quantile_in) in

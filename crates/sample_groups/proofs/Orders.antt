@@ -21,7 +21,7 @@ use Rattle.page_model.specs.Readings.{bucket_of, placed_quantile, quantile_of}
 use Rattle.page_model.proofs.Laws.{Member}
 use Rattle.sample_groups.specs.declared.part.Part.TheVariants as parts
 use Rattle.sample_groups.specs.Parts.{is_grouped, quantile_part, part_of, entry_of}
-use Rattle.sample_groups.specs.Groups.{Gathered, bucket_in, quantile_in, group_of, group_from, parts_in, groups_from, known_group, or_empty, breaks_last, breaks_order}
+use Rattle.sample_groups.specs.Groups.{Gathered, bucket_in, quantile_in, group_of_parts, group_from, parts_in, groups_from, known_group, or_empty, breaks_last, breaks_order}
 use Rattle.sample_groups.specs.Sound.{AreSound}
 use Rattle.sample_groups.proofs.KindCases.{of_histograms, of_grouped}
 use Rattle.sample_groups.proofs.Members.{when, find-member, first_some-when, last_or-reverse, list_any-agree, list_any-filter_map}
@@ -93,7 +93,7 @@ module _ (st : Setting) (kind : Kind) (family : List ℕ) (above : List Sample) 
       ap (λ x. not (less (threshold b) (threshold s) && x)) (ap not (whole_less s.value b.value (count_of s) (count_of b) n m) ∙ no_less (count_of s) (count_of b))
 
   bucket_order : has_suffix family [] s ≡ false → is_out_of_order st kind family above s ≡ breaks_order (group_at (entries st kind family (reverse above)) (sample_group st kind family s)) (part_of family s)
-  unfolding part_of buckets_of_group group_from group_of
+  unfolding part_of buckets_of_group group_from group_of_parts
   bucket_order named = order_of kind st family above s histogram ∙ by (is_bucket family s) refl
     where
       by : (b : Bool) → is_bucket family s ≡ b → (b && breaks_bucket_order (buckets_of_group st kind family above s) s) ≡ breaks_order (group_at (entries st kind family (reverse above)) (sample_group st kind family s)) (part_of family s)
@@ -127,7 +127,7 @@ module _ (st : Setting) (family : List ℕ) (above : List Sample) (s : Sample) (
       ∙ ap (list_any (λ (p : Quantile). same (Finite p.at) (Finite d))) (sym (values_in-entries st Summary family quantile_in labels (reverse above)))
 
   quantile_order : is_out_of_order st Summary family above s ≡ breaks_order (group_at (entries st Summary family (reverse above)) (sample_group st Summary family s)) (part_of family s)
-  unfolding is_out_of_order group_from group_of
+  unfolding is_out_of_order group_from group_of_parts
   quantile_order = by (has_suffix family [] s) refl
     where
       by : (b : Bool) → has_suffix family [] s ≡ b → (b && list_any (λ t. has_suffix family [] t && in_one_group st Summary family t s && same (quantile_at t) (quantile_at s)) above)

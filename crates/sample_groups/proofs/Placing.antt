@@ -9,7 +9,7 @@ use Rattle.label_sets.specs.declared.kind.Kind.{Kind}
 use Rattle.label_sets.proofs.Laws.{sets_decide}
 use Rattle.label_sets.specs.Labels.{label_sets_eq}
 use Rattle.page_model.specs.declared.page.Reading.{Reading}
-use Rattle.sample_groups.specs.declared.member.Member.{Member}
+use Rattle.sample_groups.specs.Members.{Member}
 use Rattle.sample_groups.specs.Groups.{Gathered, empty_group, known_group, or_empty, with_one, put_group, with_part, is_overtaken, is_whole_group, reading_named}
 use Rattle.sample_groups.specs.Beside.{AreBeside}
 use Rattle.packed_keys.specs.Packing.{with_set}

@@ -25,7 +25,7 @@ use Rattle.page_model.specs.Suffixes.{suffixes, is_sample_name, suffix_of}
 use Rattle.page_model.specs.Rules.{is_open_metrics, is_histogram, has_suffix, is_bucket, is_count, may_have_exemplar, sample_group, quantile_at, is_whole, has_wrong_suffix, has_forbidden_value, has_bad_value, has_bad_threshold}
 use Rattle.page_model.specs.Readings.{bucket_of, placed_quantile, quantile_of, is_measured, stamp_nanos, within_time}
 use Rattle.page_model.proofs.Laws.{Member}
-use Rattle.sample_groups.specs.declared.member.Member.{Member as GroupMember}
+use Rattle.sample_groups.specs.Members.{Member as GroupMember}
 use Rattle.sample_groups.specs.declared.part.Part.{Part}
 use Rattle.sample_groups.specs.declared.part.Part.TheVariants as parts
 use Rattle.sample_groups.specs.Parts.{is_grouped, quantile_part, part_of, stamped_time, member_of, entry_of}

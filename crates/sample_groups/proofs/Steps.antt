@@ -15,10 +15,10 @@ use Rattle.page_model.specs.Written.{Setting}
 use Rattle.page_model.specs.Owners.{kept_labels}
 use Rattle.page_model.specs.Rules.{sample_group}
 use Rattle.page_model.proofs.Laws.{label_sets_decide}
-use Rattle.sample_groups.specs.declared.member.Member.{Member}
+use Rattle.sample_groups.specs.Members.{Member}
 use Rattle.sample_groups.specs.declared.part.Part.{Part}
 use Rattle.sample_groups.specs.Parts.{is_grouped}
-use Rattle.sample_groups.specs.Groups.{Gathered, bucket_in, quantile_in, sum_in, count_in, total_in, created_in, time_in, exemplar_in, are_one, are_one_count, group_of, parts_of, group_from, shared_labels, members_in, groups_from, with_one, empty_group, known_group, or_empty, put_group, with_part}
+use Rattle.sample_groups.specs.Groups.{Gathered, bucket_in, quantile_in, sum_in, count_in, total_in, created_in, time_in, exemplar_in, are_one, are_one_count, group_of_parts, parts_of, group_from, shared_labels, members_in, groups_from, with_one, empty_group, known_group, or_empty, put_group, with_part}
 use Rattle.sample_groups.proofs.KindCases.{of_grouped}
 use Rattle.sample_groups.proofs.Members.{when, head_of, has_key, has_key-first, eq_swap, keyed, lookup-keyed, with_key, first_of_each-snoc, AreApart, first_apart, keyed_agree, first_some-head, and_true}
 
@@ -66,10 +66,10 @@ module _ (ps : List Part) (p : Part) where
   none_more f e = filter_map-append f ps (p ∷ []) ∙ ap (λ o. filter_map f ps ++ cons_option o []) e ∙ append-nil (filter_map f ps)
 
 -- a group of parts and one member more
-pub group_of-snoc : (ps : List Part) (first : Option (Option ℕ)) (exemplars : List Exemplar) (m : Member)
-    → group_of (ps ++ m.part ∷ []) (option_or first (time_in m)) (exemplars ++ cons_option (exemplar_in m) []) ≡ with_one (group_of ps first exemplars) m
-unfolding group_of with_one
-group_of-snoc ps first exemplars m =
+pub group_of_parts-snoc : (ps : List Part) (first : Option (Option ℕ)) (exemplars : List Exemplar) (m : Member)
+    → group_of_parts (ps ++ m.part ∷ []) (option_or first (time_in m)) (exemplars ++ cons_option (exemplar_in m) []) ≡ with_one (group_of_parts ps first exemplars) m
+unfolding group_of_parts with_one
+group_of_parts-snoc ps first exemplars m =
     let p : Part = m.part in
     let buckets = filter_map-append bucket_in ps (p ∷ []) in
     let quantiles = filter_map-append quantile_in ps (p ∷ []) in
@@ -98,7 +98,7 @@ group_from-snoc ms m =
     let parts : parts_of (ms ++ m ∷ []) ≡ parts_of ms ++ m.part ∷ [] = map-append (λ (x : Member). x.part) ms (m ∷ []) in
     let first : first_some time_in (ms ++ m ∷ []) ≡ option_or (first_some time_in ms) (time_in m) = first_some-snoc time_in ms m in
     let exemplars : filter_map exemplar_in (ms ++ m ∷ []) ≡ filter_map exemplar_in ms ++ cons_option (exemplar_in m) [] = filter_map-append exemplar_in ms (m ∷ []) in
-    (λ i. group_of (parts i) (first i) (exemplars i)) ∙ group_of-snoc (parts_of ms) (first_some time_in ms) (filter_map exemplar_in ms) m
+    (λ i. group_of_parts (parts i) (first i) (exemplars i)) ∙ group_of_parts-snoc (parts_of ms) (first_some time_in ms) (filter_map exemplar_in ms) m
 
 -- no members make the group without members
 none_from : empty_group ≡ group_from []

@@ -18,10 +18,10 @@ use Rattle.page_model.specs.Written.{Setting}
 use Rattle.page_model.specs.Rules.{is_histogram, is_bucket, is_count, sample_group, threshold, is_up, buckets_of_group, breaks_bucket_order, is_complete_at}
 use Rattle.page_model.specs.Readings.{bucket_of}
 use Rattle.page_model.proofs.Laws.{Member, label_sets_decide, agrees_in, is_complete_group, groups_of, complete_by_groups}
-use Rattle.sample_groups.specs.declared.member.Member.{Member as GroupMember}
+use Rattle.sample_groups.specs.Members.{Member as GroupMember}
 use Rattle.sample_groups.specs.declared.part.Part.{Part}
 use Rattle.sample_groups.specs.Parts.{part_of, entry_of}
-use Rattle.sample_groups.specs.Groups.{Gathered, count_in, are_one, group_of, group_from, parts_in, groups_from, ends_with, is_whole_group}
+use Rattle.sample_groups.specs.Groups.{Gathered, count_in, are_one, group_of_parts, group_from, parts_in, groups_from, ends_with, is_whole_group}
 use Rattle.sample_groups.specs.Sound.{AreSound}
 use Rattle.sample_groups.proofs.Members.{when, head_of, first_some-head, none_or, find-member, list_all-reverse, list_all-agree, list_all-filter_map, list_all-first, and_true}
 use Rattle.sample_groups.proofs.Steps.{labels_of, group_at, groups_are_keyed}
@@ -119,7 +119,7 @@ module _ (st : Setting) (kind : Kind) (family : List ℕ) (histogram : is_histog
     -- the counts of the group are the bucket's
     one_for_all : (b : Sample) → Member b above → is_bucket family b ≡ true
         → ((group_at (entries st kind family (reverse above)) labels).counts_agree && not (some_passes (λ n. not (n == count_of b)) (group_at (entries st kind family (reverse above)) labels).count)) ≡ list_all (agrees_in st kind family above labels b) above
-    unfolding group_from group_of
+    unfolding group_from group_of_parts
     one_for_all b m e =
         let kept : List Part = parts_in labels (entries st kind family (reverse above)) in
         ap (λ o. are_one (filter_map count_in kept) && not (some_passes (λ n. not (n == count_of b)) o)) (first_some-head count_in kept)
@@ -131,7 +131,7 @@ module _ (st : Setting) (kind : Kind) (family : List ℕ) (histogram : is_histog
 
     -- a group is complete looking back where it is whole as it is kept
     whole_group : is_complete_group st kind family above labels ≡ is_whole_group (group_at (entries st kind family (reverse above)) labels)
-    unfolding group_from group_of
+    unfolding group_from group_of_parts
     whole_group = ap (some_passes (λ b. list_all (agrees_in st kind family above labels b) above)) (marked_first (is_bucket_in st kind family above labels) (λ t. is_up (threshold t)) above (unbounded_last above labels sound))
         ∙ by (find (is_bucket_in st kind family above labels) above) refl
         ∙ ap (λ o. ends_with o (group_at (entries st kind family (reverse above)) labels)) (sym (last_bucket st kind family above labels))

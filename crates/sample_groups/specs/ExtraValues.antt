@@ -5,7 +5,7 @@ use Rattle.label_sets.specs.Lists.{when_true}
 use Rattle.exact_decimal.specs.Decimals.{DecimalValue}
 use Rattle.page_model.specs.declared.item.Exemplar.{Exemplar}
 use Rattle.sample_groups.specs.declared.part.Part.{Part}
-use Rattle.sample_groups.specs.Groups.{Gathered, group_of, is_measure}
+use Rattle.sample_groups.specs.Groups.{Gathered, group_of_parts, is_measure}
 
 -- the places of its quantiles, the time of its first part that is more than a created time, and its exemplars
 pub record ExtraValue : Type 0 where
@@ -27,4 +27,4 @@ first_time ps time = when_true (list_any is_measure ps) time
 
 -- a group of these parts, with what stands beside them
 abbrev pub group_kept : List Part → ExtraValue → Gathered
-group_kept ps x = group_of ps (first_time ps x.time) x.exemplars
+group_kept ps x = group_of_parts ps (first_time ps x.time) x.exemplars

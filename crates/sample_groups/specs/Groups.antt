@@ -22,7 +22,7 @@ use Rattle.page_model.specs.Readings.{key_name}
 use Rattle.page_model.specs.declared.format.Format.{Format}
 use Rattle.sample_groups.specs.Places.{has_place}
 use Rattle.sample_groups.specs.declared.added.Added.{Added}
-use Rattle.sample_groups.specs.declared.member.Member.{Member}
+use Rattle.sample_groups.specs.Members.{Member}
 use Rattle.sample_groups.specs.declared.part.Part.{Part}
 use Rattle.sample_groups.specs.declared.part.Part.TheVariants as parts
 
@@ -104,8 +104,8 @@ are_one [] = true
 are_one (n ∷ ns) = list_all (λ m. n == m) ns
 
 -- a group of these parts, in the order of their lines: its buckets and quantiles, the first of each other sort, and whether all its counts are the first; with this time and these exemplars
-unfoldable pub group_of : List Part → Option (Option ℕ) → List Exemplar → Gathered
-group_of ps first exemplars = record {
+unfoldable pub group_of_parts : List Part → Option (Option ℕ) → List Exemplar → Gathered
+group_of_parts ps first exemplars = record {
   buckets = filter_map bucket_in ps;
   quantiles = filter_map quantile_in ps;
   sum = first_some sum_in ps;
@@ -123,7 +123,7 @@ parts_of ms = map (λ (m : Member). m.part) ms
 
 -- a group of these members, in the order of their lines: the time is the first one's that is more than a created time
 unfoldable pub group_from : List Member → Gathered
-group_from ms = group_of (parts_of ms) (first_some time_in ms) (filter_map exemplar_in ms)
+group_from ms = group_of_parts (parts_of ms) (first_some time_in ms) (filter_map exemplar_in ms)
 
 -- ---- the groups of a family
 
@@ -175,7 +175,7 @@ with_one g m = record {
 
 -- the group without members
 abbrev pub empty_group : Gathered
-empty_group = group_of [] None []
+empty_group = group_of_parts [] None []
 
 -- what is kept of the group with these labels
 abbrev pub known_group : List (LabelSet × Gathered) → LabelSet → Option Gathered

@@ -4,7 +4,7 @@ use Rattle.std.specs.Option.{option_or}
 use Rattle.exact_decimal.specs.Decimals.{DecimalValue}
 use Rattle.exact_decimal.specs.declared.number.Number.{Number}
 use Rattle.page_model.specs.declared.page.Quantile.{Quantile}
-use Rattle.sample_groups.specs.declared.member.Member.{Member}
+use Rattle.sample_groups.specs.Members.{Member}
 use Rattle.sample_groups.specs.declared.part.Part.{Part}
 use Rattle.sample_groups.specs.ExtraValues.{ExtraValue, with_exemplar, first_time}
 use Rattle.sample_groups.specs.Groups.{quantile_in, time_in, exemplar_in}

@@ -13,7 +13,7 @@ use Rattle.page_model.specs.declared.page.Quantile.{Quantile}
 use Rattle.page_model.specs.Written.{Setting}
 use Rattle.page_model.specs.Rules.{is_open_metrics, is_histogram, is_summary, is_bucket, is_count, has_suffix, sample_group}
 use Rattle.page_model.specs.Readings.{bucket_of, quantile_of, stamp_nanos, within_time}
-use Rattle.sample_groups.specs.declared.member.Member.{Member}
+use Rattle.sample_groups.specs.Members.{Member}
 use Rattle.sample_groups.specs.declared.part.Part.{Part}
 use Rattle.sample_groups.specs.declared.part.Part.TheVariants as parts
 
@@ -40,6 +40,10 @@ part_of family s =
     else if has_suffix family (codes "_total") s then parts.Total s.value
     else if has_suffix family (codes "_created") s then parts.Created s.value
     else parts.Sum s.value
+
+-- how many nanoseconds a millisecond has
+abbrev pub nanos_per_millisecond : ℕ
+nanos_per_millisecond = 1000000
 
 -- the time that a stamp writes down, where it is one from 1970 on and no later than the latest
 abbrev pub stamped_time : Format → Number → Option ℕ

@@ -6,9 +6,10 @@ ghost use Rattle.sample_groups.specs.ExtraValues.{no_extra, with_exemplar};
 ghost use Rattle.sample_groups.specs.Extras.{extra_in};
 ghost use Rattle.sample_groups.specs.Groups.{quantile_in, is_measure, exemplar_in};
 ghost use Rattle.sample_groups.specs.Kept.{KnowsPlaces, with_place, AddsPlace, AddsTime, AddsMember};
+ghost use Rattle.sample_groups.specs.Members.{member_behind};
 ghost use Rattle.sample_groups.specs.Places.{has_place};
 
-use crate::member::Member;
+use crate::member::MemberRef;
 use crate::part::Part;
 use crate::parts;
 use crate::places::{FEW_PARTS, Places, more_places};
@@ -258,11 +259,11 @@ fn add_time(
     alloc: Global,
     extra: &mut Option<Box<Extra>>,
     parts: &[Part],
-    member: &Member,
+    member: &MemberRef<'_>,
 ) -> Result<(), Memory>
-    ensures { OnOk result (AddsTime (extra_in extra.old) parts.now member.now (extra_in extra.new)) }
+    ensures { OnOk result (AddsTime (extra_in extra.old) parts.now (member_behind member.now) (extra_in extra.new)) }
 {
-    if !is_first(parts, &member.part) {
+    if !is_first(parts, member.part) {
         return Ok(());
     }
     put_time(alloc, extra, member.time)
@@ -272,9 +273,9 @@ fn add_time(
 fn add_exemplar(
     alloc: Global,
     extra: &mut Option<Box<Extra>>,
-    member: &Member,
+    member: &MemberRef<'_>,
 ) -> Result<(), Memory>
-    ensures { OnOk result (extra_in extra.new ≡ with_exemplar (extra_in extra.old) (exemplar_in member.now)) }
+    ensures { OnOk result (extra_in extra.new ≡ with_exemplar (extra_in extra.old) (exemplar_in (member_behind member.now))) }
 {
     let exemplar = member.own_exemplar()?;
     match exemplar {
@@ -288,12 +289,12 @@ pub(crate) fn add_member(
     alloc: Global,
     extra: &mut Option<Box<Extra>>,
     parts: &[Part],
-    member: &Member,
+    member: &MemberRef<'_>,
 ) -> Result<(), Memory>
     requires { KnowsPlaces (extra_in extra.old).places (filter_map quantile_in parts.now) }
-    ensures { OnOk result (AddsMember (extra_in extra.old) parts.now member.now (extra_in extra.new)) }
+    ensures { OnOk result (AddsMember (extra_in extra.old) parts.now (member_behind member.now) (extra_in extra.new)) }
 {
-    add_place(alloc, extra, parts, &member.part)?;
+    add_place(alloc, extra, parts, member.part)?;
     add_time(alloc, extra, parts, member)?;
     add_exemplar(alloc, extra, member)
 }

@@ -4,11 +4,12 @@ ghost use Rattle.std.specs.Option.{option_flatten};
 ghost use Rattle.label_sets.specs.declared.kind.Kind.TheVariants.{Counter, Summary, Histogram};
 ghost use Rattle.page_model.specs.Rules.{is_up};
 ghost use Rattle.sample_groups.specs.declared.part.Part.TheVariants as parts;
-ghost use Rattle.sample_groups.specs.Groups.{empty_group, with_one, breaks_order, breaks_last, is_whole_group, group_of, group_value};
+ghost use Rattle.sample_groups.specs.Groups.{empty_group, with_one, breaks_order, breaks_last, is_whole_group, group_of_parts, group_value};
+ghost use Rattle.sample_groups.specs.Members.{member_behind};
 ghost use Rattle.sample_groups.specs.Places.{has_place};
 
 use crate::extra::Extra;
-use crate::member::Member;
+use crate::member::MemberRef;
 use crate::part::Part;
 use crate::part_list::PartList;
 use crate::{extra, parts};
@@ -64,9 +65,9 @@ fn is_unbounded(bucket: &Bucket) -> bool
 }
 
 /// The value of a counter's group, where it has a total.
-#[tactic(auto, unfolding(crate::specs::Groups::group_of))]
+#[tactic(auto, unfolding(crate::specs::Groups::group_of_parts))]
 fn total_value(parts: &[Part]) -> Option<Value>
-    ensures { result ≡ group_value Counter (group_of parts.now None []) }
+    ensures { result ≡ group_value Counter (group_of_parts parts.now None []) }
 {
     match parts::first_total(parts) {
         Some(total) => Some(Value::Plain(total)),
@@ -75,9 +76,9 @@ fn total_value(parts: &[Part]) -> Option<Value>
 }
 
 /// The value of a summary's group, unless that has a created time alone.
-#[tactic(auto, unfolding(crate::specs::Groups::group_of))]
+#[tactic(auto, unfolding(crate::specs::Groups::group_of_parts))]
 fn quantiles_value(alloc: Global, parts: &[Part]) -> Result<Option<Value>, Memory>
-    ensures { IfOk result (λ value. value ≡ group_value Summary (group_of parts.now None [])) }
+    ensures { IfOk result (λ value. value ≡ group_value Summary (group_of_parts parts.now None [])) }
 {
     let list = parts::quantiles(alloc, parts)?;
     let count = parts::first_count(parts);
@@ -90,9 +91,9 @@ fn quantiles_value(alloc: Global, parts: &[Part]) -> Result<Option<Value>, Memor
 }
 
 /// The value of a histogram's group.
-#[tactic(auto, unfolding(crate::specs::Groups::group_of))]
+#[tactic(auto, unfolding(crate::specs::Groups::group_of_parts))]
 fn buckets_value(alloc: Global, parts: &[Part]) -> Result<Value, Memory>
-    ensures { IfOk result (λ value. Some value ≡ group_value Histogram (group_of parts.now None [])) }
+    ensures { IfOk result (λ value. Some value ≡ group_value Histogram (group_of_parts parts.now None [])) }
 {
     let buckets = List::from_vec(parts::buckets(alloc, parts)?)?;
     let sum = parts::first_sum(parts);
@@ -100,9 +101,9 @@ fn buckets_value(alloc: Global, parts: &[Part]) -> Result<Value, Memory>
 }
 
 /// The value of a group of this kind of these parts, where they make one.
-#[tactic(auto, unfolding(crate::specs::Groups::group_of))]
+#[tactic(auto, unfolding(crate::specs::Groups::group_of_parts))]
 fn parts_value(alloc: Global, kind: Kind, parts: &[Part]) -> Result<Option<Value>, Memory>
-    ensures { IfOk result (λ value. value ≡ group_value kind (group_of parts.now None [])) }
+    ensures { IfOk result (λ value. value ≡ group_value kind (group_of_parts parts.now None [])) }
 {
     match kind {
         Kind::Counter => Ok(total_value(parts)),
@@ -123,8 +124,8 @@ impl Group {
     }
 
     /// A group of one member.
-    pub(crate) fn of(alloc: Global, member: &Member) -> Result<Group, Memory>
-        ensures { IfOk result (λ group. group ≡ with_one empty_group member.now) }
+    pub(crate) fn of(alloc: Global, member: &MemberRef<'_>) -> Result<Group, Memory>
+        ensures { IfOk result (λ group. group ≡ with_one empty_group (member_behind member.now)) }
     {
         let mut group = Group::new();
         group.put(alloc, member)?;
@@ -157,22 +158,22 @@ impl Group {
     }
 
     /// Puts a member behind the others.
-    fn put(&mut self, alloc: Global, member: &Member) -> Result<(), Memory>
-        ensures { OnOk result (self.new ≡ with_one self.old member.now) }
+    fn put(&mut self, alloc: Global, member: &MemberRef<'_>) -> Result<(), Memory>
+        ensures { OnOk result (self.new ≡ with_one self.old (member_behind member.now)) }
     {
         let mut extra = self.extra.take();
         extra::add_member(alloc, &mut extra, self.parts.as_slice(), member)?;
-        self.parts.put(alloc, member.part)?;
+        self.parts.put(alloc, *member.part)?;
         self.extra = extra;
         Ok(())
     }
 
     /// Adds a member, unless its part breaks the order.
-    pub(crate) fn add(&mut self, alloc: Global, member: &Member) -> Result<bool, Memory>
-        ensures answer { IfOk result (λ added. added ≡ not (breaks_order self.old member.now.part)) }
-        ensures added { IfOk result (λ added. added ≡ true → self.new ≡ with_one self.old member.now) }
+    pub(crate) fn add(&mut self, alloc: Global, member: &MemberRef<'_>) -> Result<bool, Memory>
+        ensures answer { IfOk result (λ added. added ≡ not (breaks_order self.old member.now.part.now)) }
+        ensures added { IfOk result (λ added. added ≡ true → self.new ≡ with_one self.old (member_behind member.now)) }
     {
-        if !self.fits(&member.part) {
+        if !self.fits(member.part) {
             return Ok(false);
         }
         self.put(alloc, member)?;
@@ -192,7 +193,7 @@ impl Group {
     }
 
     /// When its counts began.
-    #[tactic(auto, unfolding(crate::specs::Groups::group_of))]
+    #[tactic(auto, unfolding(crate::specs::Groups::group_of_parts))]
     pub(crate) fn created_time(&self) -> Option<Number>
         ensures { result ≡ self.now.created }
     {

@@ -7,12 +7,13 @@ ghost use Rattle.label_sets.specs.Labels.{label_sets_eq};
 ghost use Rattle.sample_groups.specs.Beside.{AreBeside};
 ghost use Rattle.sample_groups.specs.Groups.{Gathered, empty_group, AddsPart, is_overtaken, is_whole_group, known_group, reading_named, shared_labels};
 ghost use Rattle.sample_groups.specs.LastSeen.{EndsWith};
+ghost use Rattle.sample_groups.specs.Members.{member_behind};
 ghost use Rattle.sample_groups.specs.Placing.{HasPlace};
 
 use crate::added::Added;
 use crate::group::Group;
 use crate::group_labels::GroupLabels;
-use crate::member::Member;
+use crate::member::MemberRef;
 use crate::reading::put_reading;
 use crate::shared::{are_shared, shared_labels};
 use label_sets::{Kind, LabelSet, List, Memory, Name, Text};
@@ -202,9 +203,9 @@ impl GroupTable {
         alloc: Global,
         kind: Kind,
         labels: &LabelSet,
-        member: &Member,
+        member: &MemberRef<'_>,
     ) -> Result<Added, Memory>
-        ensures { IfOk result (AddsPart kind labels.now member.now self.old self.new) }
+        ensures { IfOk result (AddsPart kind labels.now (member_behind member.now) self.old self.new) }
     {
         let place = self.place_from(alloc, kind, labels)?;
         let count = self.groups.len();

@@ -4,12 +4,13 @@ ghost use Rattle.std.specs.List.{list_all};
 ghost use Rattle.label_sets.specs.declared.label_set.LabelSet.{LabelSet as Labels};
 ghost use Rattle.sample_groups.specs.Families.{only_in, groups_in};
 ghost use Rattle.sample_groups.specs.LastSeen.{EndsWith};
+ghost use Rattle.sample_groups.specs.Members.{member_behind};
 ghost use Rattle.sample_groups.specs.Groups.{Gathered, with_part, known_group, or_empty, AddsPart, breaks_order, is_overtaken, is_whole_group, reading_from, reading_named, shared_labels};
 
 use crate::added::Added;
 use crate::group::Group;
 use crate::group_table::GroupTable;
-use crate::member::Member;
+use crate::member::MemberRef;
 use crate::reading::{key_name, put_reading};
 use crate::shared::{are_shared, shared_labels};
 use label_sets::{Kind, LabelSet, List, Memory, Name, Text};
@@ -121,9 +122,9 @@ fn add_to(
     only: &mut OnlyGroup,
     kind: Kind,
     labels: &LabelSet,
-    member: &Member,
+    member: &MemberRef<'_>,
 ) -> Result<Option<Added>, Memory>
-    ensures own { IfOk result (λ added. IfSome added (AddsPart kind labels.now member.now (only_in only.old) (only_in only.new))) }
+    ensures own { IfOk result (λ added. IfSome added (AddsPart kind labels.now (member_behind member.now) (only_in only.old) (only_in only.new))) }
     ensures new { IfOk result (λ added. IfNone added (known_group (only_in only.old) (shared_labels kind labels.now) ≡ None)) }
     ensures same { IfOk result (λ added. IfNone added (only_in only.new ≡ only_in only.old)) }
 {
@@ -144,9 +145,9 @@ fn add_in(
     store: &mut Store,
     kind: Kind,
     labels: &LabelSet,
-    member: &Member,
+    member: &MemberRef<'_>,
 ) -> Result<Option<Added>, Memory>
-    ensures own { IfOk result (λ added. IfSome added (AddsPart kind labels.now member.now (groups_in store.old) (groups_in store.new))) }
+    ensures own { IfOk result (λ added. IfSome added (AddsPart kind labels.now (member_behind member.now) (groups_in store.old) (groups_in store.new))) }
     ensures new { IfOk result (λ added. IfNone added (known_group (groups_in store.old) (shared_labels kind labels.now) ≡ None)) }
     ensures same { IfOk result (λ added. IfNone added (groups_in store.new ≡ groups_in store.old)) }
 {
@@ -205,12 +206,12 @@ impl Groups {
         &mut self,
         alloc: Global,
         labels: &LabelSet,
-        member: &Member,
+        member: &MemberRef<'_>,
         seen: Option<&SeenKeys>,
     ) -> Result<(), Memory>
         requires seen { IfSome seen (λ keys. EndsWith keys.now labels.now) }
         requires new { known_group self.old labels.now ≡ None }
-        ensures { OnOk result (self.new ≡ with_part self.old labels.now member.now) }
+        ensures { OnOk result (self.new ≡ with_part self.old labels.now (member_behind member.now)) }
     {
         let group = Group::of(alloc, member)?;
         push_in(alloc, &mut self.store, labels, group, seen)
@@ -229,11 +230,11 @@ impl Groups {
         alloc: Global,
         kind: Kind,
         labels: &LabelSet,
-        member: &Member,
+        member: &MemberRef<'_>,
     ) -> Result<Added, Memory>
-        ensures answer { IfOk result (λ added. added.fits ≡ not (breaks_order (or_empty (known_group self.old (shared_labels kind labels.now))) member.now.part)) }
+        ensures answer { IfOk result (λ added. added.fits ≡ not (breaks_order (or_empty (known_group self.old (shared_labels kind labels.now))) member.now.part.now)) }
         ensures overtaken { IfOk result (λ added. added.overtaken ≡ is_overtaken self.old (shared_labels kind labels.now)) }
-        ensures added { IfOk result (λ added. added.fits ≡ true → self.new ≡ with_part self.old (shared_labels kind labels.now) member.now) }
+        ensures added { IfOk result (λ added. added.fits ≡ true → self.new ≡ with_part self.old (shared_labels kind labels.now) (member_behind member.now)) }
     {
         let known = add_in(alloc, &mut self.store, kind, labels, member)?;
         match known {

@@ -18,5 +18,5 @@ mod shared;
 
 pub use added::Added;
 pub use groups::Groups;
-pub use member::{Member, sample_time};
+pub use member::{MemberRef, sample_time};
 pub use part::{Part, is_grouped, part_of};

@@ -2,7 +2,7 @@
 ghost use Rattle.std.specs.Prelude.{◌≡◌, ◌*◌, IfOk};
 ghost use Rattle.page_model.specs.declared.format.Format.TheVariants as formats;
 ghost use Rattle.page_model.specs.Readings.{within_time};
-ghost use Rattle.sample_groups.specs.Parts.{stamped_time, sample_time};
+ghost use Rattle.sample_groups.specs.Parts.{nanos_per_millisecond, stamped_time, sample_time};
 
 use crate::part::Part;
 use exact_decimal::{Number, nanos, whole};
@@ -18,26 +18,27 @@ const LATEST_MILLISECONDS: u64 = 4_611_686_018_427;
 /// How many nanoseconds a millisecond has.
 const NANOS_PER_MILLISECOND: u64 = 1_000_000;
 
-/// What a sample gives its group.
-#[derive(Drop)]
-pub struct Member {
-    pub part: Part,
+/// What a sample gives its group, lent to it, since most groups keep the part alone.
+#[derive(Clone, Copy)]
+pub struct MemberRef<'a> {
+    pub part: &'a Part,
     /// The time of its line in nanoseconds since the Unix epoch.
     pub time: Option<u64>,
-    pub exemplar: Option<Exemplar>,
+    pub exemplar: &'a Option<Exemplar>,
 }
 
-impl Member {
+impl MemberRef<'_> {
     ghost use Rattle.sample_groups.specs.Groups.{exemplar_in};
+    ghost use Rattle.sample_groups.specs.Members.{member_behind};
 
     /// Its exemplar, where it may have one: the exemplar's labels have one owner more.
     pub(crate) fn own_exemplar(&self) -> Result<Option<Exemplar>, Memory>
-        ensures { IfOk result (λ exemplar. exemplar ≡ exemplar_in self.now) }
+        ensures { IfOk result (λ exemplar. exemplar ≡ exemplar_in (member_behind self.now)) }
     {
         if !self.part.bears_exemplar() {
             return Ok(None);
         }
-        match &self.exemplar {
+        match self.exemplar {
             Some(exemplar) => Ok(Some(exemplar.copy()?)),
             None => Ok(None),
         }
@@ -58,7 +59,7 @@ fn within_time(time: u64) -> Option<u64>
 /// The time of so many milliseconds, where it isn't after the latest.
 #[tactic(auto, using(crate::proofs::Times::past_latest, crate::proofs::Times::by_latest))]
 fn time_of_milliseconds(milliseconds: u64) -> Option<u64>
-    ensures { result ≡ within_time (milliseconds * 1000000) }
+    ensures { result ≡ within_time (milliseconds * nanos_per_millisecond) }
 {
     if milliseconds > LATEST_MILLISECONDS {
         None

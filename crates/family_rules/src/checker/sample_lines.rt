@@ -1,16 +1,29 @@
 //! Lines of samples: of the family that goes on, and of one that they begin.
-ghost use Rattle.std.specs.Prelude.{◌≡◌, None, true, false, IfOk};
+ghost use Rattle.std.specs.Prelude.{◌≡◌, ◌||◌, Some, None, true, false, IfOk};
 ghost use Rattle.label_sets.specs.declared.kind.Kind.TheVariants as kinds;
+ghost use Rattle.label_sets.specs.Lists.{when_true};
 ghost use Rattle.page_model.specs.declared.item.Item.TheVariants as items;
+ghost use Rattle.page_model.specs.declared.rule.Rule.TheVariants as rules;
+ghost use Rattle.family_rules.specs.LeastRule.{least};
 ghost use Rattle.family_rules.specs.Steps.{Takes, begun, left_stop};
 ghost use Rattle.family_rules.specs.Samples.{TellsPart, is_current_sample, has_bad_exemplar, told_left, add_stop, with_added, labels_stop, name_stop};
 
 use super::ItemChecker;
 use crate::exemplars::is_bad_exemplar;
+use crate::least_rule::{least, rule_if};
 use crate::sample_values::part_or_rule;
 use label_sets::{Kind, LabelSet, Memory, Name};
 use page_model::{Rule, Sample, is_sample_name};
 use sample_groups::Part;
+
+/// The least rule that a sample breaks whose name its kind doesn't allow, where one of these may tell that it goes back to
+/// its group.
+fn name_or_back(entered: bool, grouped: bool, passed: bool) -> Option<Rule>
+    ensures { result ≡ least (when_true (entered || grouped || passed) rules.Interleaved) (Some rules.Suffix) }
+{
+    let back = rule_if(entered || grouped || passed, Rule::Interleaved);
+    least(back, Some(Rule::Suffix))
+}
 
 impl ItemChecker {
     /// Whether the family of the nearest line owns a sample of this name.
@@ -56,45 +69,35 @@ impl ItemChecker {
         }
     }
 
-    /// Takes a sample of the current family, and answers the rule that it breaks: 10, 12, 14 to 17 or 20.
+    /// Takes a sample of the current family, and answers the least rule that it breaks.
     fn take_own(&mut self, sample: Sample) -> Result<Option<Rule>, Memory>
         requires { is_current_sample self.now.setting.format self.now.current sample.name ≡ true }
         ensures { IfOk result (Takes (items.Sample sample) self.old self.new) }
     {
+        // The other rules that it may break have greater numbers.
         if self.has_bad_exemplar(&sample) {
             drop(sample);
             return Ok(Some(Rule::Exemplar));
         }
         let kind = self.current_kind();
         let told = self.part_or_rule(kind, &sample);
-        let line = self.keyed(kind, sample, told)?;
-        self.add_sample(line)
+        self.add_sample(kind, sample, &told)
     }
 
-    /// The rule that a sample with these labels breaks, of the current family, whose name its kind doesn't allow: 12
-    /// or 13.
-    fn labels_rule(&mut self, labels: &LabelSet) -> Result<Rule, Memory>
+    /// The least rule that a sample with these labels breaks, of the current family, whose name its kind doesn't allow.
+    fn labels_rule(&mut self, labels: &LabelSet) -> Result<Option<Rule>, Memory>
         ensures { IfOk result (λ rule. rule ≡ labels_stop self.old labels.now) }
     {
         let kind = self.current_kind();
         let own = self.own_samples(kind);
-        let back = self.enter(kind, labels)?;
-        if back {
-            return Ok(Rule::Interleaved);
-        }
-        let back = self.goes_back(kind, labels)?;
-        if back {
-            return Ok(Rule::Interleaved);
-        }
+        let entered = self.enter(kind, labels)?;
+        let grouped = self.goes_back(kind, labels)?;
         let passed = self.take_passed(own, labels)?;
-        if passed {
-            return Ok(Rule::Interleaved);
-        }
-        Ok(Rule::Suffix)
+        Ok(name_or_back(entered, grouped, passed))
     }
 
-    /// The rule that a sample of the current family breaks whose name its kind doesn't allow: 12 or 13.
-    fn name_rule(&mut self, sample: Sample) -> Result<Rule, Memory>
+    /// The least rule that a sample of the current family breaks whose name its kind doesn't allow.
+    fn name_rule(&mut self, sample: Sample) -> Result<Option<Rule>, Memory>
         ensures { IfOk result (λ rule. rule ≡ name_stop self.old sample) }
     {
         let Sample {
@@ -115,17 +118,14 @@ impl ItemChecker {
     fn begin_with(
         &mut self,
         sample: Sample,
-        told: Result<Option<Part>, Rule>,
+        told: &Result<Option<Part>, Rule>,
     ) -> Result<Option<Rule>, Memory>
-        ensures broken { IfOk result (λ answer. answer ≡ add_stop (begun self.old sample.name) kinds.Unknown sample told) }
-        ensures added { IfOk result (λ answer. answer ≡ None → self.new ≡ with_added (begun self.old sample.name) kinds.Unknown sample told) }
+        ensures broken { IfOk result (λ answer. answer ≡ add_stop (begun self.old sample.name) kinds.Unknown sample told.now) }
+        ensures added { IfOk result (λ answer. answer ≡ None → self.new ≡ with_added (begun self.old sample.name) kinds.Unknown sample told.now) }
     {
         let family = sample.name.copy()?;
         match self.begin(family) {
-            Ok(()) => {
-                let line = self.keyed(Kind::Unknown, sample, told)?;
-                self.add_sample(line)
-            }
+            Ok(()) => self.add_sample(Kind::Unknown, sample, told),
             Err(fault) => {
                 drop(sample);
                 Err(fault)
@@ -144,15 +144,14 @@ impl ItemChecker {
             return Ok(Some(Rule::Exemplar));
         }
         if self.is_current(&sample.name) {
-            let rule = self.name_rule(sample)?;
-            return Ok(Some(rule));
+            return self.name_rule(sample);
         }
         if self.is_left(&sample.name) {
             drop(sample);
             return Ok(Some(Rule::Split));
         }
         let told = self.no_part_or_rule();
-        self.begin_with(sample, told)
+        self.begin_with(sample, &told)
     }
 
     /// Takes a sample line, and answers the rule that it breaks.

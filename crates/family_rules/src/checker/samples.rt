@@ -1,8 +1,11 @@
 //! Samples of the family that goes on.
-ghost use Rattle.std.specs.Prelude.{◌≡◌, Ok, Some, None, true, false, is_some, map, IfOk, IfSome, OnOk};
+ghost use Rattle.std.specs.Prelude.{◌≡◌, ◌&&◌, Ok, Err, Some, None, true, false, is_some, map, IfOk, IfSome, OnOk};
 ghost use Rattle.packed_keys.specs.declared.sample_key.SampleKey.{SampleKey as AnyKey};
 ghost use Rattle.sample_groups.specs.LastSeen.{EndsWith};
+ghost use Rattle.sample_groups.specs.Members.{member_behind};
 ghost use Rattle.label_sets.specs.declared.kind.Kind.TheVariants as kinds;
+ghost use Rattle.label_sets.specs.Lists.{when_true};
+ghost use Rattle.page_model.specs.declared.rule.Rule.TheVariants as rules;
 ghost use Rattle.page_model.specs.Owners.{kept_labels};
 ghost use Rattle.page_model.specs.Rules.{is_open_metrics};
 ghost use Rattle.family_rules.specs.declared.timed_values.TimedValue.{TimedValue as AnyValue};
@@ -10,40 +13,32 @@ ghost use Rattle.family_rules.specs.KeyedValues.{is_key_of, is_passed, samples_a
 ghost use Rattle.family_rules.specs.GroupRuns.{has_runs};
 ghost use Rattle.family_rules.specs.GroupKeys.{IsNewGroup, NameTells};
 ghost use Rattle.family_rules.specs.Steps.{current_with, with_current};
-ghost use Rattle.family_rules.specs.Samples.{current_samples, own_samples, with_seen, is_overtaken_in, is_back_in_groups, AnswersTold, with_counted, with_part_in, with_part_at, with_told, fits_order, is_back, entered_by, with_sample, seen_rule, sample_stop, key_stop, with_key, keyed_sample};
+ghost use Rattle.family_rules.specs.Samples.{current_samples, own_samples, with_seen, is_overtaken_in, is_back_in_groups, with_counted, with_part_in, with_part_at, with_told, given_by, fits_order, is_back, with_runs, entered_by, with_sample, known_stop, sample_stop, part_stop, key_stop, with_key, add_stop, with_added};
 
 use super::ItemChecker;
 use crate::family::Current;
 use crate::group_keys::GroupKeys;
-use crate::keyed_sample::{KeyedSample, with_member};
+use crate::keyed_sample::{KeyedSample, given_part};
+use crate::least_rule::{least, rule_if};
 use crate::runs::{group_labels, has_own_runs, is_alone};
 use crate::timed_values::TimedValue;
 use label_sets::{Kind, LabelSet, Memory, Name};
 use packed_keys::{SampleKey, SeenKeys};
 use page_model::{Format, Rule, Sample, Treatment};
-use sample_groups::{Added, Member, Part, is_grouped, sample_time};
+use sample_groups::{Added, MemberRef, Part, is_grouped, sample_time};
 use std::alloc::Global;
-
-/// What is told of a sample by the groups of the current family.
-#[derive(Drop)]
-pub(crate) struct Told {
-    /// It goes back to its group.
-    pub back: bool,
-    /// The rule that it breaks otherwise.
-    pub broken: Option<Rule>,
-}
 
 /// Begins a group of the current family, a counter, with what a sample with these labels gives.
 fn begin_in(
     alloc: Global,
     current: &mut Option<Current>,
     labels: &LabelSet,
-    member: &Member,
+    member: &MemberRef<'_>,
     seen: Option<&SeenKeys>,
 ) -> Result<(), Memory>
     requires new { IsNewGroup current.old labels.now }
     requires seen { IfSome seen (λ keys. EndsWith keys.now labels.now) }
-    ensures { OnOk result (current.new ≡ current_with (with_part_in kinds.Counter labels.now member.now) current.old) }
+    ensures { OnOk result (current.new ≡ current_with (with_part_in kinds.Counter labels.now (member_behind member.now)) current.old) }
 {
     match current {
         Some(current) => current.family.groups.begin(alloc, labels, member, seen),
@@ -103,21 +98,18 @@ impl ItemChecker {
         self.seen.take_passed(self.alloc, own, labels)
     }
 
-    /// The rule that a key breaks that was seen: 12, where it goes back to one of so many samples at the end, or
-    /// 14. What was seen is forgotten.
-    fn seen_rule(&mut self, own: u32, labels: &LabelSet) -> Result<Rule, Memory>
-        ensures rule { IfOk result (λ rule. rule ≡ seen_rule own labels.now self.old.seen) }
+    /// The rule that a key with these labels breaks that was seen: 12, where it goes back to one of so many samples at
+    /// the end, or 14. What was seen is forgotten.
+    fn known_rule(&mut self, own: u32, labels: &LabelSet) -> Result<Option<Rule>, Memory>
+        ensures rule { IfOk result (λ rule. rule ≡ known_stop own labels.now self.old.seen) }
         ensures rest { self.new ≡ with_seen self.old self.new.seen }
     {
         let passed = self.take_passed(own, labels)?;
-        if passed {
-            return Ok(Rule::Interleaved);
-        }
-        Ok(Rule::Duplicate)
+        Ok(least(rule_if(passed, Rule::Interleaved), Some(Rule::Duplicate)))
     }
 
-    /// Adds a sample of the current family, or answers the rule that it breaks: 12 or 14, then the given one, then
-    /// 20. The groups of so many samples at the end have begun.
+    /// Adds a sample of the current family which breaks this rule or none by its group, or answers the least rule that
+    /// it breaks. The groups of so many samples at the end have begun.
     fn add_key(
         &mut self,
         own: u32,
@@ -132,13 +124,14 @@ impl ItemChecker {
         self.group_keys = GroupKeys::Unknown;
         let known = self.seen.insert(key, value)?;
         if let Some(known) = known {
-            let rule = self.seen_rule(own, &known.labels)?;
+            let rule = self.known_rule(own, &known.labels)?;
             drop(known);
-            return Ok(Some(rule));
+            return Ok(least(rule, broken));
         }
         if broken.is_some() {
             return Ok(broken);
         }
+        // No rule has a greater number.
         if self.samples >= self.limit {
             return Ok(Some(Rule::TooMany));
         }
@@ -153,6 +146,7 @@ impl ItemChecker {
     pub(super) fn enter(&mut self, kind: Kind, labels: &LabelSet) -> Result<bool, Memory>
         ensures back { IfOk result (λ back. back ≡ is_back self.old kind labels.now) }
         ensures entered { IfOk result (λ back. back ≡ false → self.new ≡ entered_by self.old kind labels.now) }
+        ensures rest { OnOk result (self.new ≡ with_runs self.old self.new.runs) }
     {
         if !self.has_runs(kind) {
             return Ok(false);
@@ -189,21 +183,26 @@ impl ItemChecker {
         }
     }
 
-    /// Adds what a sample gives its group in the current family, unless its part breaks rule 17, and answers whether it
-    /// goes back to it.
-    fn add_part(&mut self, line: &KeyedSample, member: &Member) -> Result<Added, Memory>
-        ensures answer { IfOk result (λ added. added.fits ≡ fits_order line.now.kind line.now.key.labels member.now.part self.old.current) }
+    /// Adds what a sample gives its group in the current family, unless its part breaks the order there, and answers
+    /// whether the group was overtaken.
+    fn add_to_group(&mut self, line: &KeyedSample<'_>, part: &Part) -> Result<Added, Memory>
+        ensures answer { IfOk result (λ added. added.fits ≡ fits_order line.now.kind line.now.key.labels part.now self.old.current) }
         ensures overtaken { IfOk result (λ added. added.overtaken ≡ is_overtaken_in line.now.kind line.now.key.labels self.old.current) }
-        ensures added { IfOk result (λ added. added.fits ≡ true → self.new ≡ with_part_at self.old line.now.kind line.now.key.labels member.now) }
+        ensures added { IfOk result (λ added. added.fits ≡ true → self.new ≡ with_part_at self.old line.now.kind line.now.key.labels (record { part = part.now; time = line.now.value.time; exemplar = line.now.exemplar.now })) }
         ensures rest { OnOk result (self.new ≡ with_current self.old self.new.current) }
     {
+        let member = MemberRef {
+            part,
+            time: line.value.time,
+            exemplar: line.exemplar,
+        };
         self.group_keys = GroupKeys::Unknown;
         match &mut self.current {
             Some(current) => {
                 current
                     .family
                     .groups
-                    .add(self.alloc, line.kind, &line.key.labels, member)
+                    .add(self.alloc, line.kind, &line.key.labels, &member)
             }
             None => Ok(Added {
                 fits: true,
@@ -231,68 +230,72 @@ impl ItemChecker {
         }
     }
 
-    /// Adds what was told of a sample to the current family, or answers the rule that it breaks: 12, 15 to 18.
-    fn add_told(&mut self, line: &KeyedSample) -> Result<Told, Memory>
-        ensures told { IfOk result (λ answer. AnswersTold self.old line.now.kind line.now.key.labels line.now.told answer) }
-        ensures added { IfOk result (λ answer. answer.broken ≡ None → self.new ≡ with_told self.old line.now.kind line.now.key.labels line.now.told) }
-        ensures rest { OnOk result (self.new ≡ with_current self.old self.new.current) }
+    /// Rule 12, where the group of a sample was overtaken and the format has the rule.
+    fn overtaken_rule(&self, overtaken: bool) -> Option<Rule>
+        ensures { result ≡ when_true (is_open_metrics self.now.setting.format && overtaken) rules.Interleaved }
     {
-        match &line.told {
-            Ok(Some(member)) => {
-                let added = self.add_part(line, member)?;
-                Ok(Told {
-                    back: added.overtaken && self.has_order(),
-                    broken: (!added.fits).then_some(Rule::Order),
-                })
-            }
-            Ok(None) => Ok(Told {
-                back: false,
-                broken: None,
-            }),
-            Err(rule) => {
-                let back = self.goes_back(line.kind, &line.key.labels)?;
-                Ok(Told {
-                    back,
-                    broken: Some(*rule),
-                })
-            }
+        match self.format {
+            Format::OpenMetrics if overtaken => Some(Rule::Interleaved),
+            Format::OpenMetrics | Format::Text => None,
         }
     }
 
-    /// Adds a sample of the current family, or answers the rule that it breaks: 12, 14 to 18 or 20.
+    /// Adds what a sample gives its group in the current family, or answers the least rule that it breaks there.
+    fn add_part(&mut self, line: &KeyedSample<'_>, part: &Part) -> Result<Option<Rule>, Memory>
+        ensures broken { IfOk result (λ answer. answer ≡ part_stop self.old.setting.format line.now.kind line.now.key.labels (Ok (Some part.now)) self.old.current) }
+        ensures added { IfOk result (λ answer. answer ≡ None → self.new ≡ with_part_at self.old line.now.kind line.now.key.labels (record { part = part.now; time = line.now.value.time; exemplar = line.now.exemplar.now })) }
+        ensures rest { OnOk result (self.new ≡ with_current self.old self.new.current) }
+    {
+        let added = self.add_to_group(line, part)?;
+        let back = self.overtaken_rule(added.overtaken);
+        let order = rule_if(!added.fits, Rule::Order);
+        Ok(least(back, order))
+    }
+
+    /// The least rule that a sample breaks of which this one is told: 12, where it goes back to its group, or this one.
+    fn told_rule(&mut self, line: &KeyedSample<'_>, rule: Rule) -> Result<Option<Rule>, Memory>
+        ensures broken { IfOk result (λ answer. answer ≡ part_stop self.old.setting.format line.now.kind line.now.key.labels (Err rule) self.old.current) }
+        ensures never { IfOk result (λ answer. answer ≡ None → self.new ≡ self.old) }
+        ensures rest { OnOk result (self.new ≡ with_current self.old self.new.current) }
+    {
+        let back = self.goes_back(line.kind, &line.key.labels)?;
+        Ok(least(rule_if(back, Rule::Interleaved), Some(rule)))
+    }
+
+    /// Adds what was told of a sample to the current family, or answers the least rule that it breaks by its group or by
+    /// what was told.
+    fn add_told(&mut self, line: &KeyedSample<'_>) -> Result<Option<Rule>, Memory>
+        ensures broken { IfOk result (λ answer. answer ≡ part_stop self.old.setting.format line.now.kind line.now.key.labels line.now.told.now self.old.current) }
+        ensures added { IfOk result (λ answer. answer ≡ None → self.new ≡ with_told self.old line.now.kind line.now.key.labels (given_by line.now)) }
+        ensures rest { OnOk result (self.new ≡ with_current self.old self.new.current) }
+    {
+        match line.told {
+            Ok(Some(part)) => self.add_part(line, part),
+            Ok(None) => Ok(None),
+            Err(rule) => self.told_rule(line, *rule),
+        }
+    }
+
+    /// Adds a sample of the current family, or answers the least rule that it breaks.
     #[inline(always)]
-    fn add_keyed(&mut self, line: KeyedSample) -> Result<Option<Rule>, Memory>
-        ensures broken { IfOk result (λ answer. answer ≡ key_stop self.old line.kind line.key line.told) }
-        ensures added { IfOk result (λ answer. answer ≡ None → self.new ≡ with_key self.old line.kind line.key line.value line.told) }
+    fn add_keyed(&mut self, line: KeyedSample<'_>) -> Result<Option<Rule>, Memory>
+        ensures broken { IfOk result (λ answer. answer ≡ key_stop self.old line.entry.kind line.entry.key line.entry.told.now) }
+        ensures added { IfOk result (λ answer. answer ≡ None → self.new ≡ with_key self.old line.entry.kind line.entry.key line.entry.value (given_by line.entry)) }
     {
         let own = self.own_samples(line.kind);
         let back = self.enter(line.kind, &line.key.labels)?;
-        if back {
-            drop(line);
-            return Ok(Some(Rule::Interleaved));
-        }
-        let met = self.add_told(&line)?;
-        if met.back {
-            drop(line);
-            return Ok(Some(Rule::Interleaved));
-        }
-        let KeyedSample {
-            key,
-            value,
-            told,
-            ..
-        } = line;
-        drop(told);
-        self.add_key(own, key, value, met.broken)
+        let told = self.add_told(&line)?;
+        let broken = least(rule_if(back, Rule::Interleaved), told);
+        self.add_key(own, line.key, line.value, broken)
     }
 
     /// Begins a group of the current family with what a sample with this key gives.
-    fn begin_group(&mut self, key: SampleKey, member: &Member) -> Result<(), Memory>
+    fn begin_group(&mut self, key: SampleKey, member: &MemberRef<'_>) -> Result<(), Memory>
         requires new { IsNewGroup self.now.current key.labels }
         requires seen { is_key_of key self.now.seen ≡ true }
         requires last { EndsWith (map (λ (e : AnyKey × AnyValue). e.0) self.now.seen) key.labels }
         requires tells { NameTells key.name self.now.current self.now.seen }
-        ensures { OnOk result (self.new ≡ with_part_at self.old kinds.Counter key.labels member.now) }
+        ensures { OnOk result (self.new ≡ with_part_at self.old kinds.Counter key.labels (member_behind member.now)) }
     {
         self.group_keys = GroupKeys::Unknown;
         begin_in(
@@ -308,17 +311,17 @@ impl ItemChecker {
         Ok(())
     }
 
-    /// Adds a sample of the current family, a counter, whose key tells whether its group is new, or answers the rule
-    /// that it breaks: 12, 14 or 20.
+    /// Adds a sample of the current family, a counter, whose key tells whether its group is new, or answers the least
+    /// rule that it breaks.
     fn add_first(
         &mut self,
         key: SampleKey,
         value: TimedValue,
-        member: &Member,
+        member: &MemberRef<'_>,
     ) -> Result<Option<Rule>, Memory>
         requires { NameTells key.name self.now.current self.now.seen }
-        ensures broken { IfOk result (λ answer. answer ≡ key_stop self.old kinds.Counter key (Ok (Some member.now))) }
-        ensures added { IfOk result (λ answer. answer ≡ None → self.new ≡ with_key self.old kinds.Counter key value (Ok (Some member.now))) }
+        ensures broken { IfOk result (λ answer. answer ≡ key_stop self.old kinds.Counter key (Ok (Some member.now.part.now))) }
+        ensures added { IfOk result (λ answer. answer ≡ None → self.new ≡ with_key self.old kinds.Counter key value (Ok (Some (member_behind member.now)))) }
     {
         let first = SampleKey {
             name: key.name.copy()?,
@@ -328,10 +331,7 @@ impl ItemChecker {
         if broken.is_some() {
             let back = self.goes_back(Kind::Counter, &first.labels)?;
             drop(first);
-            if back {
-                return Ok(Some(Rule::Interleaved));
-            }
-            return Ok(broken);
+            return Ok(least(rule_if(back, Rule::Interleaved), broken));
         }
         self.begin_group(first, member)?;
         Ok(None)
@@ -344,15 +344,40 @@ impl ItemChecker {
         matches!(kind, Kind::Counter) && self.group_keys.tell(name)
     }
 
-    /// A sample of the current family, of this kind, of which this was told.
+    /// Adds a sample of the current family, or answers the least rule that it breaks. Where its key tells that its group
+    /// is new, that is not looked for.
     #[inline(always)]
-    pub(super) fn keyed(
-        &self,
+    fn add_line(&mut self, line: KeyedSample<'_>) -> Result<Option<Rule>, Memory>
+        ensures broken { IfOk result (λ answer. answer ≡ key_stop self.old line.entry.kind line.entry.key line.entry.told.now) }
+        ensures added { IfOk result (λ answer. answer ≡ None → self.new ≡ with_key self.old line.entry.kind line.entry.key line.entry.value (given_by line.entry)) }
+    {
+        if !self.tells_groups(line.kind, &line.key.name) {
+            return self.add_keyed(line);
+        }
+        match given_part(line.told) {
+            Some(part) => {
+                let member = MemberRef {
+                    part,
+                    time: line.value.time,
+                    exemplar: line.exemplar,
+                };
+                self.add_first(line.key, line.value, &member)
+            }
+            None => self.add_keyed(line),
+        }
+    }
+
+    /// Adds a sample of the current family, of this kind, of which this was told, or answers the least rule that it
+    /// breaks.
+    #[inline(always)]
+    pub(super) fn add_sample(
+        &mut self,
         kind: Kind,
         sample: Sample,
-        told: Result<Option<Part>, Rule>,
-    ) -> Result<KeyedSample, Memory>
-        ensures { IfOk result (λ line. line ≡ keyed_sample self.now kind sample told) }
+        told: &Result<Option<Part>, Rule>,
+    ) -> Result<Option<Rule>, Memory>
+        ensures broken { IfOk result (λ answer. answer ≡ add_stop self.old kind sample told.now) }
+        ensures added { IfOk result (λ answer. answer ≡ None → self.new ≡ with_added self.old kind sample told.now) }
     {
         let time = sample_time(self.format, &sample);
         let Sample {
@@ -362,50 +387,15 @@ impl ItemChecker {
             exemplar,
             ..
         } = sample;
-        let given = with_member(time, exemplar, told);
         let labels = self.kept_labels(labels)?;
-        Ok(KeyedSample {
+        let answer = self.add_line(KeyedSample {
             kind,
             key: SampleKey { name, labels },
             value: TimedValue { value, time },
-            told: given,
-        })
-    }
-
-    /// Adds a sample of the current family, or answers the rule that it breaks: 12, 14 to 18 or 20. Where its key tells
-    /// that its group is new, that is not looked for.
-    #[inline(always)]
-    pub(super) fn add_sample(&mut self, line: KeyedSample) -> Result<Option<Rule>, Memory>
-        ensures broken { IfOk result (λ answer. answer ≡ key_stop self.old line.kind line.key line.told) }
-        ensures added { IfOk result (λ answer. answer ≡ None → self.new ≡ with_key self.old line.kind line.key line.value line.told) }
-    {
-        if !self.tells_groups(line.kind, &line.key.name) {
-            return self.add_keyed(line);
-        }
-        let KeyedSample {
-            kind,
-            key,
-            value,
             told,
-        } = line;
-        match told {
-            Ok(Some(member)) => {
-                let answer = self.add_first(key, value, &member)?;
-                drop(member);
-                Ok(answer)
-            }
-            Ok(None) => self.add_keyed(KeyedSample {
-                kind,
-                key,
-                value,
-                told: Ok(None),
-            }),
-            Err(rule) => self.add_keyed(KeyedSample {
-                kind,
-                key,
-                value,
-                told: Err(rule),
-            }),
-        }
+            exemplar: &exemplar,
+        });
+        drop(exemplar);
+        answer
     }
 }

@@ -2,7 +2,7 @@
 use exact_decimal::{Number, read};
 use label_sets::{Kind, Label, LabelSet, List, Memory, Name, Text};
 use page_model::{Bucket, Format, Quantile, Reading, Rule, Sample, Value};
-use sample_groups::{Groups, Member, is_grouped, part_of, sample_time};
+use sample_groups::{Groups, MemberRef, is_grouped, part_of, sample_time};
 use std::alloc::{AllocError, Global};
 
 /// A name, the value of the label `code`, that of `le` or `quantile`, and a value. A label without a value
@@ -67,10 +67,10 @@ fn gather_sample(
 ) -> Result<Option<Rule>, Memory> {
     match part_of(kind, family, sample) {
         Ok(part) => {
-            let member = Member {
-                part,
+            let member = MemberRef {
+                part: &part,
                 time: sample_time(Format::OpenMetrics, sample),
-                exemplar: None,
+                exemplar: &sample.exemplar,
             };
             let added = groups.add(alloc, kind, &sample.labels, &member)?;
             Ok(if added.fits { None } else { Some(Rule::Order) })

@@ -1,7 +1,9 @@
 use Rattle.std.proofs.Common.{◌∙◌, ◌+◌, ◌≤◌, ◌<◌, ◌++◌, ◌∷◌, [], ap, cond, is_some, sym, subst}
 use Rattle.family_rules.specs.Checking.{Checking}
 use Rattle.family_rules.specs.KeyedValues.{is_key_of}
-use Rattle.family_rules.specs.Samples.{seen_rule}
+use Rattle.family_rules.specs.LeastRule.{least}
+use Rattle.family_rules.specs.Samples.{known_stop}
+use Rattle.family_rules.proofs.Joined.{known_never}
 use Rattle.family_rules.proofs.Taking.{stop_seen, stop_broken, stop_many, stop_none, some_is, put_new, sample_added}
 use Rattle.family_rules.proofs.checker.ItemChecker.add_key.Goals as goal
 
@@ -9,9 +11,13 @@ pub returns-in-Some-clause-broken : goal.returns-in-Some-clause-broken
 returns-in-Some-clause-broken c =
     let key = some_is c.in_ok-known.known c.in-Some.known c.args.key c.in-Some.is c.in_ok-known.ensures.key in
     let seen = c.in_ok-known.ensures.samples ∙ ap (λ b. cond b c.self.inside.seen (c.self.inside.seen ++ (c.args.key, c.args.value) ∷ [])) (ap is_some c.in-Some.is) ∙ ap (λ (v : Checking). v.seen) c.self.view_is in
-    stop_seen c.args.self.now c.args.own c.args.key c.args.broken
+    c.least.ensures ∙ stop_seen c.args.self.now c.args.own c.args.key c.args.broken
     (ap (λ (v : Checking). is_key_of c.args.key v.seen) (sym c.self.view_is) ∙ sym c.in_ok-known.ensures.known ∙ ap is_some c.in-Some.is)
-    c.in_ok-rule.rule (c.in_ok-rule.ensures.rule ∙ (λ i. seen_rule c.args.own (key i).labels (seen i)))
+    c.in_ok-rule.rule (c.in_ok-rule.ensures.rule ∙ (λ i. known_stop c.args.own (key i).labels (seen i)))
+
+pub returns-in-Some-clause-added : goal.returns-in-Some-clause-added
+returns-in-Some-clause-added c = λ none.
+    absurd (known_never c.args.own c.in-Some.known.labels c.insert.new.self c.args.broken (ap (λ o. least o c.args.broken) (sym c.in_ok-rule.ensures.rule) ∙ sym c.least.ensures ∙ none))
 
 pub returns-then-is_some-clause-broken : goal.returns-then-is_some-clause-broken
 returns-then-is_some-clause-broken c = stop_broken c.args.self.now c.args.own c.args.key c.args.broken

@@ -1,19 +1,18 @@
-use Rattle.std.proofs.Common.{◌∙◌, Ok, ap, sym}
+use Rattle.std.proofs.Common.{◌∙◌, ap}
 use Rattle.std.proofs.lemmas.Result.{IfOk-weaker}
-use Rattle.family_rules.specs.Samples.{key_stop}
+use Rattle.sample_groups.specs.Parts.{sample_time}
+use Rattle.family_rules.specs.Checking.{Checking}
+use Rattle.family_rules.specs.Samples.{key_stop, with_key, with_member}
 use Rattle.family_rules.proofs.checker.ItemChecker.add_sample.Goals as goal
 
-pub returns-in_ok-answer-in-Ok-Some-clause-broken : goal.returns-in_ok-answer-in-Ok-Some-clause-broken
-returns-in_ok-answer-in-Ok-Some-clause-broken c =
-    let kind = (c.tells_groups.ensures c.if-not-tells_groups.false).0 in
-    let told = c.in-Ok-Some.is ∙ ap Ok c.in-Ok-Some.field-0-is in
-    c.in_ok-answer-in-Ok-Some.ensures.broken ∙ (λ i. key_stop c.args.self.now (sym kind i) c.args.line.key (sym told i))
+pub returns-clause-broken : goal.returns-clause-broken
+returns-clause-broken c =
+    IfOk-weaker c.add_line-answer.result _ _ (λ answer stop.
+    stop ∙ (λ i. key_stop c.args.self.now c.args.kind (record { name = c.args.sample.name; labels = c.in_ok-labels.ensures i }) c.args.told.now)) c.add_line-answer.ensures.broken
 
-pub returns-in-Ok-None-clause-broken : goal.returns-in-Ok-None-clause-broken
-returns-in-Ok-None-clause-broken c =
-    let told = c.in-Ok-None.is ∙ ap Ok c.in-Ok-None.field-0-is in
-    IfOk-weaker c.add_keyed-in-Ok-None.result _ _ (λ answer stop. stop ∙ ap (key_stop c.args.self.now c.args.line.kind c.args.line.key) (sym told)) c.add_keyed-in-Ok-None.ensures.broken
-
-pub returns-in-Err-clause-broken : goal.returns-in-Err-clause-broken
-returns-in-Err-clause-broken c =
-    IfOk-weaker c.add_keyed-in-Err.result _ _ (λ answer stop. stop ∙ ap (key_stop c.args.self.now c.args.line.kind c.args.line.key) (sym c.in-Err.is)) c.add_keyed-in-Err.ensures.broken
+pub returns-clause-added : goal.returns-clause-added
+returns-clause-added c =
+    let time = c.sample_time-time.ensures ∙ ap (λ (v : Checking). sample_time v.setting.format c.args.sample) c.self.view_is in
+    IfOk-weaker c.add_line-answer.result _ _ (λ answer step none. step none ∙ (λ i. with_key c.args.self.now c.args.kind
+    (record { name = c.args.sample.name; labels = c.in_ok-labels.ensures i }) (record { value = c.args.sample.value; time = time i })
+    (with_member (time i) c.args.sample.exemplar c.args.told.now))) c.add_line-answer.ensures.added

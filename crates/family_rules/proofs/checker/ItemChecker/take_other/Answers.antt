@@ -1,4 +1,5 @@
 use Rattle.std.proofs.Common.{◌∙◌, sym}
+use Rattle.std.proofs.lemmas.Result.{IfOk-weaker}
 use Rattle.label_sets.specs.declared.kind.Kind.TheVariants.{Unknown}
 use Rattle.page_model.specs.declared.item.Item.TheVariants as items
 use Rattle.family_rules.specs.Steps.{begun, Takes}
@@ -11,8 +12,8 @@ pub returns-then-is_some : goal.returns-then-is_some
 returns-then-is_some c = other_exemplar c.args.sample c.args.self.now c.args.self.now c.requires (sym c.is_some.ensures ∙ c.if-is_some.true)
 
 pub returns-then-is_current : goal.returns-then-is_current
-returns-then-is_current c = other_named c.args.sample c.args.self.now c.name_rule.new.self c.requires (sym c.is_some.ensures ∙ c.if-is_some.false)
-    (sym c.if-is_current.ensures) c.in_ok-rule.rule c.in_ok-rule.ensures
+returns-then-is_current c = IfOk-weaker c.name_rule.result _ _ (other_named c.args.sample c.args.self.now c.name_rule.new.self c.requires (sym c.is_some.ensures ∙ c.if-is_some.false)
+    (sym c.if-is_current.ensures)) c.name_rule.ensures
 
 pub returns-then-is_left : goal.returns-then-is_left
 returns-then-is_left c = other_split c.args.sample c.args.self.now c.args.self.now c.requires (sym c.is_some.ensures ∙ c.if-is_some.false) (sym c.if-is_current.ensures) (sym c.if-is_left.ensures)

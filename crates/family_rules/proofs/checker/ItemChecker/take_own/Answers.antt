@@ -1,7 +1,6 @@
 use Rattle.std.proofs.Common.{◌∙◌, sym, refl}
 use Rattle.page_model.specs.declared.item.Item.TheVariants as items
 use Rattle.family_rules.specs.Steps.{Takes, current_kind}
-use Rattle.family_rules.specs.Samples.{key_stop, with_key}
 use Rattle.family_rules.proofs.Taking.{if_ok_both}
 use Rattle.family_rules.proofs.Sampled.{own_exemplar, own_added}
 use Rattle.family_rules.proofs.checker.ItemChecker.take_own.Goals as goal
@@ -11,10 +10,7 @@ returns-then-has_bad_exemplar c = own_exemplar c.args.sample c.args.self.now c.a
 
 pub returns : goal.returns
 returns c =
-    let line = c.in_ok-line.ensures in
     if_ok_both _ _ (Takes (items.Sample c.args.sample) c.args.self.now c.add_sample.new.self) c.add_sample.result
     (λ answer stop step. own_added c.args.sample c.args.self.now c.add_sample.new.self c.requires c.current_kind-kind.result c.current_kind-kind.ensures
-    (sym c.has_bad_exemplar.ensures ∙ c.if-has_bad_exemplar.false) c.part_or_rule-told.result c.part_or_rule-told.ensures answer
-    (stop ∙ (λ i. key_stop c.args.self.now (line i).kind (line i).key (line i).told))
-    (λ none. step none ∙ (λ i. with_key c.args.self.now (line i).kind (line i).key (line i).value (line i).told)))
+    (sym c.has_bad_exemplar.ensures ∙ c.if-has_bad_exemplar.false) c.part_or_rule-told.result c.part_or_rule-told.ensures answer stop step)
     c.add_sample.ensures.broken c.add_sample.ensures.added
