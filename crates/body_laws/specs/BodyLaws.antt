@@ -15,7 +15,7 @@ use Rattle.point_laws.specs.MarkerLaws.{EventMarksTheGone}
 
 -- ---- series that are gone
 
--- the tree of each of these events marks the series that are gone: its points without a value are those of the series that the event before had and this one lacks, each once
+-- the tree of each of these events marks the series that are gone: its points without a value are those of the series that the event before had, without times of their own, and this one lacks, each once
 abbrev pub AllMarkTheGone : Followed → List Event → Type 0
 AllMarkTheGone f [] = ⊤
 AllMarkTheGone f (e ∷ earlier) = EventMarksTheGone f.target (tracking_of f) earlier e × AllMarkTheGone f earlier

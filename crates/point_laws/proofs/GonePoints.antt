@@ -18,7 +18,7 @@ use Rattle.label_sets.proofs.Laws.{kind_decides, all-weaker, all-filter, filter-
 use Rattle.otlp_tree.specs.declared.tree.Metric.{Metric}
 use Rattle.otlp_tree.specs.declared.tree.Shape.{Shape}
 use Rattle.otlp_tree.specs.declared.tree.Shape.TheVariants as shapes
-use Rattle.staleness.specs.Vanished.{has_points}
+use Rattle.start_times.specs.Starts.{has_points}
 use Rattle.target_core.specs.Markers.{number_marker, histogram_marker, summary_marker, shape_with, is_of_metric, markers_of, metric_with, with_markers, markers_left, no_points, marker_metric, marker_metrics}
 use Rattle.target_core.specs.Events.{marker_with}
 use Rattle.target_core.specs.Laws.{is_same_metric}

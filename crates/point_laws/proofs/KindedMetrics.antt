@@ -13,7 +13,7 @@ use Rattle.label_sets.specs.Keys.{kind_eq, identity_eq}
 use Rattle.label_sets.specs.Lists.{first_of_each}
 use Rattle.label_sets.proofs.Laws.{all-weaker, all-append, all-filter, filter-passes}
 use Rattle.otlp_tree.specs.declared.tree.Metric.{Metric}
-use Rattle.staleness.specs.Vanished.{has_points}
+use Rattle.start_times.specs.Starts.{has_points}
 use Rattle.target_core.specs.Markers.{metric_with, with_markers, markers_left, shape_with, no_points, marker_metrics}
 use Rattle.target_core.specs.Trees.{target_gauge, target_metrics}
 use Rattle.target_core.specs.Events.{marker_with}

@@ -11,7 +11,7 @@ use Rattle.page_model.specs.declared.event.Cause.TheVariants as causes
 use Rattle.page_model.specs.declared.event.Outcome.TheVariants as outcomes
 use Rattle.bridge_ports.specs.Targets.{Scraped}
 use Rattle.start_times.specs.Scrapes.{scrape_after}
-use Rattle.staleness.specs.Vanished.{has_points}
+use Rattle.start_times.specs.Starts.{has_points, has_start, up_to, placed, reading_place}
 use Rattle.target_core.specs.Points.{point_at, plain_number, number_point}
 use Rattle.target_core.specs.Markers.{number_marker, metric_with, marker_metric, no_points}
 use Rattle.target_core.specs.Trees.{shape_of, target_gauge, target_metrics, request_of}
@@ -35,13 +35,13 @@ abbrev scraped : ℕ → List Family → Event
 scraped at families = record { reading = at; outcome = outcomes.Page (record { families = families; samples = 2 }) }
 
 -- behind a scrape that failed all are told
-all_gone : unvalued_in_tree (request_after target (record { keep = 2 }) (scraped 1000 (family (codes "x") kinds.Gauge ∷ family (codes "c") kinds.Counter ∷ []) ∷ []) (record { reading = 2000; outcome = outcomes.Failed causes.Connect }))
+all_gone : unvalued_in_tree (request_after target (record { keep = 2; honor = false }) (scraped 1000 (family (codes "x") kinds.Gauge ∷ family (codes "c") kinds.Counter ∷ []) ∷ []) (record { reading = 2000; outcome = outcomes.Failed causes.Connect }))
     ≡ gone_point 2000 (series (codes "x") kinds.Gauge) ∷ gone_point 2000 (series (codes "c") kinds.Counter) ∷ []
-unfolding request_after scrape_after has_points number_marker metric_with marker_with marker_metric no_points shape_of target_gauge target_metrics request_of
+unfolding request_after scrape_after reading_place placed has_points has_start number_marker metric_with marker_with marker_metric no_points shape_of target_gauge target_metrics request_of
 all_gone = refl
 
 -- a series of another kind is told beside the one that is there
-kind_gone : unvalued_in_tree (request_after target (record { keep = 2 }) (scraped 1000 (family (codes "x") kinds.Gauge ∷ family (codes "c") kinds.Counter ∷ []) ∷ []) (scraped 2000 (family (codes "c") kinds.Counter ∷ family (codes "x") kinds.Unknown ∷ [])))
+kind_gone : unvalued_in_tree (request_after target (record { keep = 2; honor = false }) (scraped 1000 (family (codes "x") kinds.Gauge ∷ family (codes "c") kinds.Counter ∷ []) ∷ []) (scraped 2000 (family (codes "c") kinds.Counter ∷ family (codes "x") kinds.Unknown ∷ [])))
     ≡ gone_point 2000 (series (codes "x") kinds.Gauge) ∷ []
-unfolding request_after scrape_after has_points point_at plain_number number_point number_marker metric_with marker_with marker_metric no_points shape_of target_gauge target_metrics request_of
+unfolding request_after scrape_after reading_place placed has_points has_start point_at plain_number number_point number_marker metric_with marker_with marker_metric no_points shape_of target_gauge target_metrics request_of
 kind_gone = refl

@@ -9,7 +9,7 @@ use Rattle.std.proofs.lemmas.List.Folds.{list_any-append}
 use Rattle.label_sets.specs.declared.kind.Kind.{Kind}
 use Rattle.label_sets.specs.declared.series_key.SeriesKey.{SeriesKey}
 use Rattle.label_sets.specs.Keys.{key_eq, identity_eq}
-use Rattle.label_sets.proofs.Laws.{distinct_kept, all-weaker, filter-passes}
+use Rattle.label_sets.proofs.Laws.{all-weaker}
 use Rattle.page_model.specs.declared.page.Reading.{Reading}
 use Rattle.page_model.specs.declared.page.Page.{Page}
 use Rattle.page_model.specs.Pages.{IsRightPage}
@@ -21,8 +21,10 @@ use Rattle.otlp_tree.specs.declared.tree.ScopeMetrics.{ScopeMetrics}
 use Rattle.otlp_tree.specs.declared.tree.Metric.{Metric}
 use Rattle.bridge_ports.specs.Targets.{Scraped}
 use Rattle.start_times.specs.Scrapes.{Scrape, last_page, scrape_after, scrapes_of}
-use Rattle.start_times.specs.Starts.{reading_start, start_there}
-use Rattle.staleness.specs.Vanished.{has_points, is_gone, keys_gone}
+use Rattle.start_times.specs.declared.row.Placed.{Placed}
+use Rattle.start_times.specs.Starts.{Tracking, has_points, reading_place, start_there}
+use Rattle.staleness.specs.Vanished.{keys_gone}
+use Rattle.staleness.proofs.Laws.{gone_have_points, gone_differ}
 use Rattle.target_core.specs.Trees.{page_metrics, event_metrics, scope_of, target_metrics, target_gauge, up_of, request_of}
 use Rattle.target_core.specs.Events.{marker_with, request_after}
 use Rattle.target_core.specs.Laws.{is_same_metric}
@@ -55,9 +57,6 @@ target_told moment up samples = refl
 
 -- ---- the series that are gone
 
-gone_points : (now : Page) (keys : List SeriesKey) → AllByRecursion (λ (key : SeriesKey). is_gone now key ≡ true) keys → AllByRecursion (λ (key : SeriesKey). has_points key.kind ≡ true) keys
-gone_points now keys gone = all-weaker (λ (key : SeriesKey). is_gone now key ≡ true) (λ (key : SeriesKey). has_points key.kind ≡ true) (λ key h. (and_parts (has_points key.kind) _ h).0) keys gone
-
 in_page : (p : Kind × Metric) (front rest : List SeriesKey) → list_any (is_in p) front ≡ true → list_any (is_in p) (front ++ rest) ≡ true
 in_page p front rest h = list_any-append (is_in p) front rest ∙ or_left (list_any (is_in p) front) (list_any (is_in p) rest) h
 
@@ -68,36 +67,36 @@ in_gone key front middle rest h =
 
 -- ---- the tree of a scrape
 
-module _ (target : Scraped) (start : Reading → Option ℕ) (gone_start : SeriesKey → Option ℕ) (before : Page) (now : Scrape) (up : ℕ) where
+module _ (target : Scraped) (t : Tracking) (place : Reading → Option Placed) (gone_start : SeriesKey → Option ℕ) (before : Page) (now : Scrape) (up : ℕ) where
   abbrev keys : List SeriesKey
-  keys = keys_gone before now.page
+  keys = keys_gone t before now.page
 
   -- the metrics of its page, and of its markers
   abbrev metrics : List Metric
-  metrics = event_metrics start (map (marker_with gone_start now.moment) (keys_gone before now.page)) now.moment now.page
+  metrics = event_metrics place (map (marker_with gone_start now.moment) (keys_gone t before now.page)) now.page
 
-  pub scrape_marks : IsDistinct key_eq (keys_of before) → IsRightPage now.page → MarksTheGone before now (request_of target start (map (marker_with gone_start now.moment) (keys_gone before now.page)) now.moment up now.page)
+  pub scrape_marks : IsDistinct key_eq (keys_of before) → IsRightPage now.page → MarksTheGone t before now (request_of target place (map (marker_with gone_start now.moment) (keys_gone t before now.page)) now.moment up now.page)
   unfolding request_of
   scrape_marks once right =
       let formed : AreFormed right.0.format right.0.treatment now.page.families = read_pages right.0 now.page right.1 in
       let each : AllByRecursion (IsFormedFamily right.0.format right.0.treatment) now.page.families = recursion_from_All (IsFormedFamily right.0.format right.0.treatment) now.page.families formed.each in
-      let apart : IsDistinct is_same_metric (page_metrics start now.moment now.page) = metrics_apart right.0.format right.0.treatment start now.moment now.page.families each formed.names in
-      let valued : AllByRecursion IsValued (page_metrics start now.moment now.page) = all_are_valued right.0.format right.0.treatment start now.moment now.page.families each in
-      let points : AllByRecursion (λ (key : SeriesKey). has_points key.kind ≡ true) keys = gone_points now.page keys (filter-passes (is_gone now.page) (keys_of before)) in
-      let belong : AllByRecursion (λ (p : Kind × Metric). list_any (is_in p) (event_series before now.page) ≡ true) (page_metrics start now.moment now.page) =
-      all-weaker (λ (p : Kind × Metric). list_any (is_in p) (keys_of now.page) ≡ true) (λ (p : Kind × Metric). list_any (is_in p) (event_series before now.page) ≡ true)
-      (λ p h. in_page p (keys_of now.page) (keys ++ target_series) h) (page_metrics start now.moment now.page) (all_belong right.0.format right.0.treatment start now.moment now.page.families each) in
-      let among : AllByRecursion (λ (key : SeriesKey). list_any (λ x. identity_eq key x) (event_series before now.page) ≡ true) keys =
-      all-weaker (λ (key : SeriesKey). list_any (λ x. identity_eq key x) keys ≡ true) (λ (key : SeriesKey). list_any (λ x. identity_eq key x) (event_series before now.page) ≡ true)
+      let apart : IsDistinct is_same_metric (page_metrics place now.page) = metrics_apart right.0.format right.0.treatment place now.page.families each formed.names in
+      let valued : AllByRecursion IsValued (page_metrics place now.page) = all_are_valued right.0.format right.0.treatment place now.page.families each in
+      let points : AllByRecursion (λ (key : SeriesKey). has_points key.kind ≡ true) keys = gone_have_points t before now.page in
+      let belong : AllByRecursion (λ (p : Kind × Metric). list_any (is_in p) (event_series t before now.page) ≡ true) (page_metrics place now.page) =
+      all-weaker (λ (p : Kind × Metric). list_any (is_in p) (keys_of now.page) ≡ true) (λ (p : Kind × Metric). list_any (is_in p) (event_series t before now.page) ≡ true)
+      (λ p h. in_page p (keys_of now.page) (keys ++ target_series) h) (page_metrics place now.page) (all_belong right.0.format right.0.treatment place now.page.families each) in
+      let among : AllByRecursion (λ (key : SeriesKey). list_any (λ x. identity_eq key x) (event_series t before now.page) ≡ true) keys =
+      all-weaker (λ (key : SeriesKey). list_any (λ x. identity_eq key x) keys ≡ true) (λ (key : SeriesKey). list_any (λ x. identity_eq key x) (event_series t before now.page) ≡ true)
       (λ key h. in_gone key (keys_of now.page) keys target_series h) keys (each-among (λ (a b : SeriesKey). identity_eq b a) identity_itself keys) in
       let told : flat_map (λ (s : ScopeMetrics). flat_map unvalued_in_metric s.metrics) (scope_of (codes "bridge") metrics ++ scope_of (codes "bridge.target") (target_metrics now.moment up now.page.samples)) ≡ flat_map unvalued_in_metric metrics =
       scopes_told (codes "bridge") (codes "bridge.target") metrics (target_metrics now.moment up now.page.samples)
       ∙ ap (λ l. flat_map unvalued_in_metric metrics ++ l) (target_told now.moment up now.page.samples) ∙ append-nil (flat_map unvalued_in_metric metrics) in
       record {
-        points = subst (IsPermutation (map (gone_point now.moment) keys)) (sym told) (all_marked gone_start now.moment keys (page_metrics start now.moment now.page) apart valued points);
-        once = distinct_kept key_eq (is_gone now.page) (keys_of before) once;
-        metrics = both_scopes (AreDistinctMetrics (event_series before now.page)) (codes "bridge") (codes "bridge.target") metrics (target_metrics now.moment up now.page.samples)
-            (distinct_metrics gone_start now.moment keys (event_series before now.page) (page_metrics start now.moment now.page) apart valued belong points among)
+        points = subst (IsPermutation (map (gone_point now.moment) keys)) (sym told) (all_marked gone_start now.moment keys (page_metrics place now.page) apart valued points);
+        once = gone_differ t before now.page once;
+        metrics = both_scopes (AreDistinctMetrics (event_series t before now.page)) (codes "bridge") (codes "bridge.target") metrics (target_metrics now.moment up now.page.samples)
+            (distinct_metrics gone_start now.moment keys (event_series t before now.page) (page_metrics place now.page) apart valued belong points among)
             (target_distinct (keys_of now.page) keys now.moment up now.page.samples);
       }
 
@@ -108,4 +107,4 @@ unfolding request_after scrape_after
 events_mark_the_gone target t earlier e right_before right_now =
     let past : List Scrape = scrapes_of earlier in
     let now : Scrape = scrape_after past e in
-    scrape_marks target (reading_start t past now.moment) (start_there t past) (last_page past) now (up_of e.outcome) (right-distinct_keys (last_page past) right_before) right_now
+    scrape_marks target t (reading_place t past now.moment) (start_there t past) (last_page past) now (up_of e.outcome) (right-distinct_keys (last_page past) right_before) right_now

@@ -27,6 +27,7 @@ use Rattle.otlp_tree.specs.declared.tree.SummaryPoint.{SummaryPoint}
 use Rattle.otlp_tree.specs.declared.tree.SummaryValue.{SummaryValue}
 use Rattle.otlp_tree.specs.declared.tree.Shape.{Shape}
 use Rattle.otlp_tree.specs.declared.tree.Shape.TheVariants as shapes
+use Rattle.start_times.specs.declared.row.Placed.{Placed}
 use Rattle.target_core.specs.Points.{Point, plain_number, histogram_in, summary_in, start_or_time, point_of, number_point, histogram_point, summary_point}
 use Rattle.target_core.specs.Markers.{no_points}
 use Rattle.target_core.specs.Trees.{some_of, shape_of, metric_of, kind_metric}
@@ -121,16 +122,16 @@ pub record IsMetricOf (f : Format) (family : Family) (p : Kind × Metric) : Type
   pub valued : IsValued p
   pub belongs : list_any (is_in p) (keys_in family.readings) ≡ true
 
-module _ (f : Format) (treatment : Treatment) (start : Reading → Option ℕ) (moment : ℕ) where
-  metric_is : (family : Family) → IsFormedFamily f treatment family → IfSome (kind_metric start moment family) (IsMetricOf f family)
+module _ (f : Format) (treatment : Treatment) (place : Reading → Option Placed) where
+  metric_is : (family : Family) → IsFormedFamily f treatment family → IfSome (kind_metric place family) (IsMetricOf f family)
   metric_is family formed = by family.readings refl
     where
       each : (r : Reading) → IsFormedReading f treatment family.kind family.name family.unit r → (r.key.name ≡ key_name f family.kind family.name) × (r.key.kind ≡ family.kind)
       each r is = (ap (λ (k : SeriesKey). k.name) is.key, ap (λ (k : SeriesKey). k.kind) is.key)
 
-      by : (rs : List Reading) → family.readings ≡ rs → IfSome (option_map (λ (m : Metric). (family.kind, m)) (metric_of start moment family.kind family.help rs)) (IsMetricOf f family)
+      by : (rs : List Reading) → family.readings ≡ rs → IfSome (option_map (λ (m : Metric). (family.kind, m)) (metric_of place family.kind family.help rs)) (IsMetricOf f family)
       by [] same = tt
-      by (first ∷ rest) same = of (shape_of family.kind (map (point_of start moment) (first ∷ rest))) (kind_shape family.kind (map (point_of start moment) (first ∷ rest)))
+      by (first ∷ rest) same = of (shape_of family.kind (filter_map (point_of place) (first ∷ rest))) (kind_shape family.kind (filter_map (point_of place) (first ∷ rest)))
         where
           all : AllByRecursion (IsFormedReading f treatment family.kind family.name family.unit) (first ∷ rest)
           all = recursion_from_All (IsFormedReading f treatment family.kind family.name family.unit) (first ∷ rest)
@@ -177,12 +178,12 @@ module _ (f : Format) (treatment : Treatment) (start : Reading → Option ℕ) (
           absurd (let h : true ≡ false = sym same ∙ differ in cc)
 
   abbrev metrics_in : List Family → List (Kind × Metric)
-  metrics_in fs = filter_map (kind_metric start moment) fs
+  metrics_in fs = filter_map (kind_metric place) fs
 
   others_apart : (family : Family) (p : Kind × Metric) → IsMetricOf f family p → (fs : List Family) → AllByRecursion (IsFormedFamily f treatment) fs → AllByRecursion (λ (g : List ℕ). bytes_eq family.name g ≡ false) (map (λ (g : Family). g.name) fs)
       → AllByRecursion (λ (q : Kind × Metric). is_same_metric p q ≡ false) (metrics_in fs)
   others_apart family p is [] formed differ = tt
-  others_apart family p is (g ∷ fs) formed differ = by (kind_metric start moment g) (metric_is g formed.0) (others_apart family p is fs formed.1 differ.1)
+  others_apart family p is (g ∷ fs) formed differ = by (kind_metric place g) (metric_is g formed.0) (others_apart family p is fs formed.1 differ.1)
     where
       by : (o : Option (Kind × Metric)) → IfSome o (IsMetricOf f g) → AllByRecursion (λ (q : Kind × Metric). is_same_metric p q ≡ false) (metrics_in fs) → AllByRecursion (λ (q : Kind × Metric). is_same_metric p q ≡ false) (cons_option o (metrics_in fs))
       by None of_g rest = rest
@@ -191,7 +192,7 @@ module _ (f : Format) (treatment : Treatment) (start : Reading → Option ℕ) (
   pub metrics_apart : (fs : List Family) → AllByRecursion (IsFormedFamily f treatment) fs → IsDistinct bytes_eq (map (λ (g : Family). g.name) fs) → IsDistinct is_same_metric (metrics_in fs)
   unfolding IsDistinct
   metrics_apart [] formed names = tt
-  metrics_apart (family ∷ fs) formed names = by (kind_metric start moment family) (metric_is family formed.0) (metrics_apart fs formed.1 names.1)
+  metrics_apart (family ∷ fs) formed names = by (kind_metric place family) (metric_is family formed.0) (metrics_apart fs formed.1 names.1)
     where
       by : (o : Option (Kind × Metric)) → IfSome o (IsMetricOf f family) → IsDistinct is_same_metric (metrics_in fs) → IsDistinct is_same_metric (cons_option o (metrics_in fs))
       by None is rest = rest
@@ -200,7 +201,7 @@ module _ (f : Format) (treatment : Treatment) (start : Reading → Option ℕ) (
   -- what is true of the metric of each family is true of each metric
   each_metric : (P : Kind × Metric → Type 0) → ((family : Family) (p : Kind × Metric) → IsMetricOf f family p → P p) → (fs : List Family) → AllByRecursion (IsFormedFamily f treatment) fs → AllByRecursion P (metrics_in fs)
   each_metric P gives [] formed = tt
-  each_metric P gives (family ∷ fs) formed = by (kind_metric start moment family) (metric_is family formed.0) (each_metric P gives fs formed.1)
+  each_metric P gives (family ∷ fs) formed = by (kind_metric place family) (metric_is family formed.0) (each_metric P gives fs formed.1)
     where
       by : (o : Option (Kind × Metric)) → IfSome o (IsMetricOf f family) → AllByRecursion P (metrics_in fs) → AllByRecursion P (cons_option o (metrics_in fs))
       by None is rest = rest
@@ -215,7 +216,7 @@ module _ (f : Format) (treatment : Treatment) (start : Reading → Option ℕ) (
 
   pub all_belong : (fs : List Family) → AllByRecursion (IsFormedFamily f treatment) fs → AllByRecursion (λ (p : Kind × Metric). list_any (is_in p) (keys_under fs) ≡ true) (metrics_in fs)
   all_belong [] formed = tt
-  all_belong (family ∷ fs) formed = by (kind_metric start moment family) (metric_is family formed.0) (later (all_belong fs formed.1))
+  all_belong (family ∷ fs) formed = by (kind_metric place family) (metric_is family formed.0) (later (all_belong fs formed.1))
     where
       split : (p : Kind × Metric) → list_any (is_in p) (keys_under (family ∷ fs)) ≡ (list_any (is_in p) (keys_in family.readings) || list_any (is_in p) (keys_under fs))
       split p = ap (list_any (is_in p)) (map-append (λ (r : Reading). r.key) family.readings (flat_map (λ (g : Family). g.readings) fs)) ∙ list_any-append (is_in p) (keys_in family.readings) (keys_under fs)

@@ -1,4 +1,4 @@
--- Laws of the points without a recorded value: one for each series that is gone. Each is proved, and a call of the crate stands for it.
+-- Laws of the points without a recorded value: one for each series that is gone, without a time of its own. Each is proved, and a call of the crate stands for it.
 -- OTLP 1.x, "DataPointFlags" (no recorded value); OpenTelemetry metrics data model, "Resets and Gaps" and "Timeseries Model" (identity). That no metric stands twice in a scope is the bridge's own.
 use Rattle.std.specs.Prelude.{◌≡◌, ℕ, true, List, [], ◌∷◌, ◌++◌, map, filter_map, codes, Option, Some, None}
 use Rattle.std.specs.List.{IsDistinct, AllByRecursion, flat_map, list_any}
@@ -100,20 +100,20 @@ abbrev pub target_series : List SeriesKey
 target_series = record { name = codes "up"; kind = Gauge; unit = []; labels = [] } ∷ record { name = codes "scrape_samples_scraped"; kind = Gauge; unit = []; labels = [] } ∷ []
 
 -- all series of which an event has points: those of its page, those that are gone, and those of its target
-abbrev pub event_series : Page → Page → List SeriesKey
-event_series before now = keys_of now ++ (keys_gone before now ++ target_series)
+abbrev pub event_series : Tracking → Page → Page → List SeriesKey
+event_series t before now = keys_of now ++ (keys_gone t before now ++ target_series)
 
 -- ---- events
 
--- in a tree the points without a value are, in some order, those of the series that the page before had and the page now lacks; each of these is told once, and no metric stands twice in a scope
-pub record MarksTheGone (before : Page) (now : Scrape) (tree : Request) : Type 0 where
-  pub points : IsPermutation (map (gone_point now.moment) (keys_gone before now.page)) (unvalued_in_tree tree)
-  pub once : IsDistinct key_eq (keys_gone before now.page)
-  pub metrics : AllByRecursion (λ (s : ScopeMetrics). AreDistinctMetrics (event_series before now.page) s.metrics) tree.scopes
+-- in a tree the points without a value are, in some order, those of the series that the page before had, without times of their own, and the page now lacks; each of these is told once, and no metric stands twice in a scope
+pub record MarksTheGone (t : Tracking) (before : Page) (now : Scrape) (tree : Request) : Type 0 where
+  pub points : IsPermutation (map (gone_point now.moment) (keys_gone t before now.page)) (unvalued_in_tree tree)
+  pub once : IsDistinct key_eq (keys_gone t before now.page)
+  pub metrics : AllByRecursion (λ (s : ScopeMetrics). AreDistinctMetrics (event_series t before now.page) s.metrics) tree.scopes
 
 -- the same of the tree of an event behind these earlier ones
 abbrev pub EventMarksTheGone : Scraped → Tracking → List Event → Event → Type 0
-EventMarksTheGone target t earlier e = MarksTheGone (last_page (scrapes_of earlier)) (scrape_after (scrapes_of earlier) e) (request_after target t earlier e)
+EventMarksTheGone target t earlier e = MarksTheGone t (last_page (scrapes_of earlier)) (scrape_after (scrapes_of earlier) e) (request_after target t earlier e)
 
 -- so it is of every event, where the page before and the page now are right; the page of a scrape that failed is empty, which is right
 abbrev pub EventsMarkTheGone : Type 0

@@ -1,26 +1,30 @@
 //! What trees say of the pages that they come of: that they have as many points as these have readings, but for gauge
-//! histograms, and mark each series that is gone once. These are laws, each carried by a call that changes nothing.
+//! histograms and readings that are late, and mark each series that is gone once. These are laws, each carried by a call
+//! that changes nothing.
 #![tactic(auto)]
 
-ghost use Rattle.point_laws.specs.PageLaws.{EachReadingHasAPoint};
+ghost use Rattle.point_laws.specs.PageLaws.{EachPlaceHasAPoint, EachTakenHasAPoint, EachReadingHasAPoint};
 ghost use Rattle.point_laws.specs.MarkerLaws.{EventsMarkTheGone};
 
 use page_model::Page;
 
-/// The metric of each family of a page has as many points as the family has readings, but that of a gauge histogram,
-/// which has none: so no histogram is left out for its buckets, and no value for its kind. The law counts points; of
-/// which reading each is stands in the definition of the tree. The families are asked for since they tell that the
-/// page is right.
+/// The metric of each family of a page has as many points as the family has readings that are taken, but that of a gauge
+/// histogram, which has none: so no histogram is left out for its buckets, and no value for its kind. Where times of the
+/// page don't count, all readings are taken. The law counts points; of which reading each is stands in the definition of
+/// the tree. The families are asked for since they tell that the page is right.
 ///
 /// So of the page `x 1` there is one point.
 pub fn points_of_pages(page: &Page)
-    ensures { EachReadingHasAPoint page.now }
+    ensures places { EachPlaceHasAPoint page.now }
+    ensures taken { EachTakenHasAPoint page.now }
+    ensures all { EachReadingHasAPoint page.now }
 {
     let _families = page.families();
 }
 
-/// The points without a recorded value of an event's tree are those of the series that the scrape before had and this
-/// one lacks, one for each, in the metric of its name, kind and unit; and no two metrics of a scope are one.
+/// The points without a recorded value of an event's tree are those of the series that the scrape before had, without
+/// times of their own, and this one lacks, one for each, in the metric of its name, kind and unit; and no two metrics of a
+/// scope are one.
 ///
 /// So where the scrape before had the page `x 1` and this one has none, there is one such point, that of `x`.
 pub fn events_mark_the_gone()

@@ -27,7 +27,7 @@ nothing_posted w f = record {
 }
 
 pub new_track : (w : Talking) (aim : Aim) (s p : WireState) (f : Following) (shown : Shown) (counts : Counts) → AreInRange aim.settings → IsFresh s → IsFresh p
-    → StandsFor aim.target (record { keep = aim.settings.keep }) f [] → shown ≡ latest_shown aim.target [] → counts ≡ visit_counts (followed_by aim s.plan p.plan) [] []
+    → StandsFor aim.target (record { keep = aim.settings.keep; honor = aim.target.honor }) f [] → shown ≡ latest_shown aim.target [] → counts ≡ visit_counts (followed_by aim s.plan p.plan) [] []
     → IsTrack w (kept_by aim s p f shown None counts false)
 new_track w aim s p f shown counts ranges scrape post stands shows counted =
     let followed = followed_by aim s.plan p.plan in

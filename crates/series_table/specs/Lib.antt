@@ -7,3 +7,4 @@ pub mod Records
 pub mod Making
 pub mod Keeping
 pub mod Moving
+pub mod Tracks

@@ -65,7 +65,7 @@ impl<W: Wire> Model for Track<W> {
 /// What a target's track begins with: its state, and what it shows.
 fn begin(alloc: Global, target: &Target, keep: u32) -> Result<(TargetState, Shown), Memory>
     requires { keep ≤ 4 }
-    ensures state { IfOk result (λ b. StandsFor target.now (record { keep = keep }) b.0 []) }
+    ensures state { IfOk result (λ b. StandsFor target.now (record { keep = keep; honor = target.now.honor }) b.0 []) }
     ensures shown { IfOk result (λ b. b.1 ≡ latest_shown target.now []) }
 {
     let state = TargetState::new(alloc, target.copy()?, keep)?;

@@ -3,6 +3,8 @@
 
 pub mod gone_laws;
 mod keys;
+mod marks;
 mod series_gone;
 
+pub use marks::{Mark, vanished_marks};
 pub use series_gone::vanished;

@@ -1,31 +1,25 @@
 //! The series of a page that the next page lacks.
-ghost use Rattle.std.specs.Prelude.{◌≡◌, filter, IfOk};
+ghost use Rattle.std.specs.Prelude.{◌≡◌, false, filter, IfOk};
 ghost use Rattle.std.specs.Option.{option_copied};
 ghost use Rattle.packed_keys.specs.Partings.{keys_behind};
 ghost use Rattle.page_model.specs.Presence as presence;
+ghost use Rattle.start_times.specs.Starts.{Tracking};
 ghost use Rattle.staleness.specs.Vanished as spec;
 ghost use Rattle.staleness.specs.Vanished.{keys_gone, page_or_empty};
 
-use crate::keys::keys_of;
-use label_sets::{Kind, List, Memory, SeriesKey};
+use crate::keys::untimed_keys;
+use label_sets::{List, Memory, SeriesKey};
 use packed_keys::{SeriesPlaces, part};
 use page_model::Page;
+use start_times::has_points;
 use std::alloc::Global;
-
-/// Whether series of a kind have points.
-#[tactic(auto, unfolding(crate::specs::Vanished::has_points))]
-fn has_points(kind: Kind) -> bool
-    ensures { result ≡ spec.has_points kind }
-{
-    !matches!(kind, Kind::GaugeHistogram)
-}
 
 /// The keys of a page where they are, or none.
 fn keys_of_some(alloc: Global, page: Option<&Page>) -> Result<Vec<&SeriesKey>, Memory>
-    ensures { IfOk result (λ keys. keys_behind keys.items ≡ presence.keys_of (page_or_empty (option_copied page.entry))) }
+    ensures { IfOk result (λ keys. keys_behind keys.items ≡ spec.untimed_keys false (presence.all_readings (page_or_empty (option_copied page.entry)))) }
 {
     match page {
-        Some(page) => keys_of(alloc, page),
+        Some(page) => untimed_keys(alloc, false, page),
         None => Ok(Vec::new(alloc)),
     }
 }
@@ -59,8 +53,10 @@ fn lacking(
 }
 
 /// The series with points that the page before has and the page now lacks, in the order of the page before; all of
-/// them where there is no page now, since the scrape failed. Only keys that stand elsewhere than in the page before are
-/// hashed. Want of memory is the only error (OTLP 1.x, "DataPointFlags"; Prometheus, "Staleness").
+/// them where there is no page now, since the scrape failed. Where times of the page count, those that it gave a time
+/// are passed over: of these it says itself until when they hold. Only keys that stand elsewhere than in the page
+/// before are hashed. Want of memory is the only error (OTLP 1.x, "DataPointFlags"; Prometheus, "Staleness" and
+/// `honor_timestamps`).
 ///
 /// # Errors
 ///
@@ -70,14 +66,19 @@ fn lacking(
 ///
 /// ```rust
 /// // The page before has the counter `c_total`, and the scrape now failed.
-/// let gone = vanished(alloc, &before, None)?;
+/// let gone = vanished(alloc, &before, None, false)?;
 /// let first = gone.as_slice().first();
 /// assert!(rt; gone.len() == 1 && first.is_some_and(|key| key.name.as_str() == "c_total"));
 /// ```
-pub fn vanished(alloc: Global, before: &Page, now: Option<&Page>) -> Result<List<SeriesKey>, Memory>
-    ensures { IfOk result (λ keys. keys ≡ keys_gone before.now (page_or_empty (option_copied now.entry))) }
+pub fn vanished(
+    alloc: Global,
+    before: &Page,
+    now: Option<&Page>,
+    honor: bool,
+) -> Result<List<SeriesKey>, Memory>
+    ensures { IfOk result (λ keys. (t : Tracking) → t.honor ≡ honor → keys ≡ keys_gone t before.now (page_or_empty (option_copied now.entry))) }
 {
-    let keys = keys_of(alloc, before)?;
+    let keys = untimed_keys(alloc, honor, before)?;
     let others = keys_of_some(alloc, now)?;
     let parted = part(alloc, others.as_slice(), keys.as_slice())?;
     let mut left = SeriesPlaces::of(alloc, parted.left);

@@ -15,11 +15,12 @@ use Rattle.page_model.specs.declared.page.Family.{Family}
 use Rattle.page_model.specs.declared.page.Page.{Page}
 use Rattle.page_model.specs.Presence.{all_readings, reading_at, is_present}
 use Rattle.start_times.specs.declared.row.Row.{Row}
+use Rattle.start_times.specs.declared.row.Placed.{Placed}
 use Rattle.start_times.specs.declared.sighting.Sighting.{Sighting}
 use Rattle.start_times.specs.Scrapes.{Scrape}
-use Rattle.start_times.specs.Starts.{Tracking, has_start, reading_start}
-use Rattle.start_times.specs.Rows.{Tracked, Tracks, row_of, kept_row, older_row}
-use Rattle.start_times.specs.Sightings.{Saw, Sees, start_in, row_beside, sighted_entry, is_cumulative_reading, is_read, missed_entry}
+use Rattle.start_times.specs.Starts.{Tracking, has_points, time_of, time_where, placed, reading_place}
+use Rattle.start_times.specs.Rows.{Tracked, Tracks, kept_row, placed_beside, row_now, older_row}
+use Rattle.start_times.specs.Sightings.{Saw, Sees, placed_in, sighted_entry, is_kept_reading, is_read, missed_entry}
 use Rattle.start_times.specs.Advancing.{HasDistinctKeys, scrape_of}
 use Rattle.start_times.proofs.RowLaws.{reading_is_of, row_is_enough, row_of_sight, row_of_miss, none_is, some_is}
 use Rattle.start_times.proofs.Zips.{zip_length}
@@ -45,43 +46,43 @@ look_second key (x ∷ xs) ys e = go (key_eq key x.0) refl (look_second key xs y
     go false p later = rw p (later (rw p at e))
 
 -- the row that a reading makes
-abbrev made : List (SeriesKey × Row) → ℕ → Reading → Row
-made rows moment r = row_beside (lookup (key_eq r.key) rows) moment r
+abbrev made : Bool → List (SeriesKey × Row) → ℕ → Reading → Row
+made honor rows moment r = row_now (lookup (key_eq r.key) rows) (time_where honor moment r) r
 
 -- among the rows that readings make is the one of the reading of a series
-look_made : (rows : List (SeriesKey × Row)) (moment : ℕ) (key : SeriesKey) (rs : List Reading) → has_start key.kind ≡ true
-    → lookup (key_eq key) (map (sighted_entry rows moment) (filter is_cumulative_reading rs)) ≡ option_map (made rows moment) (find (λ (r : Reading). key_eq key r.key) rs)
-look_made rows moment key [] starting = refl
-look_made rows moment key (r ∷ rs) starting = go (key_eq key r.key) refl (has_start r.key.kind) refl (look_made rows moment key rs starting)
+look_made : (honor : Bool) (rows : List (SeriesKey × Row)) (moment : ℕ) (key : SeriesKey) (rs : List Reading) → has_points key.kind ≡ true
+    → lookup (key_eq key) (map (sighted_entry honor rows moment) (filter is_kept_reading rs)) ≡ option_map (made honor rows moment) (find (λ (r : Reading). key_eq key r.key) rs)
+look_made honor rows moment key [] starting = refl
+look_made honor rows moment key (r ∷ rs) starting = go (key_eq key r.key) refl (has_points r.key.kind) refl (look_made honor rows moment key rs starting)
   where
-    go : (b : Bool) → key_eq key r.key ≡ b → (c : Bool) → has_start r.key.kind ≡ c
-        → lookup (key_eq key) (map (sighted_entry rows moment) (filter is_cumulative_reading rs)) ≡ option_map (made rows moment) (find (λ (q : Reading). key_eq key q.key) rs)
-        → lookup (key_eq key) (map (sighted_entry rows moment) (filter is_cumulative_reading (r ∷ rs))) ≡ option_map (made rows moment) (find (λ (q : Reading). key_eq key q.key) (r ∷ rs))
+    go : (b : Bool) → key_eq key r.key ≡ b → (c : Bool) → has_points r.key.kind ≡ c
+        → lookup (key_eq key) (map (sighted_entry honor rows moment) (filter is_kept_reading rs)) ≡ option_map (made honor rows moment) (find (λ (q : Reading). key_eq key q.key) rs)
+        → lookup (key_eq key) (map (sighted_entry honor rows moment) (filter is_kept_reading (r ∷ rs))) ≡ option_map (made honor rows moment) (find (λ (q : Reading). key_eq key q.key) (r ∷ rs))
     go true p true q later = rw (q, p) refl
-    go true p false q later = absurd (let t : has_start r.key.kind ≡ true = subst (λ (k : SeriesKey). has_start k.kind ≡ true) (key_equal key r.key p) starting in let f : true ≡ false = sym t ∙ q in cc)
+    go true p false q later = absurd (let t : has_points r.key.kind ≡ true = subst (λ (k : SeriesKey). has_points k.kind ≡ true) (key_equal key r.key p) starting in let f : true ≡ false = sym t ∙ q in cc)
     go false p true q later = rw (q, p) later
     go false p false q later = rw (q, p) later
 
--- of a series whose kind has no starts none is made
-look_unmade : (rows : List (SeriesKey × Row)) (moment : ℕ) (key : SeriesKey) (rs : List Reading) → has_start key.kind ≡ false → lookup (key_eq key) (map (sighted_entry rows moment) (filter is_cumulative_reading rs)) ≡ None
-look_unmade rows moment key [] without = refl
-look_unmade rows moment key (r ∷ rs) without = go (key_eq key r.key) refl (has_start r.key.kind) refl (look_unmade rows moment key rs without)
+-- of a series whose kind has no points none is made
+look_unmade : (honor : Bool) (rows : List (SeriesKey × Row)) (moment : ℕ) (key : SeriesKey) (rs : List Reading) → has_points key.kind ≡ false → lookup (key_eq key) (map (sighted_entry honor rows moment) (filter is_kept_reading rs)) ≡ None
+look_unmade honor rows moment key [] without = refl
+look_unmade honor rows moment key (r ∷ rs) without = go (key_eq key r.key) refl (has_points r.key.kind) refl (look_unmade honor rows moment key rs without)
   where
-    go : (b : Bool) → key_eq key r.key ≡ b → (c : Bool) → has_start r.key.kind ≡ c → lookup (key_eq key) (map (sighted_entry rows moment) (filter is_cumulative_reading rs)) ≡ None
-        → lookup (key_eq key) (map (sighted_entry rows moment) (filter is_cumulative_reading (r ∷ rs))) ≡ None
-    go true p true q later = absurd (let t : has_start r.key.kind ≡ false = subst (λ (k : SeriesKey). has_start k.kind ≡ false) (key_equal key r.key p) without in let f : false ≡ true = sym t ∙ q in cc)
+    go : (b : Bool) → key_eq key r.key ≡ b → (c : Bool) → has_points r.key.kind ≡ c → lookup (key_eq key) (map (sighted_entry honor rows moment) (filter is_kept_reading rs)) ≡ None
+        → lookup (key_eq key) (map (sighted_entry honor rows moment) (filter is_kept_reading (r ∷ rs))) ≡ None
+    go true p true q later = absurd (let t : has_points r.key.kind ≡ false = subst (λ (k : SeriesKey). has_points k.kind ≡ false) (key_equal key r.key p) without in let f : false ≡ true = sym t ∙ q in cc)
     go b p false q later = rw q later
     go false p true q later = rw (q, p) later
 
--- a series whose kind has starts is read just where the page has it
-read_there : (key : SeriesKey) (rs : List Reading) → has_start key.kind ≡ true → is_read (filter is_cumulative_reading rs) key ≡ is_some (find (λ (r : Reading). key_eq key r.key) rs)
+-- a series whose kind has points is read just where the page has it
+read_there : (key : SeriesKey) (rs : List Reading) → has_points key.kind ≡ true → is_read (filter is_kept_reading rs) key ≡ is_some (find (λ (r : Reading). key_eq key r.key) rs)
 read_there key [] starting = refl
-read_there key (r ∷ rs) starting = go (key_eq key r.key) refl (has_start r.key.kind) refl (read_there key rs starting)
+read_there key (r ∷ rs) starting = go (key_eq key r.key) refl (has_points r.key.kind) refl (read_there key rs starting)
   where
-    go : (b : Bool) → key_eq key r.key ≡ b → (c : Bool) → has_start r.key.kind ≡ c → is_read (filter is_cumulative_reading rs) key ≡ is_some (find (λ (q : Reading). key_eq key q.key) rs)
-        → is_read (filter is_cumulative_reading (r ∷ rs)) key ≡ is_some (find (λ (q : Reading). key_eq key q.key) (r ∷ rs))
+    go : (b : Bool) → key_eq key r.key ≡ b → (c : Bool) → has_points r.key.kind ≡ c → is_read (filter is_kept_reading rs) key ≡ is_some (find (λ (q : Reading). key_eq key q.key) rs)
+        → is_read (filter is_kept_reading (r ∷ rs)) key ≡ is_some (find (λ (q : Reading). key_eq key q.key) (r ∷ rs))
     go true p true q later = rw (q, p) refl
-    go true p false q later = absurd (let t : has_start r.key.kind ≡ true = subst (λ (k : SeriesKey). has_start k.kind ≡ true) (key_equal key r.key p) starting in let f : true ≡ false = sym t ∙ q in cc)
+    go true p false q later = absurd (let t : has_points r.key.kind ≡ true = subst (λ (k : SeriesKey). has_points k.kind ≡ true) (key_equal key r.key p) starting in let f : true ≡ false = sym t ∙ q in cc)
     go false p true q later = rw (q, p) later
     go false p false q later = rw (q, p) later
 
@@ -145,20 +146,20 @@ unfolding IsDistinct
 apart [] ys one two all = two
 apart (x ∷ xs) ys one two all = (both_all (λ y. key_eq x y ≡ false) xs ys one.0 (none_equal x ys all.0), apart xs ys one.1 two all.1)
 
-kept_all : (P : SeriesKey → Type 0) (rs : List Reading) → AllByRecursion P (map (λ (r : Reading). r.key) rs) → AllByRecursion P (map (λ (r : Reading). r.key) (filter is_cumulative_reading rs))
+kept_all : (P : SeriesKey → Type 0) (rs : List Reading) → AllByRecursion P (map (λ (r : Reading). r.key) rs) → AllByRecursion P (map (λ (r : Reading). r.key) (filter is_kept_reading rs))
 kept_all P [] all = tt
-kept_all P (r ∷ rs) all = go (has_start r.key.kind) refl (kept_all P rs all.1)
+kept_all P (r ∷ rs) all = go (has_points r.key.kind) refl (kept_all P rs all.1)
   where
-    go : (b : Bool) → has_start r.key.kind ≡ b → AllByRecursion P (map (λ (q : Reading). q.key) (filter is_cumulative_reading rs)) → AllByRecursion P (map (λ (q : Reading). q.key) (filter is_cumulative_reading (r ∷ rs)))
+    go : (b : Bool) → has_points r.key.kind ≡ b → AllByRecursion P (map (λ (q : Reading). q.key) (filter is_kept_reading rs)) → AllByRecursion P (map (λ (q : Reading). q.key) (filter is_kept_reading (r ∷ rs)))
     go true e later = rw e (all.0, later)
     go false e later = rw e later
 
-kept_once : (rs : List Reading) → IsDistinct key_eq (map (λ (r : Reading). r.key) rs) → IsDistinct key_eq (map (λ (r : Reading). r.key) (filter is_cumulative_reading rs))
+kept_once : (rs : List Reading) → IsDistinct key_eq (map (λ (r : Reading). r.key) rs) → IsDistinct key_eq (map (λ (r : Reading). r.key) (filter is_kept_reading rs))
 unfolding IsDistinct
 kept_once [] once = tt
-kept_once (r ∷ rs) once = go (has_start r.key.kind) refl (kept_once rs once.1)
+kept_once (r ∷ rs) once = go (has_points r.key.kind) refl (kept_once rs once.1)
   where
-    go : (b : Bool) → has_start r.key.kind ≡ b → IsDistinct key_eq (map (λ (q : Reading). q.key) (filter is_cumulative_reading rs)) → IsDistinct key_eq (map (λ (q : Reading). q.key) (filter is_cumulative_reading (r ∷ rs)))
+    go : (b : Bool) → has_points r.key.kind ≡ b → IsDistinct key_eq (map (λ (q : Reading). q.key) (filter is_kept_reading rs)) → IsDistinct key_eq (map (λ (q : Reading). q.key) (filter is_kept_reading (r ∷ rs)))
     go true e later = rw e (kept_all (λ y. key_eq r.key y ≡ false) rs once.0, later)
     go false e later = rw e later
 
@@ -181,29 +182,29 @@ missed_once keep now (e ∷ es) once = go (now e.0) refl (older_row keep e.1) re
     go false q (Some row) k later = rw (q, k) (missed_all (λ y. key_eq e.0 y ≡ false) keep now es once.0, later)
     go false q None k later = rw (q, k) later
 
-sighted_keys : (rows : List (SeriesKey × Row)) (moment : ℕ) (rs : List Reading) → keys_of (map (sighted_entry rows moment) rs) ≡ map (λ (r : Reading). r.key) rs
-sighted_keys rows moment [] = refl
-sighted_keys rows moment (r ∷ rs) = ap (λ (ks : List SeriesKey). r.key ∷ ks) (sighted_keys rows moment rs)
+sighted_keys : (honor : Bool) (rows : List (SeriesKey × Row)) (moment : ℕ) (rs : List Reading) → keys_of (map (sighted_entry honor rows moment) rs) ≡ map (λ (r : Reading). r.key) rs
+sighted_keys honor rows moment [] = refl
+sighted_keys honor rows moment (r ∷ rs) = ap (λ (ks : List SeriesKey). r.key ∷ ks) (sighted_keys honor rows moment rs)
 
 -- ---- one scrape more
 
 -- the rows behind a page: those of its readings, and those that it missed
 abbrev pub rows_behind : Tracked → Page → ℕ → List (SeriesKey × Row)
-rows_behind k page moment = map (sighted_entry k.rows moment) (filter is_cumulative_reading (all_readings page))
-    ++ filter_map (missed_entry k.keep (is_read (filter is_cumulative_reading (all_readings page)))) k.rows
+rows_behind k page moment = map (sighted_entry k.honor k.rows moment) (filter is_kept_reading (all_readings page))
+    ++ filter_map (missed_entry k.keep (is_read (filter is_kept_reading (all_readings page)))) k.rows
 
 rows_once : (k : Tracked) (page : Page) (moment : ℕ) → IsDistinct key_eq (keys_of k.rows) → HasDistinctKeys page → IsDistinct key_eq (keys_of (rows_behind k page moment))
 rows_once k page moment once distinct =
-    let rs = filter is_cumulative_reading (all_readings page) in
-    let fresh = map (sighted_entry k.rows moment) rs in
+    let rs = filter is_kept_reading (all_readings page) in
+    let fresh = map (sighted_entry k.honor k.rows moment) rs in
     let others = filter_map (missed_entry k.keep (is_read rs)) k.rows in
-    let keys : keys_of fresh ≡ map (λ (r : Reading). r.key) rs = sighted_keys k.rows moment rs in
+    let keys : keys_of fresh ≡ map (λ (r : Reading). r.key) rs = sighted_keys k.honor k.rows moment rs in
     let gone = λ (key : SeriesKey) (read : is_read rs key ≡ true). sym (is_some-lookup (key_eq key) others) ∙ ap is_some (look_missed k.keep (is_read rs) key k.rows once ∙ ap (λ (b : Bool). cond b None (option_and_then (older_row k.keep) (lookup (key_eq key) k.rows))) read) in
     let parts : IsDistinct key_eq (map (λ (r : Reading). r.key) rs ++ keys_of others)
     = apart (map (λ (r : Reading). r.key) rs) (keys_of others) (kept_once (all_readings page) distinct) (missed_once k.keep (is_read rs) k.rows once) (all_of (map (λ (r : Reading). r.key) rs) (λ x. list_any (key_eq x) (keys_of others) ≡ false) gone) in
     subst (IsDistinct key_eq) (sym (map-append (λ (e : SeriesKey × Row). e.0) fresh others ∙ ap (λ (ks : List SeriesKey). ks ++ keys_of others) keys)) parts
 
-nothing_kept : (t : Tracking) (key : SeriesKey) (past : List Scrape) → has_start key.kind ≡ false → kept_row t key past ≡ None
+nothing_kept : (t : Tracking) (key : SeriesKey) (past : List Scrape) → has_points key.kind ≡ false → kept_row t key past ≡ None
 unfolding kept_row
 nothing_kept t key past e = rw e refl
 
@@ -212,65 +213,66 @@ no_row true keep o e = refl
 no_row false keep o e = rw e refl
 
 -- the row that a reading makes beside what is kept is the one that stands for its scrape
-row_made : (t : Tracking) (past : List Scrape) (moment : ℕ) (r : Reading) (o : Option Row) → has_start r.key.kind ≡ true → o ≡ kept_row t r.key past → row_beside o moment r ≡ row_of t 0 moment r past
-unfolding row_beside row_of
-row_made t past moment r o starting e = let s = sym (row_is_enough t past moment r starting) in rw e (rw s refl)
+row_made : (t : Tracking) (honor : Bool) (past : List Scrape) (moment : ℕ) (r : Reading) (o : Option Row) → honor ≡ t.honor → o ≡ kept_row t r.key past → row_now o (time_where honor moment r) r ≡ row_now (kept_row t r.key past) (time_of t moment r) r
+row_made t honor past moment r o same e = ap (λ (b : Bool). row_now o (time_where b moment r) r) same ∙ ap (λ (x : Option Row). row_now x (time_of t moment r) r) e
 
 rows_stand : (t : Tracking) (k : Tracked) (past : List Scrape) (page : Page) (moment : ℕ) → Tracks t k past → (key : SeriesKey) → lookup (key_eq key) (rows_behind k page moment) ≡ kept_row t key (scrape_of page moment ∷ past)
-rows_stand t k past page moment tracks key = go (has_start key.kind) refl (is_present key page) refl
+rows_stand t k past page moment tracks key = go (has_points key.kind) refl (is_present key page) refl
   where
     rs : List Reading
-    rs = filter is_cumulative_reading (all_readings page)
+    rs = filter is_kept_reading (all_readings page)
 
     fresh : List (SeriesKey × Row)
-    fresh = map (sighted_entry k.rows moment) rs
+    fresh = map (sighted_entry k.honor k.rows moment) rs
 
     others : List (SeriesKey × Row)
     others = filter_map (missed_entry k.keep (is_read rs)) k.rows
 
-    go : (b : Bool) → has_start key.kind ≡ b → (c : Bool) → is_present key page ≡ c → lookup (key_eq key) (fresh ++ others) ≡ kept_row t key (scrape_of page moment ∷ past)
+    go : (b : Bool) → has_points key.kind ≡ b → (c : Bool) → is_present key page ≡ c → lookup (key_eq key) (fresh ++ others) ≡ kept_row t key (scrape_of page moment ∷ past)
     go false e c p =
-        look_second key fresh others (look_unmade k.rows moment key (all_readings page) e)
+        look_second key fresh others (look_unmade k.honor k.rows moment key (all_readings page) e)
         ∙ (look_missed k.keep (is_read rs) key k.rows tracks.once
         ∙ (no_row (is_read rs key) k.keep (lookup (key_eq key) k.rows) (tracks.rows key ∙ nothing_kept t key past e)
         ∙ sym (nothing_kept t key (scrape_of page moment ∷ past) e)))
     go true e true p =
         let found = some_is (reading_at key page) p in
         let same = reading_is_of key (scrape_of page moment) found.0 found.1 in
-        let starting : has_start found.0.key.kind ≡ true = subst (λ (x : SeriesKey). has_start x.kind ≡ true) (sym same) e in
-        look_first key fresh others (row_of t 0 moment found.0 past)
-        (look_made k.rows moment key (all_readings page) e ∙ (ap (option_map (made k.rows moment)) found.1 ∙ ap Some (row_made t past moment found.0 (lookup (key_eq found.0.key) k.rows) starting (tracks.rows found.0.key))))
+        let row : row_now (kept_row t found.0.key past) (time_of t moment found.0) found.0 ≡ row_now (kept_row t key past) (time_of t moment found.0) found.0 = ap (λ (x : SeriesKey). row_now (kept_row t x past) (time_of t moment found.0) found.0) same in
+        look_first key fresh others (row_now (kept_row t key past) (time_of t moment found.0) found.0)
+        (look_made k.honor k.rows moment key (all_readings page) e ∙ (ap (option_map (made k.honor k.rows moment)) found.1 ∙ ap (λ (x : Row). Some x) (row_made t k.honor past moment found.0 (lookup (key_eq found.0.key) k.rows) tracks.honor (tracks.rows found.0.key) ∙ row)))
         ∙ sym (row_of_sight t (scrape_of page moment) past key found.0 e found.1)
     go true e false p =
-        look_second key fresh others (look_made k.rows moment key (all_readings page) e ∙ ap (option_map (made k.rows moment)) (none_is (reading_at key page) p))
+        look_second key fresh others (look_made k.honor k.rows moment key (all_readings page) e ∙ ap (option_map (made k.honor k.rows moment)) (none_is (reading_at key page) p))
         ∙ (look_missed k.keep (is_read rs) key k.rows tracks.once
         ∙ (ap (λ (b : Bool). cond b None (option_and_then (older_row k.keep) (lookup (key_eq key) k.rows))) (read_there key (all_readings page) e ∙ p)
         ∙ (ap (λ (n : ℕ). option_and_then (older_row n) (lookup (key_eq key) k.rows)) tracks.keep
         ∙ (ap (option_and_then (older_row t.keep)) (tracks.rows key)
         ∙ sym (row_of_miss t (scrape_of page moment) past key p)))))
 
--- the starts beside the rows are those behind the past
-starts_stand : (t : Tracking) (k : Tracked) (past : List Scrape) (moment : ℕ) (rs : List Reading) → Tracks t k past → map (start_in k.rows moment) rs ≡ map (reading_start t past moment) rs
-unfolding start_in reading_start
-starts_stand t k past moment [] tracks = refl
-starts_stand t k past moment (r ∷ rs) tracks = rw (one, starts_stand t k past moment rs tracks) refl
+one_place : (t : Tracking) (k : Tracked) (past : List Scrape) (moment : ℕ) (r : Reading) → Tracks t k past → placed_in k.honor k.rows moment r ≡ reading_place t past moment r
+unfolding placed_in reading_place
+one_place t k past moment r tracks = by (has_points r.key.kind) refl
   where
-    by : (b : Bool) → has_start r.key.kind ≡ b → start_in k.rows moment r ≡ reading_start t past moment r
-    by true e = let s = row_is_enough t past moment r e in rw (e, tracks.rows r.key, s) refl
-    by false e = rw e refl
+    by : (b : Bool) → has_points r.key.kind ≡ b → cond b (Some (placed_beside (lookup (key_eq r.key) k.rows) (time_where k.honor moment r) r)) None ≡ cond b (Some (placed t past moment r)) None
+    by false e = refl
+    by true e = ap (λ (p : Placed). Some p) (ap (λ (x : Option Row). placed_beside x (time_where k.honor moment r) r) (tracks.rows r.key)
+        ∙ (ap (λ (b : Bool). placed_beside (kept_row t r.key past) (time_where b moment r) r) tracks.honor ∙ sym (row_is_enough t past moment r e)))
 
-    one : start_in k.rows moment r ≡ reading_start t past moment r
-    one = by (has_start r.key.kind) refl
+-- what readings give beside the rows is what they give behind the past
+places_stand : (t : Tracking) (k : Tracked) (past : List Scrape) (moment : ℕ) (rs : List Reading) → Tracks t k past → map (placed_in k.honor k.rows moment) rs ≡ map (reading_place t past moment) rs
+places_stand t k past moment [] tracks = refl
+places_stand t k past moment (r ∷ rs) tracks = rw (one_place t k past moment r tracks, places_stand t k past moment rs tracks) refl
 
 -- a page that was seen, and the rows that it leaves
-pub advanced : (t : Tracking) (k after : Tracked) (past : List Scrape) (page : Page) (moment : ℕ) (starts : List (Option ℕ)) (s : Sighting) → Tracks t k past → HasDistinctKeys page → Saw k.rows moment (all_readings page) s
-    → starts ≡ s.starts.items → after.keep ≡ k.keep → after.rows ≡ s.entries ++ filter_map (missed_entry k.keep (is_read (filter is_cumulative_reading (all_readings page)))) k.rows
-    → (starts ≡ map (reading_start t past moment) (all_readings page)) × Tracks t after (scrape_of page moment ∷ past)
-advanced t k after past page moment starts s tracks distinct saw is keep rows =
-    let all : after.rows ≡ rows_behind k page moment = rows ∙ ap (λ (es : List (SeriesKey × Row)). es ++ filter_map (missed_entry k.keep (is_read (filter is_cumulative_reading (all_readings page)))) k.rows) saw.entries in (
-      is ∙ (saw.starts ∙ starts_stand t k past moment (all_readings page) tracks),
+pub advanced : (t : Tracking) (k after : Tracked) (past : List Scrape) (page : Page) (moment : ℕ) (starts : List (Option Placed)) (s : Sighting) → Tracks t k past → HasDistinctKeys page → Saw k.honor k.rows moment (all_readings page) s
+    → starts ≡ s.starts.items → after.keep ≡ k.keep → after.honor ≡ k.honor → after.rows ≡ s.entries ++ filter_map (missed_entry k.keep (is_read (filter is_kept_reading (all_readings page)))) k.rows
+    → (starts ≡ map (reading_place t past moment) (all_readings page)) × Tracks t after (scrape_of page moment ∷ past)
+advanced t k after past page moment starts s tracks distinct saw is keep honor rows =
+    let all : after.rows ≡ rows_behind k page moment = rows ∙ ap (λ (es : List (SeriesKey × Row)). es ++ filter_map (missed_entry k.keep (is_read (filter is_kept_reading (all_readings page)))) k.rows) saw.entries in (
+      is ∙ (saw.starts ∙ places_stand t k past moment (all_readings page) tracks),
       record {
         keep = keep ∙ tracks.keep;
+        honor = honor ∙ tracks.honor;
         rows = λ key. ap (lookup (key_eq key)) all ∙ rows_stand t k past page moment tracks key;
         once = subst (λ (es : List (SeriesKey × Row)). IsDistinct key_eq (keys_of es)) (sym all) (rows_once k page moment tracks.once distinct);
       },
@@ -278,7 +280,7 @@ advanced t k after past page moment starts s tracks distinct saw is keep rows =
 
 -- ---- the loop over the rows
 
-both_at : (keys : List SeriesKey) (rows : List Row) (at : ℕ) (key : SeriesKey) (row : Row) → slice_get keys at ≡ Some key → slice_get rows at ≡ Some row → slice_get (zip keys rows) at ≡ Some (key, row)
+pub both_at : (keys : List SeriesKey) (rows : List Row) (at : ℕ) (key : SeriesKey) (row : Row) → slice_get keys at ≡ Some key → slice_get rows at ≡ Some row → slice_get (zip keys rows) at ≡ Some (key, row)
 both_at [] rows at key row k r = absurd cc
 both_at (x ∷ keys) [] at key row k r = absurd cc
 both_at (x ∷ keys) (y ∷ rows) zero key row k r = let a : x ≡ key = same_Some x key k in let b : y ≡ row = same_Some y row r in rw (a, b) refl
@@ -338,17 +340,17 @@ row_marked keep keys rows found now at start before next mark in_keys in_rows e 
 -- ---- a whole page
 
 -- what the steps give together
-pub page_advanced : (t : Tracking) (past : List Scrape) (keep : ℕ) (keys : List SeriesKey) (rows : List Row) (k : Tracked) (page : Page) (moment n : ℕ) (families : List Family) (first seen : Sighting) (found : List Bool)
-    (entries : List (SeriesKey × Row)) (after : Tracked) (starts : List (Option ℕ)) → record { keep = keep; rows = zip keys rows } ≡ k → length keys ≡ length rows → families ≡ page.families → n ≡ length rows
-    → first.starts.items ≡ [] → first.entries ≡ [] → first.found.items ≡ replicate n false → Sees (zip keys rows) moment (flat_map (λ (f : Family). f.readings) families) first seen → found ≡ seen.found.items
-    → ((present : SeriesKey → Bool) → found ≡ map present keys → entries ≡ seen.entries ++ filter_map (missed_entry keep present) (zip keys rows)) → after.keep ≡ keep → after.rows ≡ entries → starts ≡ seen.starts.items
-    → Tracks t k past → HasDistinctKeys page → (starts ≡ map (reading_start t past moment) (all_readings page)) × Tracks t after (scrape_of page moment ∷ past)
-page_advanced t past keep keys rows k page moment n families first seen found entries after starts view even families_is long none nobody unmarked sees found_is kept keep_is rows_is starts_is tracks distinct =
-    let own : Tracked = record { keep = keep; rows = zip keys rows } in
+pub page_advanced : (t : Tracking) (past : List Scrape) (keep : ℕ) (honor : Bool) (keys : List SeriesKey) (rows : List Row) (k : Tracked) (page : Page) (moment n : ℕ) (families : List Family) (first seen : Sighting) (found : List Bool)
+    (entries : List (SeriesKey × Row)) (after : Tracked) (starts : List (Option Placed)) → record { keep = keep; honor = honor; rows = zip keys rows } ≡ k → length keys ≡ length rows → families ≡ page.families → n ≡ length rows
+    → first.starts.items ≡ [] → first.entries ≡ [] → first.found.items ≡ replicate n false → Sees honor (zip keys rows) moment (flat_map (λ (f : Family). f.readings) families) first seen → found ≡ seen.found.items
+    → ((present : SeriesKey → Bool) → found ≡ map present keys → entries ≡ seen.entries ++ filter_map (missed_entry keep present) (zip keys rows)) → after.keep ≡ keep → after.honor ≡ honor → after.rows ≡ entries → starts ≡ seen.starts.items
+    → Tracks t k past → HasDistinctKeys page → (starts ≡ map (reading_place t past moment) (all_readings page)) × Tracks t after (scrape_of page moment ∷ past)
+page_advanced t past keep honor keys rows k page moment n families first seen found entries after starts view even families_is long none nobody unmarked sees found_is kept keep_is honor_is rows_is starts_is tracks distinct =
+    let own : Tracked = record { keep = keep; honor = honor; rows = zip keys rows } in
     let stands : Tracks t own past = subst (λ (x : Tracked). Tracks t x past) (sym view) tracks in
-    let before : Saw (zip keys rows) moment [] first = saw_nothing (zip keys rows) moment n first (long ∙ sym (zip_length keys rows even)) none nobody unmarked in
-    let all : Sees (zip keys rows) moment (all_readings page) first seen = subst (λ (fs : List Family). Sees (zip keys rows) moment (flat_map (λ (f : Family). f.readings) fs) first seen) families_is sees in
-    let saw : Saw (zip keys rows) moment (all_readings page) seen = all stands.once [] before in
-    let present = is_read (filter is_cumulative_reading (all_readings page)) in
+    let before : Saw honor (zip keys rows) moment [] first = saw_nothing honor (zip keys rows) moment n first (long ∙ sym (zip_length keys rows even)) none nobody unmarked in
+    let all : Sees honor (zip keys rows) moment (all_readings page) first seen = subst (λ (fs : List Family). Sees honor (zip keys rows) moment (flat_map (λ (f : Family). f.readings) fs) first seen) families_is sees in
+    let saw : Saw honor (zip keys rows) moment (all_readings page) seen = all stands.once [] before in
+    let present = is_read (filter is_kept_reading (all_readings page)) in
     let marks : found ≡ map present keys = found_is ∙ (saw.found ∙ ap (map present) (keys_of-zip keys rows (sym even))) in
-    advanced t own after past page moment starts seen stands distinct saw starts_is keep_is (rows_is ∙ kept present marks)
+    advanced t own after past page moment starts seen stands distinct saw starts_is keep_is honor_is (rows_is ∙ kept present marks)

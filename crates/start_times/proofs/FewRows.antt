@@ -13,14 +13,14 @@ use Rattle.page_model.specs.declared.page.Reading.{Reading}
 use Rattle.page_model.specs.Presence as presence
 use Rattle.page_model.specs.Presence.{all_readings, is_present}
 use Rattle.start_times.specs.Scrapes.{Scrape}
-use Rattle.start_times.specs.Starts.{Tracking, has_start}
+use Rattle.start_times.specs.Starts.{Tracking, has_points}
 use Rattle.start_times.specs.Rows.{row_behind, kept_row, reading_count, most_readings}
 use Rattle.start_times.specs.Laws.{RowsAreFew}
 use Rattle.start_times.proofs.Found.{key_equal, key_itself}
 
 -- ---- distinct keys that all stand in a list are no more than the list
 
-others : SeriesKey → List SeriesKey → List SeriesKey
+unfoldable pub others : SeriesKey → List SeriesKey → List SeriesKey
 others x ys = filter (λ y. not (key_eq x y)) ys
 
 no_more : (x : SeriesKey) (zs : List SeriesKey) → length (others x zs) ≤ length zs
@@ -41,7 +41,7 @@ fewer x (y ∷ ys) h = go (key_eq x y) refl (no_more x ys) (fewer x ys)
     go true p i later = rw p (omega arith)
     go false p i later = rw p (let k = later (rw p at h) in omega arith)
 
-still_there : (x k : SeriesKey) (ys : List SeriesKey) → key_eq x k ≡ false → list_any (key_eq k) ys ≡ true → list_any (key_eq k) (others x ys) ≡ true
+pub still_there : (x k : SeriesKey) (ys : List SeriesKey) → key_eq x k ≡ false → list_any (key_eq k) ys ≡ true → list_any (key_eq k) (others x ys) ≡ true
 unfolding others
 still_there x k [] apart h = absurd cc
 still_there x k (y ∷ ys) apart h = go (key_eq x y) refl (key_eq k y) refl (still_there x k ys apart)
@@ -79,7 +79,7 @@ no_more_than (x ∷ xs) ys once there =
 -- ---- the keys of the scrapes that count
 
 -- the keys of these scrapes
-seen_keys : List Scrape → List SeriesKey
+unfoldable pub seen_keys : List Scrape → List SeriesKey
 seen_keys [] = []
 seen_keys (s ∷ past) = presence.keys_of s.page ++ seen_keys past
 
@@ -117,11 +117,11 @@ row_seen t key (s ∷ past) age (suc n) e h = go (is_present key s.page) refl (r
     go false p later = rw (list_any-append (key_eq key) (presence.keys_of s.page) (seen_keys (take n past))) (or_right (list_any (key_eq key) (presence.keys_of s.page)) (list_any (key_eq key) (seen_keys (take n past))) (later (rw p at h)))
 
 -- a row that is kept is one of a series that one of the scrapes that count has
-kept_seen : (t : Tracking) (key : SeriesKey) (past : List Scrape) → is_some (kept_row t key past) ≡ true → list_any (key_eq key) (seen_keys (take (t.keep + 1) past)) ≡ true
+pub kept_seen : (t : Tracking) (key : SeriesKey) (past : List Scrape) → is_some (kept_row t key past) ≡ true → list_any (key_eq key) (seen_keys (take (t.keep + 1) past)) ≡ true
 unfolding kept_row
-kept_seen t key past h = go (has_start key.kind) refl
+kept_seen t key past h = go (has_points key.kind) refl
   where
-    go : (b : Bool) → has_start key.kind ≡ b → list_any (key_eq key) (seen_keys (take (t.keep + 1) past)) ≡ true
+    go : (b : Bool) → has_points key.kind ≡ b → list_any (key_eq key) (seen_keys (take (t.keep + 1) past)) ≡ true
     go true p = row_seen t key past 0 (t.keep + 1) (omega arith) (rw p at h)
     go false p = absurd (let f : false ≡ true = rw p at h in cc)
 

@@ -7,39 +7,36 @@ use Rattle.label_sets.specs.declared.series_key.SeriesKey.{SeriesKey}
 use Rattle.label_sets.specs.Keys.{key_eq}
 use Rattle.page_model.specs.declared.page.Reading.{Reading}
 use Rattle.start_times.specs.declared.row.Row.{Row}
+use Rattle.start_times.specs.declared.row.Placed.{Placed}
 use Rattle.start_times.specs.declared.sighting.Sighting.{Sighting}
-use Rattle.start_times.specs.Starts.{has_start, created_at, last_of}
-use Rattle.start_times.specs.Rows.{start_beside, older_row}
+use Rattle.start_times.specs.Starts.{has_points, time_where}
+use Rattle.start_times.specs.Rows.{placed_beside, row_now, older_row}
 
--- the row that a reading makes, beside the row that was kept of its series
-unfoldable pub row_beside : Option Row → ℕ → Reading → Row
-row_beside row moment r = record { start = start_beside row moment r; created = created_at moment r; last = last_of r.value; age = 0 }
+-- what a reading gives beside these rows, where its kind has points
+unfoldable pub placed_in : Bool → List (SeriesKey × Row) → ℕ → Reading → Option Placed
+placed_in honor rows moment r = if has_points r.key.kind then Some (placed_beside (lookup (key_eq r.key) rows) (time_where honor moment r) r) else None
 
--- the start of a reading beside these rows, where its kind has starts
-unfoldable pub start_in : List (SeriesKey × Row) → ℕ → Reading → Option ℕ
-start_in rows moment r = if has_start r.key.kind then Some (start_beside (lookup (key_eq r.key) rows) moment r) else None
-
--- its kind has starts
-abbrev pub is_cumulative_reading : Reading → Bool
-is_cumulative_reading r = has_start r.key.kind
+-- its kind has points, so that a row is kept of its series
+abbrev pub is_kept_reading : Reading → Bool
+is_kept_reading r = has_points r.key.kind
 
 -- a series with the row that its reading makes beside these rows
-abbrev pub sighted_entry : List (SeriesKey × Row) → ℕ → Reading → SeriesKey × Row
-sighted_entry rows moment r = (r.key, row_beside (lookup (key_eq r.key) rows) moment r)
+abbrev pub sighted_entry : Bool → List (SeriesKey × Row) → ℕ → Reading → SeriesKey × Row
+sighted_entry honor rows moment r = (r.key, row_now (lookup (key_eq r.key) rows) (time_where honor moment r) r)
 
 -- the series has one of these readings
 abbrev pub is_read : List Reading → SeriesKey → Bool
 is_read rs key = list_any (key_eq key) (map (λ (r : Reading). r.key) rs)
 
--- these readings were seen: their starts, the rows that they make, and which of the rows before they are of
-pub record Saw (rows : List (SeriesKey × Row)) (moment : ℕ) (rs : List Reading) (s : Sighting) : Type 0 where
-  pub starts : s.starts.items ≡ map (start_in rows moment) rs
-  pub entries : s.entries ≡ map (sighted_entry rows moment) (filter is_cumulative_reading rs)
-  pub found : s.found.items ≡ map (is_read (filter is_cumulative_reading rs)) (keys_of rows)
+-- these readings were seen: what they give, the rows that they make, and which of the rows before they are of
+pub record Saw (honor : Bool) (rows : List (SeriesKey × Row)) (moment : ℕ) (rs : List Reading) (s : Sighting) : Type 0 where
+  pub starts : s.starts.items ≡ map (placed_in honor rows moment) rs
+  pub entries : s.entries ≡ map (sighted_entry honor rows moment) (filter is_kept_reading rs)
+  pub found : s.found.items ≡ map (is_read (filter is_kept_reading rs)) (keys_of rows)
 
 -- behind each readings that were seen: these were seen too, where no series has two rows
-abbrev pub Sees : List (SeriesKey × Row) → ℕ → List Reading → Sighting → Sighting → Type 0
-Sees rows moment rs before after = IsDistinct key_eq (keys_of rows) → (front : List Reading) → Saw rows moment front before → Saw rows moment (front ++ rs) after
+abbrev pub Sees : Bool → List (SeriesKey × Row) → ℕ → List Reading → Sighting → Sighting → Type 0
+Sees honor rows moment rs before after = IsDistinct key_eq (keys_of rows) → (front : List Reading) → Saw honor rows moment front before → Saw honor rows moment (front ++ rs) after
 
 -- a series with its row one scrape later, where that misses it and the row is kept
 abbrev pub missed_entry : ℕ → (SeriesKey → Bool) → SeriesKey × Row → Option (SeriesKey × Row)

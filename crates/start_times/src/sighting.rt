@@ -1,16 +1,15 @@
 //! What one page makes of the rows, reading by reading.
-ghost use Rattle.std.specs.Prelude.{◌≡◌, ◌++◌, [], ◌∷◌, true, false, zip, map, replicate, slice_set, slice_index_or, length, slice_get, option_map, option_and_then, MatchOption, IfOk, OnOk};
+ghost use Rattle.std.specs.Prelude.{◌≡◌, ◌++◌, [], ◌∷◌, true, false, zip, map, replicate, slice_set, slice_index_or, length, slice_get, option_and_then, MatchOption, IfOk, OnOk};
 ghost use Rattle.std.specs.List.{IsDistinct, flat_map};
 ghost use Rattle.std.specs.Option.{option_copied, option_to_list};
 ghost use Rattle.label_sets.specs.Keys.{key_eq};
 ghost use Rattle.page_model.specs.declared.page.Family.{Family as OneFamily};
-ghost use Rattle.start_times.specs.declared.row.Row.{Row as OneRow};
-ghost use Rattle.start_times.specs.Rows.{kept_start};
+ghost use Rattle.start_times.specs.Rows.{kept_start, row_start as start_of_row};
 ghost use Rattle.start_times.specs.Sightings.{Sees, KeepsMissed, missed_entry};
 
 use crate::entries::Entries;
-use crate::row::{Row, next_row, older_row};
-use crate::values::has_start;
+use crate::row::{Placed, Row, next_beside, older_row};
+use crate::values::{has_points, has_start, time_of};
 use label_sets::{List, Memory, SeriesKey};
 use packed_keys::SeriesPlaces;
 use page_model::{Family, Reading};
@@ -19,8 +18,8 @@ use std::alloc::Global;
 /// What was seen of a page so far.
 #[derive(Drop)]
 pub(crate) struct Sighting {
-    /// The starts of its readings.
-    pub(crate) starts: Vec<Option<u64>>,
+    /// What its readings give.
+    pub(crate) starts: Vec<Option<Placed>>,
     /// The rows that they make.
     pub(crate) entries: Entries,
     /// Which of the rows before it they are of.
@@ -48,11 +47,24 @@ fn row_at(rows: &List<Row>, at: Option<usize>) -> Option<&Row>
     }
 }
 
-/// The start of the row at a place.
-fn start_at(rows: &List<Row>, at: Option<usize>) -> Option<u64>
-    ensures { result ≡ option_map (λ (row : OneRow). row.start) (option_and_then (slice_get rows.now) at) }
+/// The start of a row, where the kind of its series has starts.
+fn row_start(key: &SeriesKey, row: &Row) -> Option<u64>
+    ensures { result ≡ start_of_row key.now row.now }
 {
-    row_at(rows, at).map(|row| row.start)
+    if !has_start(key.kind) {
+        return None;
+    }
+    Some(row.start)
+}
+
+/// The start of the row at a place, where the kind of its series has starts.
+fn start_at(rows: &List<Row>, at: Option<usize>, key: &SeriesKey) -> Option<u64>
+    ensures { result ≡ option_and_then (start_of_row key.now) (option_and_then (slice_get rows.now) at) }
+{
+    match row_at(rows, at) {
+        Some(row) => row_start(key, row),
+        None => None,
+    }
 }
 
 /// The starts of the rows of series, one after the other.
@@ -68,7 +80,7 @@ fn starts_at(
     let mut starts = Vec::with_capacity(alloc, keys.len())?;
     for key in keys {
         let at = places.find(alloc, key)?;
-        starts.push(start_at(rows, at))?;
+        starts.push(start_at(rows, at, key))?;
     }
     Ok(starts)
 }
@@ -102,6 +114,7 @@ fn mark(found: &mut Vec<bool>, at: Option<usize>)
 /// Sees a reading beside the rows.
 pub(crate) fn see(
     alloc: Global,
+    honor: bool,
     moment: u64,
     rows: &List<Row>,
     places: &mut SeriesPlaces,
@@ -110,17 +123,17 @@ pub(crate) fn see(
 ) -> Result<(), Memory>
     requires { length places.old ≡ length rows.now }
     ensures places { places.new ≡ places.old }
-    ensures seen { OnOk result (Sees (zip places.old rows.now) moment (reading.now ∷ []) seen.old seen.new) }
+    ensures seen { OnOk result (Sees honor (zip places.old rows.now) moment (reading.now ∷ []) seen.old seen.new) }
 {
-    if !has_start(reading.key.kind) {
+    if !has_points(reading.key.kind) {
         seen.starts.push(None)?;
         return Ok(());
     }
+    let time = time_of(honor, moment, reading);
     let at = places.find(alloc, &reading.key)?;
-    let row = next_row(alloc, row_at(rows, at), moment, reading)?;
-    let start = row.start;
-    seen.entries.push(&reading.key, row)?;
-    seen.starts.push(Some(start))?;
+    let next = next_beside(alloc, row_at(rows, at), time, reading)?;
+    seen.starts.push(Some(next.placed))?;
+    seen.entries.push(&reading.key, next.row)?;
     mark(&mut seen.found, at);
     Ok(())
 }
@@ -128,6 +141,7 @@ pub(crate) fn see(
 /// Sees the readings of a family.
 fn see_all(
     alloc: Global,
+    honor: bool,
     moment: u64,
     rows: &List<Row>,
     places: &mut SeriesPlaces,
@@ -136,10 +150,10 @@ fn see_all(
 ) -> Result<(), Memory>
     requires { length places.old ≡ length rows.now }
     ensures places { places.new ≡ places.old }
-    ensures seen { OnOk result (Sees (zip places.old rows.now) moment readings.now seen.old seen.new) }
+    ensures seen { OnOk result (Sees honor (zip places.old rows.now) moment readings.now seen.old seen.new) }
 {
     for reading in readings {
-        see(alloc, moment, rows, places, seen, reading)?;
+        see(alloc, honor, moment, rows, places, seen, reading)?;
     }
     Ok(())
 }
@@ -147,6 +161,7 @@ fn see_all(
 /// Sees the readings of families.
 fn see_families(
     alloc: Global,
+    honor: bool,
     moment: u64,
     rows: &List<Row>,
     places: &mut SeriesPlaces,
@@ -155,11 +170,12 @@ fn see_families(
 ) -> Result<(), Memory>
     requires { length places.old ≡ length rows.now }
     ensures places { places.new ≡ places.old }
-    ensures seen { OnOk result (Sees (zip places.old rows.now) moment (flat_map (λ (f : OneFamily). f.readings) families.now) seen.old seen.new) }
+    ensures seen { OnOk result (Sees honor (zip places.old rows.now) moment (flat_map (λ (f : OneFamily). f.readings) families.now) seen.old seen.new) }
 {
     for family in families {
         see_all(
             alloc,
+            honor,
             moment,
             rows,
             places,
@@ -173,6 +189,7 @@ fn see_families(
 /// Sees the readings of families beside these series with their rows.
 pub(crate) fn see_beside(
     alloc: Global,
+    honor: bool,
     moment: u64,
     keys: &List<SeriesKey>,
     rows: &List<Row>,
@@ -180,10 +197,10 @@ pub(crate) fn see_beside(
     families: &[Family],
 ) -> Result<(), Memory>
     requires { length keys.now ≡ length rows.now }
-    ensures { OnOk result (Sees (zip keys.now rows.now) moment (flat_map (λ (f : OneFamily). f.readings) families.now) seen.old seen.new) }
+    ensures { OnOk result (Sees honor (zip keys.now rows.now) moment (flat_map (λ (f : OneFamily). f.readings) families.now) seen.old seen.new) }
 {
     let mut places = SeriesPlaces::of(alloc, keys.copy()?);
-    see_families(alloc, moment, rows, &mut places, seen, families)
+    see_families(alloc, honor, moment, rows, &mut places, seen, families)
 }
 
 /// Whether the row at a place was found.

@@ -1,4 +1,4 @@
-//! What is remembered of a reading's value, and when its page says that its series was created.
+//! What a reading says of its kind, its time, the creation of its series and its value.
 ghost use Rattle.std.specs.Prelude.{◌≡◌, unwrap_or, IfOk};
 ghost use Rattle.start_times.specs.Starts as spec;
 
@@ -7,6 +7,14 @@ use histogram_layout::{Layout, is_cumulative, layout};
 use label_sets::{Kind, List, Memory};
 use page_model::{Bucket, Reading, Value};
 use std::alloc::Global;
+
+/// Whether series of a kind have points: all but gauge histograms.
+#[tactic(auto, unfolding(crate::specs::Starts::has_points))]
+pub fn has_points(kind: Kind) -> bool
+    ensures { result ≡ spec.has_points kind }
+{
+    !matches!(kind, Kind::GaugeHistogram)
+}
 
 /// Whether the points of a kind have a start.
 #[tactic(auto, unfolding(crate::specs::Starts::has_start))]
@@ -19,6 +27,16 @@ pub fn has_start(kind: Kind) -> bool
     }
 }
 
+/// The time of a reading: its own, where times of the page count and it has one, else the moment of the scrape.
+pub fn time_of(honor: bool, moment: u64, reading: &Reading) -> u64
+    ensures { result ≡ spec.time_where honor moment reading.now }
+{
+    if !honor {
+        return moment;
+    }
+    reading.stamp.unwrap_or(moment)
+}
+
 /// The time, where it isn't after the limit.
 #[tactic(auto, unfolding(crate::specs::Starts::up_to))]
 fn up_to(limit: u64, time: u64) -> Option<u64>
@@ -27,17 +45,17 @@ fn up_to(limit: u64, time: u64) -> Option<u64>
     if time <= limit { Some(time) } else { None }
 }
 
-/// When the page says that the series was created, where that isn't after the moment.
-pub fn created_at(moment: u64, reading: &Reading) -> Option<u64>
-    ensures { result ≡ spec.created_at moment reading.now }
+/// When the page says that the series was created, where that isn't after the time of the reading.
+pub fn created_at(time: u64, reading: &Reading) -> Option<u64>
+    ensures { result ≡ spec.created_at time reading.now }
 {
     let Some(created) = &reading.created else {
         return None;
     };
-    let Some(time) = exact_decimal::nanos(created) else {
+    let Some(created) = exact_decimal::nanos(created) else {
         return None;
     };
-    up_to(moment, time)
+    up_to(time, created)
 }
 
 /// The layout of buckets, or the one without buckets where they are not cumulative.

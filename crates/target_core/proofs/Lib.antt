@@ -7,6 +7,8 @@ mod Stepping
 mod EmptyPast
 mod Placed
 mod Rising
+mod MarkedOnce
 mod Cases
+mod OwnTimes
 pub mod Cumulative
 pub mod Laws

@@ -1,5 +1,5 @@
 -- What a function gives of the values of a list, one after the other.
-use Rattle.std.proofs.Common.{rules, ◌≡◌, ℕ, ◌+◌, ◌<◌, ap, sym, ◌∙◌, List, [], ◌∷◌, ◌++◌, Option, Some, None, length, take, get_or, map, add-one, ◌⊎◌, inl, inr}
+use Rattle.std.proofs.Common.{rules, ◌≡◌, ℕ, ◌+◌, ◌<◌, ap, sym, ◌∙◌, List, [], ◌∷◌, ◌++◌, Option, Some, None, option_and_then, length, take, get_or, map, add-one, ◌⊎◌, inl, inr}
 use Rattle.std.specs.List.{filter_map, cons_option, zip}
 use Rattle.std.proofs.Math.Seq.{take-suc}
 use Rattle.std.proofs.lemmas.List.{append-nil, append_assoc}
@@ -26,10 +26,15 @@ pub passed_at : {X Y : Type 0} (h : X → Option Y) (xs : List X) (i : ℕ) (x :
     → filter_map h (take (i + 1) xs) ≡ filter_map h (take i xs)
 passed_at h xs i x within read is = ap (filter_map h) (one_more xs i x within read) ∙ passed_over h (take i xs) x is
 
--- what a function gives of images
-pub filter_map-map : {W X Y : Type 0} (h : X → Option Y) (f : W → X) (ws : List W) → filter_map h (map f ws) ≡ filter_map (λ w. h (f w)) ws
-filter_map-map h f [] = search rules
-filter_map-map h f (w ∷ ws) = ap (cons_option (h (f w))) (filter_map-map h f ws)
+-- what a function gives of what another one gives
+pub filter_map-filter_map : {W X Y : Type 0} (h : X → Option Y) (f : W → Option X) (ws : List W) → filter_map h (filter_map f ws) ≡ filter_map (λ w. option_and_then h (f w)) ws
+filter_map-filter_map h f [] = search rules
+filter_map-filter_map {W} {X} {Y} h f (w ∷ ws) = by (f w) (filter_map-filter_map h f ws)
+  where
+    by : (o : Option X) → filter_map h (filter_map f ws) ≡ filter_map (λ w. option_and_then h (f w)) ws
+        → filter_map h (cons_option o (filter_map f ws)) ≡ cons_option (option_and_then h o) (filter_map (λ w. option_and_then h (f w)) ws)
+    by None rest = rest
+    by (Some x) rest = ap (cons_option (h x)) rest
 
 -- ---- pairs of two lists, from their fronts on
 

@@ -1,6 +1,6 @@
 -- The tree of an event behind the earlier events of its target, the nearest first, and what the target shows then.
 -- OpenTelemetry metrics data model, "Resets and Gaps"; OTLP 1.x, "DataPointFlags" (no recorded value).
-use Rattle.std.specs.Prelude.{ℕ, List, [], ◌∷◌, map, unwrap_or, Option, Some, None, if◌then◌else◌}
+use Rattle.std.specs.Prelude.{ℕ, Bool, List, [], ◌∷◌, map, min, unwrap_or, Option, Some, None, option_map, if◌then◌else◌}
 use Rattle.label_sets.specs.declared.series_key.SeriesKey.{SeriesKey}
 use Rattle.page_model.specs.declared.page.Reading.{Reading}
 use Rattle.page_model.specs.declared.page.Page.{Page}
@@ -9,8 +9,10 @@ use Rattle.page_model.specs.declared.event.Event.{Event}
 use Rattle.page_model.specs.declared.event.Shown.{Shown}
 use Rattle.page_model.specs.Presence.{filled_page}
 use Rattle.start_times.specs.declared.row.Row.{Row}
+use Rattle.start_times.specs.declared.row.Placed.{Placed}
+use Rattle.start_times.specs.declared.row.Placed.TheVariants.{At}
 use Rattle.start_times.specs.Scrapes.{Scrape, last_moment, last_page, scrape_after, scrapes_of}
-use Rattle.start_times.specs.Starts.{Tracking, has_start, created_at, reading_start, start_there}
+use Rattle.start_times.specs.Starts.{Tracking, has_points, time_where, created_at, reading_place, start_there}
 use Rattle.start_times.specs.Rows.{kept_start}
 use Rattle.staleness.specs.Vanished.{keys_gone}
 use Rattle.otlp_tree.specs.declared.tree.Request.{Request}
@@ -18,24 +20,24 @@ use Rattle.bridge_ports.specs.Targets.{Scraped}
 use Rattle.target_core.specs.declared.markers.Marker.{Marker}
 use Rattle.target_core.specs.Trees.{request_with}
 
--- the marker of a series that is gone, with the start that it had
+-- the marker of a series that is gone, with the start that it had, but none after the marker's time
 unfoldable pub marker_with : (SeriesKey → Option ℕ) → ℕ → SeriesKey → Marker
-marker_with start moment key = record { key = key; start = start key; time = moment }
+marker_with start moment key = record { key = key; start = option_map (min moment) (start key); time = moment }
 
--- the markers of a scrape: of each series that the scrape before had and this one lacks, with the start that it had there
+-- the markers of a scrape: of each series that the scrape before had, without a time of its own, and this one lacks, with the start that it had where it was last taken
 abbrev pub markers_at : Tracking → List Scrape → Scrape → List Marker
-markers_at t past now = map (marker_with (start_there t past) now.moment) (keys_gone (last_page past) now.page)
+markers_at t past now = map (marker_with (start_there t past) now.moment) (keys_gone t (last_page past) now.page)
 
 -- the markers of the series that the page before has and the page now lacks, with the starts that these rows keep
-abbrev pub kept_markers : List (SeriesKey × Row) → ℕ → Page → Page → List Marker
-kept_markers rows moment before now = map (marker_with (kept_start rows) moment) (keys_gone before now)
+abbrev pub kept_markers : Tracking → List (SeriesKey × Row) → ℕ → Page → Page → List Marker
+kept_markers t rows moment before now = map (marker_with (kept_start rows) moment) (keys_gone t before now)
 
 -- the tree of an event behind these earlier events
 unfoldable pub request_after : Scraped → Tracking → List Event → Event → Request
 request_after target t earlier e =
     let past = scrapes_of earlier in
     let now = scrape_after past e in
-    request_with target (reading_start t past now.moment) (markers_at t past now) now.moment e.outcome
+    request_with target (reading_place t past now.moment) (markers_at t past now) now.moment e.outcome
 
 -- the trees of all these events, the last first
 abbrev pub requests_of : Scraped → Tracking → List Event → List Request
@@ -53,10 +55,12 @@ latest_shown target events = record {
 
 -- ---- the first event
 
--- the start of a reading without a past, where its kind has starts
-unfoldable pub first_start : ℕ → Reading → Option ℕ
-first_start moment r = if has_start r.key.kind then Some (unwrap_or (created_at moment r) moment) else None
+-- what a reading without a past gives, where times of the page count or not: a point at its time, with the start that its created time is, where that counts, else its time
+unfoldable pub first_place : Bool → ℕ → Reading → Option Placed
+first_place honor moment r =
+    let time = time_where honor moment r in
+    if has_points r.key.kind then Some (At time (unwrap_or (created_at time r) time)) else None
 
 -- the tree of the event of a target without a past, at this moment
 unfoldable pub event_request : Scraped → ℕ → Outcome → Request
-event_request target moment outcome = request_with target (first_start moment) [] moment outcome
+event_request target moment outcome = request_with target (first_place target.honor moment) [] moment outcome

@@ -1,14 +1,17 @@
 -- The points of the readings of one scrape.
 -- OpenTelemetry metrics data model, "Metric Points", "Histogram", "Summary"; "Prometheus and OpenMetrics Compatibility", "Prometheus Metric points to OTLP".
-use Rattle.std.specs.Prelude.{◌≡◌, ⊤, true, ℕ, List, map, Option, Some, None, option_map, unwrap_or, All}
+use Rattle.std.specs.Prelude.{◌≡◌, ⊤, true, ℕ, List, filter_map, Option, Some, None, option_map, unwrap_or, All, if◌then◌else◌}
 use Rattle.std.specs.List.{zip}
+use Rattle.label_sets.specs.declared.kind.Kind.{Kind}
 use Rattle.exact_decimal.specs.declared.number.Number.{Number}
 use Rattle.exact_decimal.specs.Numbers.{number_of}
 use Rattle.page_model.specs.declared.page.Value.{Value}
 use Rattle.page_model.specs.declared.page.Value.TheVariants as values
 use Rattle.page_model.specs.declared.page.Reading.{Reading}
 use Rattle.histogram_layout.specs.Layouts.{are_cumulative}
-use Rattle.start_times.specs.Starts.{cumulative_layout}
+use Rattle.start_times.specs.declared.row.Placed.{Placed}
+use Rattle.start_times.specs.declared.row.Placed.TheVariants.{At}
+use Rattle.start_times.specs.Starts.{has_start, cumulative_layout}
 use Rattle.otlp_tree.specs.declared.tree.NumberPoint.{NumberPoint}
 use Rattle.otlp_tree.specs.declared.tree.HistogramPoint.{HistogramPoint}
 use Rattle.otlp_tree.specs.declared.tree.HistogramValue.{HistogramValue}
@@ -26,17 +29,26 @@ pub record Point : Type 0 where
   pub time : ℕ
   pub value : Value
 
--- the point of a reading whose series began then
-unfoldable pub point_at : Option ℕ → ℕ → Reading → Point
-point_at start moment r = record { labels = r.key.labels; start = start; time = moment; value = r.value }
+-- the start, where the kind has starts
+abbrev pub start_for : Kind → ℕ → Option ℕ
+start_for kind start = if has_start kind then Some start else None
 
--- the point of a reading, with the start that its series has
-abbrev pub point_of : (Reading → Option ℕ) → ℕ → Reading → Point
-point_of start moment r = point_at (start r) moment r
+-- the point of a reading that is taken at this time, where its series began then
+unfoldable pub point_at : ℕ → ℕ → Reading → Point
+point_at time start r = record { labels = r.key.labels; start = start_for r.key.kind start; time = time; value = r.value }
 
--- the points of readings with the starts beside them
-abbrev pub points_with : ℕ → List Reading → List (Option ℕ) → List Point
-points_with moment readings starts = map (λ (p : Reading × Option ℕ). point_at p.1 moment p.0) (zip readings starts)
+-- the point of a reading at its place; none where it has no place, or is late
+abbrev pub point_in : Option Placed → Reading → Option Point
+point_in (Some (At time start)) r = Some (point_at time start r)
+point_in _ r = None
+
+-- the point of a reading, where the place that it has gives one
+abbrev pub point_of : (Reading → Option Placed) → Reading → Option Point
+point_of place r = point_in (place r) r
+
+-- the points of readings with the places beside them
+abbrev pub points_with : List Reading → List (Option Placed) → List Point
+points_with readings places = filter_map (λ (p : Reading × Option Placed). point_in p.1 p.0) (zip readings places)
 
 -- ---- values
 

@@ -11,6 +11,7 @@ use Rattle.page_model.specs.declared.event.Event.{Event}
 use Rattle.page_model.specs.declared.event.Shown.{Shown}
 use Rattle.page_model.specs.Presence.{all_readings, page_of_outcome, filled_page}
 use Rattle.start_times.specs.declared.row.Row.{Row}
+use Rattle.start_times.specs.declared.row.Placed.{Placed}
 use Rattle.start_times.specs.Scrapes.{Scrape, last_moment, last_page, moment_after, scrapes_of}
 use Rattle.start_times.specs.Starts.{Tracking}
 use Rattle.start_times.specs.Rows.{Tracked, Tracks}
@@ -38,6 +39,7 @@ told_scrapes true (last ∷ before) = before
 -- the state stands for these events of a target, the nearest first
 pub record StandsFor (target : Scraped) (t : Tracking) (s : Following) (events : List Event) : Type 0 where
   pub target_is : s.target ≡ target
+  pub honor_is : t.honor ≡ target.honor
   pub tracks : Tracks t s.tracked (told_scrapes s.pending (scrapes_of events))
   pub distinct : s.pending ≡ true → HasDistinctKeys s.page
   pub page_is : s.page ≡ filled_page (last_page (scrapes_of events))
@@ -58,10 +60,10 @@ pub record ComesTo (before : Option ℕ) (e : Event) (moment up : ℕ) (page : P
   pub up_is : up ≡ up_of e.outcome
   pub page_is : page ≡ page_of_outcome e.outcome
 
--- where these are the starts of the page's readings, and no series has two rows: the tree has those starts, and the markers of the series that the page lacks
-abbrev pub IsTreeBehind : Following → List (SeriesKey × Row) → ℕ → ℕ → Page → List (Option ℕ) → Request → Type 0
-IsTreeBehind s rows moment up page starts tree = (start : Reading → Option ℕ) → starts ≡ map start (all_readings page) → IsDistinct key_eq (row_keys rows)
-    → tree ≡ request_of s.target start (kept_markers rows moment s.page page) moment up page
+-- where these are the places of the page's readings, and no series has two rows: the tree has those places, and the markers of the series that the page lacks
+abbrev pub IsTreeBehind : Following → List (SeriesKey × Row) → ℕ → ℕ → Page → List (Option Placed) → Request → Type 0
+IsTreeBehind s rows moment up page places tree = (t : Tracking) (place : Reading → Option Placed) → t.honor ≡ s.target.honor → places ≡ map place (all_readings page) → IsDistinct key_eq (row_keys rows)
+    → tree ≡ request_of s.target place (kept_markers t rows moment s.page page) moment up page
 
 -- behind all events for which the state stood: the tree is that of the event, and the state that follows stands for one event more
 abbrev pub Steps : Following → Event → Request → Following → Type 0

@@ -1,4 +1,4 @@
--- The metrics of a page and the tree of an event, with the starts and the markers that the past of its target gives.
+-- The metrics of a page and the tree of an event, with the times, the starts and the markers that the past of its target gives.
 -- OpenTelemetry metrics data model, "Sums", "Gauge", "Histogram" and "Summary"; "Prometheus and OpenMetrics Compatibility", "Resource Attributes";
 -- Prometheus, "Jobs and instances" (up, scrape_samples_scraped). The scopes' names are the bridge's own.
 use Rattle.std.specs.Prelude.{ℕ, true, false, List, [], ◌∷◌, ◌++◌, map, filter_map, codes, Option, Some, None, option_map}
@@ -19,6 +19,7 @@ use Rattle.otlp_tree.specs.declared.tree.Metric.{Metric}
 use Rattle.otlp_tree.specs.declared.tree.Shape.{Shape}
 use Rattle.otlp_tree.specs.declared.tree.Shape.TheVariants as shapes
 use Rattle.bridge_ports.specs.Targets.{Scraped}
+use Rattle.start_times.specs.declared.row.Placed.{Placed}
 use Rattle.target_core.specs.declared.markers.Marker.{Marker}
 use Rattle.target_core.specs.Points.{Point, point_of, number_point, histogram_point, summary_point}
 use Rattle.target_core.specs.Markers.{metric_with, with_markers, markers_left, marker_metrics}
@@ -43,35 +44,35 @@ shape_of GaugeHistogram points = None
 shape_of _ points = option_map shapes.Gauge (some_of number_point points)
 
 -- the metric of readings of a kind, named by the first of them, where they have a point
-abbrev pub metric_of : (Reading → Option ℕ) → ℕ → Kind → List ℕ → List Reading → Option Metric
-metric_of start moment kind help [] = None
-metric_of start moment kind help (first ∷ rest) = option_map (λ shape. record {
+abbrev pub metric_of : (Reading → Option Placed) → Kind → List ℕ → List Reading → Option Metric
+metric_of place kind help [] = None
+metric_of place kind help (first ∷ rest) = option_map (λ shape. record {
   name = first.key.name;
   description = help;
   unit = first.key.unit;
   shape = shape;
-}) (shape_of kind (map (point_of start moment) (first ∷ rest)))
+}) (shape_of kind (filter_map (point_of place) (first ∷ rest)))
 
 -- the metric of a family
-abbrev pub family_metric : (Reading → Option ℕ) → ℕ → Family → Option Metric
-family_metric start moment f = metric_of start moment f.kind f.help f.readings
+abbrev pub family_metric : (Reading → Option Placed) → Family → Option Metric
+family_metric place f = metric_of place f.kind f.help f.readings
 
 -- the same, and these markers behind its points
-abbrev pub family_metric_with : List Marker → (Reading → Option ℕ) → ℕ → Family → Option Metric
-family_metric_with ms start moment f = option_map (metric_with ms) (family_metric start moment f)
+abbrev pub family_metric_with : List Marker → (Reading → Option Placed) → Family → Option Metric
+family_metric_with ms place f = option_map (metric_with ms) (family_metric place f)
 
 -- the metric of a family with its kind
-abbrev pub kind_metric : (Reading → Option ℕ) → ℕ → Family → Option (Kind × Metric)
-kind_metric start moment f = option_map (λ m. (f.kind, m)) (family_metric start moment f)
+abbrev pub kind_metric : (Reading → Option Placed) → Family → Option (Kind × Metric)
+kind_metric place f = option_map (λ m. (f.kind, m)) (family_metric place f)
 
 -- the metrics of a page with their kinds, in page order
-abbrev pub page_metrics : (Reading → Option ℕ) → ℕ → Page → List (Kind × Metric)
-page_metrics start moment page = filter_map (kind_metric start moment) page.families
+abbrev pub page_metrics : (Reading → Option Placed) → Page → List (Kind × Metric)
+page_metrics place page = filter_map (kind_metric place) page.families
 
 -- the metrics of an event: those of its page, each with the markers of its series, and behind them those that have markers alone
-abbrev pub event_metrics : (Reading → Option ℕ) → List Marker → ℕ → Page → List Metric
-event_metrics start ms moment page =
-    let metrics = page_metrics start moment page in
+abbrev pub event_metrics : (Reading → Option Placed) → List Marker → Page → List Metric
+event_metrics place ms page =
+    let metrics = page_metrics place page in
     map (λ m. with_markers ms m.0 m.1) metrics ++ marker_metrics (markers_left metrics ms)
 
 -- a scope, left out where it has no metric
@@ -106,12 +107,12 @@ resource_of t = record { key = codes "service.name"; value = Str t.job }
     ∷ record { key = codes "url.scheme"; value = Str (codes "http") } ∷ []
 
 -- the tree of a scrape: what its page and its markers give, whether it gave a page, and how many samples that has
-unfoldable pub request_of : Scraped → (Reading → Option ℕ) → List Marker → ℕ → ℕ → Page → Request
-request_of target start ms moment up page = record {
+unfoldable pub request_of : Scraped → (Reading → Option Placed) → List Marker → ℕ → ℕ → Page → Request
+request_of target place ms moment up page = record {
   resource = resource_of target;
-  scopes = scope_of (codes "bridge") (event_metrics start ms moment page) ++ scope_of (codes "bridge.target") (target_metrics moment up page.samples);
+  scopes = scope_of (codes "bridge") (event_metrics place ms page) ++ scope_of (codes "bridge.target") (target_metrics moment up page.samples);
 }
 
 -- the tree of an event; a scrape that failed has the page without families
-abbrev pub request_with : Scraped → (Reading → Option ℕ) → List Marker → ℕ → Outcome → Request
-request_with target start ms moment outcome = request_of target start ms moment (up_of outcome) (page_of_outcome outcome)
+abbrev pub request_with : Scraped → (Reading → Option Placed) → List Marker → ℕ → Outcome → Request
+request_with target place ms moment outcome = request_of target place ms moment (up_of outcome) (page_of_outcome outcome)

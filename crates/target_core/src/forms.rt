@@ -7,9 +7,10 @@ ghost use Rattle.target_core.specs.Markers as markers;
 use crate::markers::Marker;
 use exact_decimal::Number;
 use histogram_layout::layout;
-use label_sets::Memory;
+use label_sets::{Kind, Memory};
 use otlp_tree::{HistogramPoint, HistogramValue, NumberPoint, SummaryPoint, SummaryValue};
 use page_model::{Reading, Value};
+use start_times::has_start;
 use std::alloc::Global;
 
 /// A form of points, in which a reading has one where its value is of that kind, and each marker has one.
@@ -21,19 +22,26 @@ pub(crate) trait PointForm: Sized {
 
     ghost marked_by: { Gone → Self };
 
-    /// The point of a reading in this form, where it has one. Its labels and lists are shared.
+    /// The point of a reading that is taken at a time, in this form, where it has one. Its labels and lists are shared.
     fn from_reading(
         alloc: Global,
-        start: Option<u64>,
-        moment: u64,
+        time: u64,
+        start: u64,
         reading: &Reading,
     ) -> Result<Option<Self>, Memory>
         requires { MayBeLaidOut reading.now.value }
-        ensures { IfOk result (λ form. form ≡ form_of (point_at start moment reading.now)) };
+        ensures { IfOk result (λ form. form ≡ form_of (point_at time start reading.now)) };
 
     /// The point of a marker in this form: it has no value. Its labels are shared.
     fn from_marker(marker: &Marker) -> Result<Self, Memory>
         ensures { IfOk result (λ form. form ≡ marked_by marker.now) };
+}
+
+/// The start of a series, where its kind has starts.
+fn start_for(kind: Kind, start: u64) -> Option<u64>
+    ensures { result ≡ spec.start_for kind start }
+{
+    if has_start(kind) { Some(start) } else { None }
 }
 
 /// The number of a value that is one.
@@ -55,8 +63,8 @@ impl PointForm for NumberPoint {
     #[tactic(auto, unfolding(crate::specs::Points::number_point, crate::specs::Points::point_at))]
     fn from_reading(
         _alloc: Global,
-        start: Option<u64>,
-        moment: u64,
+        time: u64,
+        start: u64,
         reading: &Reading,
     ) -> Result<Option<Self>, Memory> {
         let Some(number) = plain_number(&reading.value) else {
@@ -64,8 +72,8 @@ impl PointForm for NumberPoint {
         };
         Ok(Some(NumberPoint {
             labels: reading.key.labels.copy()?,
-            start,
-            time: moment,
+            start: start_for(reading.key.kind, start),
+            time,
             value: Some(number),
         }))
     }
@@ -102,8 +110,8 @@ impl PointForm for HistogramPoint {
     #[tactic(auto, unfolding(crate::specs::Points::histogram_point, crate::specs::Points::point_at))]
     fn from_reading(
         alloc: Global,
-        start: Option<u64>,
-        moment: u64,
+        time: u64,
+        start: u64,
         reading: &Reading,
     ) -> Result<Option<Self>, Memory> {
         let Some(histogram) = histogram_in(alloc, &reading.value)? else {
@@ -111,8 +119,8 @@ impl PointForm for HistogramPoint {
         };
         Ok(Some(HistogramPoint {
             labels: reading.key.labels.copy()?,
-            start: start.unwrap_or(moment),
-            time: moment,
+            start: start_for(reading.key.kind, start).unwrap_or(time),
+            time,
             value: Some(histogram),
         }))
     }
@@ -152,8 +160,8 @@ impl PointForm for SummaryPoint {
     #[tactic(auto, unfolding(crate::specs::Points::summary_point, crate::specs::Points::point_at))]
     fn from_reading(
         _alloc: Global,
-        start: Option<u64>,
-        moment: u64,
+        time: u64,
+        start: u64,
         reading: &Reading,
     ) -> Result<Option<Self>, Memory> {
         let Some(summary) = summary_in(&reading.value)? else {
@@ -161,8 +169,8 @@ impl PointForm for SummaryPoint {
         };
         Ok(Some(SummaryPoint {
             labels: reading.key.labels.copy()?,
-            start: start.unwrap_or(moment),
-            time: moment,
+            start: start_for(reading.key.kind, start).unwrap_or(time),
+            time,
             value: Some(summary),
         }))
     }

@@ -1,5 +1,5 @@
 //! The markers of series that are gone.
-ghost use Rattle.std.specs.Prelude.{◌≡◌, ℕ, [], Option, None, map, get_or, IfOk};
+ghost use Rattle.std.specs.Prelude.{◌≡◌, ℕ, [], Option, None, map, min, option_map, get_or, IfOk};
 ghost use Rattle.label_sets.specs.declared.series_key.SeriesKey.{SeriesKey as AnyKey};
 ghost use Rattle.target_core.specs.Events.{marker_with};
 ghost use Rattle.target_core.specs.MarkerGroups.{marker_groups};
@@ -18,7 +18,17 @@ fn start_at(starts: &[Option<u64>], place: usize) -> Option<u64>
     }
 }
 
-/// The markers of series that are gone, with their starts, by their metrics.
+/// The start at a place, where there is one, but none after a moment.
+fn start_by(starts: &[Option<u64>], place: usize, moment: u64) -> Option<u64>
+    ensures { result ≡ option_map (min moment) (get_or starts.now place None) }
+{
+    match start_at(starts, place) {
+        Some(start) => Some(moment.min(start)),
+        None => None,
+    }
+}
+
+/// The markers of series that are gone, with their starts, by their metrics. No marker has a start after its time.
 pub(crate) fn gather(
     alloc: Global,
     gone: &[SeriesKey],
@@ -32,7 +42,7 @@ pub(crate) fn gather(
     for (place, key) in gone.iter().enumerate() {
         let marker = Marker {
             key: key.copy()?,
-            start: start_at(starts, place),
+            start: start_by(starts, place, moment),
             time: moment,
         };
         groups.add(alloc, marker)?;

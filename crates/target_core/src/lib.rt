@@ -5,7 +5,7 @@ mod forms;
 mod gone;
 mod markers;
 mod metrics;
-mod points;
+mod places;
 mod resource;
 mod state;
 mod tree;

@@ -1,8 +1,9 @@
 //! The metrics of families, with the markers of their series, and of markers alone.
-ghost use Rattle.std.specs.Prelude.{◌≡◌, ◌++◌, ℕ, Option, map, filter_map, option_map, IfOk, OnOk};
+ghost use Rattle.std.specs.Prelude.{◌≡◌, ◌++◌, Option, map, filter_map, option_map, option_and_then, IfOk, OnOk};
 ghost use Rattle.page_model.specs.declared.page.Reading.{Reading as AnyReading};
+ghost use Rattle.start_times.specs.declared.row.Placed.{Placed as AnyPlaced};
 ghost use Rattle.target_core.specs.Points as spec;
-ghost use Rattle.target_core.specs.Points.{MayAllBeLaidOut};
+ghost use Rattle.target_core.specs.Points.{MayBeLaidOut, MayAllBeLaidOut};
 ghost use Rattle.target_core.specs.Markers as marks;
 ghost use Rattle.target_core.specs.MarkerGroups as grouped;
 ghost use Rattle.target_core.specs.Trees as trees;
@@ -12,21 +13,39 @@ use crate::markers::{Marker, MarkerGroup};
 use label_sets::{Kind, List, Memory, SeriesKey, Text};
 use otlp_tree::{Metric, Shape};
 use page_model::{Family, Reading};
+use start_times::Placed;
 use std::alloc::Global;
 
-/// The points of readings with these starts, where they have this form.
+/// The point of a reading at its place in this form, where it has one.
+fn placed_point<F: PointForm + Drop>(
+    alloc: Global,
+    place: Option<Placed>,
+    reading: &Reading,
+) -> Result<Option<F>, Memory>
+    requires { MayBeLaidOut reading.now.value }
+    ensures { IfOk result (λ point. point ≡ option_and_then F.form_of (spec.point_in place reading.now)) }
+{
+    let Some(place) = place else {
+        return Ok(None);
+    };
+    match place {
+        Placed::Late => Ok(None),
+        Placed::At { time, start } => F::from_reading(alloc, time, start, reading),
+    }
+}
+
+/// The points of readings with these places, where they have this form.
 fn all_points<F: PointForm + Drop>(
     alloc: Global,
-    moment: u64,
     readings: &[Reading],
-    starts: &[Option<u64>],
+    places: &[Option<Placed>],
 ) -> Result<Vec<F>, Memory>
     requires { MayAllBeLaidOut readings.now }
-    ensures { IfOk result (λ points. points.items ≡ filter_map F.form_of (spec.points_with moment readings.now starts.now)) }
+    ensures { IfOk result (λ points. points.items ≡ filter_map F.form_of (spec.points_with readings.now places.now)) }
 {
     let mut points = Vec::with_capacity(alloc, readings.len())?;
-    for (reading, start) in readings.iter().zip(starts) {
-        if let Some(point) = F::from_reading(alloc, *start, moment, reading)? {
+    for (reading, place) in readings.iter().zip(places) {
+        if let Some(point) = placed_point(alloc, *place, reading)? {
             points.push(point)?;
         }
     }
@@ -44,19 +63,18 @@ fn push_markers<F: PointForm + Drop>(points: &mut Vec<F>, markers: &[Marker]) ->
     Ok(())
 }
 
-/// The points of readings with these starts, and behind them those of markers, where a reading has one.
+/// The points of readings with these places, and behind them those of markers, where a reading has one.
 fn points<F: PointForm + Drop>(
     alloc: Global,
-    moment: u64,
     readings: &[Reading],
-    starts: &[Option<u64>],
+    places: &[Option<Placed>],
     markers: &[Marker],
 ) -> Result<Option<List<F>>, Memory>
     requires { MayAllBeLaidOut readings.now }
     ensures { IfOk result (λ points. points ≡ option_map (λ ps. ps ++ map F.marked_by markers.now)
-        (trees.some_of F.form_of (spec.points_with moment readings.now starts.now))) }
+        (trees.some_of F.form_of (spec.points_with readings.now places.now))) }
 {
-    let mut points = all_points(alloc, moment, readings, starts)?;
+    let mut points = all_points(alloc, readings, places)?;
     if points.is_empty() {
         return Ok(None);
     }
@@ -69,35 +87,32 @@ fn points<F: PointForm + Drop>(
 #[tactic(auto, unfolding(crate::specs::Trees::shape_of))]
 fn shape(
     alloc: Global,
-    moment: u64,
     kind: Kind,
     readings: &[Reading],
-    starts: &[Option<u64>],
+    places: &[Option<Placed>],
     markers: &[Marker],
 ) -> Result<Option<Shape>, Memory>
     requires { MayAllBeLaidOut readings.now }
     ensures { IfOk result (λ shape. shape ≡ option_map (marks.shape_with markers.now)
-        (trees.shape_of kind (spec.points_with moment readings.now starts.now))) }
+        (trees.shape_of kind (spec.points_with readings.now places.now))) }
 {
     Ok(match kind {
         Kind::Counter => {
-            points(alloc, moment, readings, starts, markers)?.map(|points| Shape::Sum {
+            points(alloc, readings, places, markers)?.map(|points| Shape::Sum {
                 points,
                 monotonic: true,
             })
         }
         Kind::Info | Kind::StateSet => {
-            points(alloc, moment, readings, starts, markers)?.map(|points| Shape::Sum {
+            points(alloc, readings, places, markers)?.map(|points| Shape::Sum {
                 points,
                 monotonic: false,
             })
         }
-        Kind::Histogram => {
-            points(alloc, moment, readings, starts, markers)?.map(Shape::Histogram)
-        }
-        Kind::Summary => points(alloc, moment, readings, starts, markers)?.map(Shape::Summary),
+        Kind::Histogram => { points(alloc, readings, places, markers)?.map(Shape::Histogram) }
+        Kind::Summary => points(alloc, readings, places, markers)?.map(Shape::Summary),
         Kind::Gauge | Kind::Unknown => {
-            points(alloc, moment, readings, starts, markers)?.map(Shape::Gauge)
+            points(alloc, readings, places, markers)?.map(Shape::Gauge)
         }
         Kind::GaugeHistogram => None,
     })
@@ -131,20 +146,19 @@ fn named(first: &SeriesKey, description: Text, shape: Shape) -> Result<Metric, M
 #[tactic(auto, unfolding(crate::specs::Markers::metric_with))]
 pub(crate) fn family_metric(
     alloc: Global,
-    moment: u64,
     family: &Family,
-    starts: &[Option<u64>],
+    places: &[Option<Placed>],
     markers: &[Marker],
 ) -> Result<Option<Metric>, Memory>
     requires { MayAllBeLaidOut family.now.readings }
-    ensures { (start : AnyReading → Option ℕ) → starts.now ≡ map start family.now.readings
-        → IfOk result (λ metric. metric ≡ trees.family_metric_with markers.now start moment family.now) }
+    ensures { (place : AnyReading → Option AnyPlaced) → places.now ≡ map place family.now.readings
+        → IfOk result (λ metric. metric ≡ trees.family_metric_with markers.now place family.now) }
 {
     let readings = family.readings.as_slice();
     let Some(first) = readings.first() else {
         return Ok(None);
     };
-    let Some(shape) = shape(alloc, moment, family.kind, readings, starts, markers)? else {
+    let Some(shape) = shape(alloc, family.kind, readings, places, markers)? else {
         return Ok(None);
     };
     let description = family.help.copy()?;

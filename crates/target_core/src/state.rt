@@ -9,21 +9,21 @@ ghost use Rattle.start_times.specs.Scrapes as scrapes;
 ghost use Rattle.start_times.specs.Starts.{Tracking};
 ghost use Rattle.start_times.specs.Rows.{Tracks};
 ghost use Rattle.bridge_ports.specs.Targets.{Scraped as AnyScraped};
-ghost use Rattle.target_core.specs.Events.{kept_markers, first_start};
+ghost use Rattle.target_core.specs.Events.{kept_markers, first_place};
 ghost use Rattle.target_core.specs.MarkerGroups.{marker_groups};
 ghost use Rattle.target_core.specs.States.{ComesTo, IsTreeBehind, Steps, StandsFor, HasNextMoment, next_state, IsFirstTree, ShowsLatest};
 ghost use Rattle.target_core.specs.Trees.{up_of, request_of};
 
 use crate::gone::gather;
 use crate::markers::MarkerGroups;
-use crate::points::first_starts;
+use crate::places::first_places;
 use crate::tree::request;
 use bridge_ports::Target;
 use label_sets::Memory;
 use otlp_tree::Request;
 use page_model::{Event, Outcome, Page, Shown};
 use staleness::vanished;
-use start_times::Tracker;
+use start_times::{Placed, Tracker};
 use std::alloc::Global;
 use std::marker::Model;
 
@@ -77,15 +77,16 @@ fn up_and_page(alloc: Global, outcome: Outcome) -> (u64, Page)
 /// The markers of the series that a page lacks, with the starts that are kept of them.
 fn gone_groups(
     alloc: Global,
+    honor: bool,
     tracker: &Tracker,
     before: &Page,
     now: &Page,
     moment: u64,
 ) -> Result<MarkerGroups, Memory>
-    ensures { IfOk result (λ groups. IsDistinct key_eq (keys_of tracker.now.rows)
-        → groups ≡ marker_groups [] (kept_markers tracker.now.rows moment before.now now.now)) }
+    ensures { IfOk result (λ groups. (t : Tracking) → t.honor ≡ honor → IsDistinct key_eq (keys_of tracker.now.rows)
+        → groups ≡ marker_groups [] (kept_markers t tracker.now.rows moment before.now now.now)) }
 {
-    let gone = vanished(alloc, before, Some(now))?;
+    let gone = vanished(alloc, before, Some(now), honor)?;
     let starts = tracker.starts_of(alloc, &gone)?;
     gather(alloc, gone.as_slice(), starts.list.as_slice(), moment)
 }
@@ -99,11 +100,12 @@ impl TargetState {
     /// Want of memory.
     pub fn new(alloc: Global, target: Target, keep: u32) -> Result<TargetState, Memory>
         requires { keep ≤ 4 }
-        ensures { IfOk result (λ s. StandsFor target (record { keep = keep }) s []) }
+        ensures { IfOk result (λ s. StandsFor target (record { keep = keep; honor = target.honor }) s []) }
     {
+        let honor = target.honor();
         Ok(TargetState {
             target,
-            tracker: Tracker::new(alloc, keep),
+            tracker: Tracker::new(alloc, keep, honor),
             pending: false,
             page: Page::empty(alloc),
             moment: None,
@@ -131,9 +133,9 @@ impl TargetState {
         up: u64,
         page: &Page,
     ) -> Result<Request, Memory>
-        ensures { IfOk result (λ tree. tree ≡ request_of self.now.target (first_start moment) [] moment up page.now) }
+        ensures { IfOk result (λ tree. tree ≡ request_of self.now.target (first_place self.now.target.honor moment) [] moment up page.now) }
     {
-        let starts = first_starts(alloc, moment, page)?;
+        let places = first_places(alloc, self.target.honor(), moment, page)?;
         let groups = MarkerGroups::new(alloc);
         let tree = request(
             alloc,
@@ -141,7 +143,7 @@ impl TargetState {
             moment,
             up,
             page,
-            starts.as_slice(),
+            places.as_slice(),
             groups,
         )?;
         Ok(tree)
@@ -158,7 +160,7 @@ impl TargetState {
         requires { self.old.moment ≡ None }
         ensures ok { (e : AnyEvent) → ComesTo None e moment up page → IfOk result (λ request. Steps self.old e request self.new) }
         ensures moment { OnOk result (self.new.moment ≡ Some moment) }
-        ensures tree { IfOk result (λ request. request ≡ request_of self.old.target (first_start moment) [] moment up page) }
+        ensures tree { IfOk result (λ request. request ≡ request_of self.old.target (first_place self.old.target.honor moment) [] moment up page) }
         ensures err { OnErr result (self.new ≡ self.old) }
     {
         let kept = page.filled(alloc)?;
@@ -169,7 +171,7 @@ impl TargetState {
         Ok(tree)
     }
 
-    /// The tree of an event with these starts, where the series that its page lacks have these rows.
+    /// The tree of an event with these places, where the series that its page lacks have these rows.
     fn tree_with(
         &self,
         alloc: Global,
@@ -177,12 +179,13 @@ impl TargetState {
         moment: u64,
         up: u64,
         page: &Page,
-        starts: &[Option<u64>],
+        places: &[Option<Placed>],
     ) -> Result<Request, Memory>
-        ensures { IfOk result (IsTreeBehind self.now tracker.now.rows moment up page.now starts.now) }
+        ensures { IfOk result (IsTreeBehind self.now tracker.now.rows moment up page.now places.now) }
     {
-        let groups = gone_groups(alloc, tracker, &self.page, page, moment)?;
-        let tree = request(alloc, &self.target, moment, up, page, starts, groups)?;
+        let honor = self.target.honor();
+        let groups = gone_groups(alloc, honor, tracker, &self.page, page, moment)?;
+        let tree = request(alloc, &self.target, moment, up, page, places, groups)?;
         Ok(tree)
     }
 
@@ -201,8 +204,8 @@ impl TargetState {
     {
         let tracker = self.told_tracker(alloc, before)?;
         let (starts, next) = tracker.advance(alloc, page, moment)?;
-        let starts = starts.list.as_slice();
-        let tree = self.tree_with(alloc, &tracker, moment, up, page, starts)?;
+        let places = starts.list.as_slice();
+        let tree = self.tree_with(alloc, &tracker, moment, up, page, places)?;
         Ok((tree, next))
     }
 
@@ -231,9 +234,10 @@ impl TargetState {
 
     /// Takes the next event, and gives its tree (OTLP 1.x, `ExportMetricsServiceRequest`). The moment of
     /// an event is the reading of its clock, in nanoseconds since the Unix epoch, at most 2^62, and later
-    /// than the moment before. Each reading of its page has a point with the start of its series; each
-    /// series of the page before that it lacks has a point without a value. Want of memory is the only
-    /// error, and changes nothing.
+    /// than the moment before. Each reading of its page has a point with the start of its series, unless
+    /// the target's times count and it is not later than the reading of its series that was taken before;
+    /// each series of the page before that it lacks has a point without a value, unless that page gave it
+    /// a time that counts. Want of memory is the only error, and changes nothing.
     ///
     /// # Errors
     ///

@@ -12,6 +12,7 @@ use bridge_ports::Target;
 use label_sets::{LabelSet, List, Memory, Text};
 use otlp_tree::{Metric, NumberPoint, Request, ScopeMetrics, Shape};
 use page_model::{Family, Page};
+use start_times::Placed;
 use std::alloc::Global;
 
 /// A gauge with one point and no labels.
@@ -67,17 +68,16 @@ fn target_metrics(alloc: Global, moment: u64, up: u64, samples: u64) -> Result<V
     Ok(metrics)
 }
 
-/// The metric of a family with its starts and the markers of its series, where it has one; the markers
+/// The metric of a family with its places and the markers of its series, where it has one; the markers
 /// know then that they have a place.
 fn placed_metric(
     alloc: Global,
-    moment: u64,
     family: &Family,
-    starts: &[Option<u64>],
+    places: &[Option<Placed>],
     groups: &mut MarkerGroups,
 ) -> Result<Option<Metric>, Memory>
     requires { MayAllBeLaidOut family.now.readings }
-    ensures { IfOk result (λ metric. PlacesMetric moment family.now starts.now groups.old metric groups.new) }
+    ensures { IfOk result (λ metric. PlacesMetric family.now places.now groups.old metric groups.new) }
 {
     let Some(first) = family.readings.as_slice().first() else {
         return Ok(None);
@@ -87,35 +87,34 @@ fn placed_metric(
         family.kind,
         first.key.unit.as_bytes(),
     )?;
-    let metric = family_metric(alloc, moment, family, starts, groups.markers_at(place))?;
+    let metric = family_metric(alloc, family, places, groups.markers_at(place))?;
     groups.set_placed(place, metric.is_some());
     Ok(metric)
 }
 
-/// The starts of the next readings, and those behind them.
-fn next_starts(starts: &[Option<u64>], count: usize) -> (&[Option<u64>], &[Option<u64>])
-    ensures own { result.0.now ≡ take count starts.now }
-    ensures rest { result.1.now ≡ drop count starts.now }
+/// The places of the next readings, and those behind them.
+fn next_places(places: &[Option<Placed>], count: usize) -> (&[Option<Placed>], &[Option<Placed>])
+    ensures own { result.0.now ≡ take count places.now }
+    ensures rest { result.1.now ≡ drop count places.now }
 {
-    starts.split_at(count.min(starts.len()))
+    places.split_at(count.min(places.len()))
 }
 
-/// The metrics of families with the starts of all their readings, in order.
+/// The metrics of families with the places of all their readings, in order.
 fn page_metrics(
     alloc: Global,
-    moment: u64,
     families: &[Family],
-    starts: &[Option<u64>],
+    places: &[Option<Placed>],
     groups: &mut MarkerGroups,
 ) -> Result<Vec<Metric>, Memory>
     requires { All (λ (f : AnyFamily). MayAllBeLaidOut f.readings) families.now }
-    ensures { IfOk result (λ metrics. PlacesMetrics moment families.now starts.now groups.old metrics.items groups.new) }
+    ensures { IfOk result (λ metrics. PlacesMetrics families.now places.now groups.old metrics.items groups.new) }
 {
     let mut metrics = Vec::with_capacity(alloc, families.len())?;
-    let mut left = starts;
+    let mut left = places;
     for family in families {
-        let (own, rest) = next_starts(left, family.readings.len());
-        if let Some(metric) = placed_metric(alloc, moment, family, own, groups)? {
+        let (own, rest) = next_places(left, family.readings.len());
+        if let Some(metric) = placed_metric(alloc, family, own, groups)? {
             metrics.push(metric)?;
         }
         left = rest;
@@ -123,23 +122,16 @@ fn page_metrics(
     Ok(metrics)
 }
 
-/// The metrics of a page with the starts of its readings, with markers, and of markers alone.
+/// The metrics of a page with the places of its readings, with markers, and of markers alone.
 fn event_metrics(
     alloc: Global,
-    moment: u64,
     page: &Page,
-    starts: &[Option<u64>],
+    places: &[Option<Placed>],
     mut groups: MarkerGroups,
 ) -> Result<Vec<Metric>, Memory>
-    ensures { IfOk result (λ metrics. WherePastGives page.now starts.now groups (λ start ms. metrics.items ≡ trees.event_metrics start ms moment page.now)) }
+    ensures { IfOk result (λ metrics. WherePastGives page.now places.now groups (λ place ms. metrics.items ≡ trees.event_metrics place ms page.now)) }
 {
-    let mut metrics = page_metrics(
-        alloc,
-        moment,
-        page.families().as_slice(),
-        starts,
-        &mut groups,
-    )?;
+    let mut metrics = page_metrics(alloc, page.families().as_slice(), places, &mut groups)?;
     push_alone(alloc, groups.as_slice(), &mut metrics)?;
     Ok(metrics)
 }
@@ -165,15 +157,14 @@ fn push_scope(
 /// The scope of what a page and the markers give, unless it has no metric.
 fn page_scope(
     alloc: Global,
-    moment: u64,
     page: &Page,
-    starts: &[Option<u64>],
+    places: &[Option<Placed>],
     groups: MarkerGroups,
 ) -> Result<Vec<ScopeMetrics>, Memory>
-    ensures { IfOk result (λ scopes. WherePastGives page.now starts.now groups
-        (λ start ms. scopes.items ≡ trees.scope_of (codes "bridge") (trees.event_metrics start ms moment page.now))) }
+    ensures { IfOk result (λ scopes. WherePastGives page.now places.now groups
+        (λ place ms. scopes.items ≡ trees.scope_of (codes "bridge") (trees.event_metrics place ms page.now))) }
 {
-    let metrics = event_metrics(alloc, moment, page, starts, groups)?;
+    let metrics = event_metrics(alloc, page, places, groups)?;
     let mut scopes = Vec::with_capacity(alloc, 2)?;
     push_scope(alloc, &mut scopes, "bridge", metrics)?;
     Ok(scopes)
@@ -195,7 +186,7 @@ fn push_target(
 }
 
 /// The tree of a scrape of a target at a moment in nanoseconds since the Unix epoch (OTLP 1.x,
-/// `ExportMetricsServiceRequest`), with the starts of its readings in page order and the markers of the
+/// `ExportMetricsServiceRequest`), with the places of its readings in page order and the markers of the
 /// series that are gone. The names, labels and HELP texts of the page are shared with it. Want of memory
 /// is the only error.
 #[tactic(auto, unfolding(crate::specs::Trees::request_of))]
@@ -205,13 +196,13 @@ pub(crate) fn request(
     moment: u64,
     up: u64,
     page: &Page,
-    starts: &[Option<u64>],
+    places: &[Option<Placed>],
     groups: MarkerGroups,
 ) -> Result<Request, Memory>
-    ensures { IfOk result (λ request. WherePastGives page.now starts.now groups
-        (λ start ms. request ≡ trees.request_of target.now start ms moment up page.now)) }
+    ensures { IfOk result (λ request. WherePastGives page.now places.now groups
+        (λ place ms. request ≡ trees.request_of target.now place ms moment up page.now)) }
 {
-    let mut scopes = page_scope(alloc, moment, page, starts, groups)?;
+    let mut scopes = page_scope(alloc, page, places, groups)?;
     push_target(alloc, &mut scopes, moment, up, u64::from(page.samples()))?;
     let scopes = List::from_vec(scopes)?;
     let resource = List::from_vec(resource(alloc, target)?)?;

@@ -1,5 +1,11 @@
-use Rattle.point_laws.proofs.PointLaws.{right_pages_lose_nothing}
+use Rattle.point_laws.proofs.PointLaws.{places_lose_nothing, taken_lose_nothing, right_pages_lose_nothing}
 use Rattle.point_laws.proofs.points_of_pages.Goals as goal
 
-pub returns : goal.returns
-returns c = right_pages_lose_nothing c.args.page.now c.families-families.ensures.right
+pub returns-clause-places : goal.returns-clause-places
+returns-clause-places c = places_lose_nothing c.args.page.now c.families-families.ensures.right
+
+pub returns-clause-taken : goal.returns-clause-taken
+returns-clause-taken c = taken_lose_nothing c.args.page.now c.families-families.ensures.right
+
+pub returns-clause-all : goal.returns-clause-all
+returns-clause-all c = right_pages_lose_nothing c.args.page.now c.families-families.ensures.right

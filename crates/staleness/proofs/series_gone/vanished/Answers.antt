@@ -12,7 +12,7 @@ returns c =
     let parted = c.in_ok-parted.parted in
     let keys = keys_behind c.in_ok-keys.keys.items in
     let others = keys_behind c.in_ok-others.others.items in
-    all_gone c.from_vec.result c.args.before.now (page_or_empty (option_copied c.args.now)) c.in_ok-gone.gone.items others keys parted.strays parted.left
+    all_gone c.from_vec.result c.args.honor c.args.before.now (page_or_empty (option_copied c.args.now)) c.in_ok-gone.gone.items others keys parted.strays parted.left
     c.in_ok-others.ensures c.in_ok-keys.ensures.keys c.in_ok-keys.ensures.once
     (subst (λ (refs : List (Bor SeriesKey)). IsParted (keys_behind refs) others parted.strays parted.left) c.as_slice-2.ensures.value
     (subst (λ (refs : List (Bor SeriesKey)). IsParted (keys_behind c.as_slice-2.result.now) (keys_behind refs) parted.strays parted.left) c.as_slice.ensures.value c.in_ok-parted.ensures))

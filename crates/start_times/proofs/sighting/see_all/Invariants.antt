@@ -6,5 +6,5 @@ use Rattle.start_times.proofs.sighting.see_all.Given as goal
 abbrev pub invariant-loop-reading : goal.invariant-loop-reading
 invariant-loop-reading l = record {
   places : l.places ≡ l.initial.places;
-  seen : Sees (zip l.initial.places l.fn.rows) l.fn.moment (take l.reading-index l.fn.readings) l.initial.seen l.seen;
+  seen : Sees l.fn.honor (zip l.initial.places l.fn.rows) l.fn.moment (take l.reading-index l.fn.readings) l.initial.seen l.seen;
 }

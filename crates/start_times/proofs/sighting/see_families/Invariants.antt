@@ -8,5 +8,5 @@ use Rattle.start_times.proofs.sighting.see_families.Given as goal
 abbrev pub invariant-loop-family : goal.invariant-loop-family
 invariant-loop-family l = record {
   places : l.places ≡ l.initial.places;
-  seen : Sees (zip l.initial.places l.fn.rows) l.fn.moment (flat_map (λ (f : Family). f.readings) (take l.family-index l.fn.families)) l.initial.seen l.seen;
+  seen : Sees l.fn.honor (zip l.initial.places l.fn.rows) l.fn.moment (flat_map (λ (f : Family). f.readings) (take l.family-index l.fn.families)) l.initial.seen l.seen;
 }

@@ -3,13 +3,13 @@ use Rattle.target_core.proofs.FamilyMetrics.{metric_is}
 use Rattle.target_core.proofs.metrics.family_metric.Goals as goal
 
 pub returns-in_default-2 : goal.returns-in_default-2
-returns-in_default-2 c = λ start own.
-    metric_is start c.args.moment c.args.family.now c.args.starts.now c.args.markers.now c.as_slice-readings.result.now c.in-Some.first.now None c.as_slice-readings.ensures c.in-Some.ensures.value
+returns-in_default-2 c = λ place own.
+    metric_is place c.args.family.now c.args.places.now c.args.markers.now c.as_slice-readings.result.now c.in-Some.first.now None c.as_slice-readings.ensures c.in-Some.ensures.value
     (sym c.in_default-2.is ∙ c.in_ok-shape.ensures) own
 
 pub returns : goal.returns
-returns c = λ start own.
+returns c = λ place own.
     ap Some c.in_ok-metric.ensures
     ∙ ((λ i. Some record { name = c.in-Some.first.now.key.name; description = c.in_ok-description.ensures i; unit = c.in-Some.first.now.key.unit; shape = c.in-Some-2.shape })
-    ∙ metric_is start c.args.moment c.args.family.now c.args.starts.now c.args.markers.now c.as_slice-readings.result.now c.in-Some.first.now (Some c.in-Some-2.shape) c.as_slice-readings.ensures c.in-Some.ensures.value
+    ∙ metric_is place c.args.family.now c.args.places.now c.args.markers.now c.as_slice-readings.result.now c.in-Some.first.now (Some c.in-Some-2.shape) c.as_slice-readings.ensures c.in-Some.ensures.value
     (sym c.in-Some-2.is ∙ c.in_ok-shape.ensures) own)

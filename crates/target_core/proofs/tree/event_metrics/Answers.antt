@@ -7,7 +7,7 @@ pub page_metrics-requires : goal.page_metrics-requires
 page_metrics-requires c = page_laid_out c.args.page.now c.as_slice.result.now (c.as_slice.ensures ∙ c.families.ensures.families) c.families.ensures.right
 
 pub returns : goal.returns
-returns c = λ start ms own is.
+returns c = λ place ms own is.
     let whole = c.as_slice.ensures ∙ c.families.ensures.families in
-    event_metrics_are start c.args.moment ms c.args.page.now c.as_slice.result.now c.in_ok-metrics.metrics.items c.push_alone.new.metrics.items c.page_metrics.new.groups c.as_slice-2.result.now whole
-    (c.in_ok-metrics.ensures start ms (own ∙ ap (λ fs. map start (readings_in fs)) (sym whole)) is) c.as_slice-2.ensures c.in_ok-push_alone.ensures
+    event_metrics_are place ms c.args.page.now c.as_slice.result.now c.in_ok-metrics.metrics.items c.push_alone.new.metrics.items c.page_metrics.new.groups c.as_slice-2.result.now whole
+    (c.in_ok-metrics.ensures place ms (own ∙ ap (λ fs. map place (readings_in fs)) (sym whole)) is) c.as_slice-2.ensures c.in_ok-push_alone.ensures

@@ -1,5 +1,6 @@
-use Rattle.std.proofs.Common.{◌≡◌, ℕ, List, [], map, take, drop, Option}
+use Rattle.std.proofs.Common.{◌≡◌, List, [], map, take, drop, Option}
 use Rattle.page_model.specs.declared.page.Reading.{Reading}
+use Rattle.start_times.specs.declared.row.Placed.{Placed}
 use Rattle.target_core.specs.declared.markers.Marker.{Marker}
 use Rattle.target_core.specs.MarkerGroups.{marker_groups}
 use Rattle.target_core.proofs.FamilyMetrics.{readings_in, ArePassed}
@@ -7,5 +8,5 @@ use Rattle.target_core.proofs.tree.page_metrics.Given as goal
 
 -- some families were passed
 abbrev pub invariant-loop-family : goal.invariant-loop-family
-invariant-loop-family l = (start : Reading → Option ℕ) (ms : List Marker) → l.fn.starts ≡ map start (readings_in l.families) → l.initial.groups ≡ marker_groups [] ms
-    → ArePassed start l.fn.moment ms (take l.family-index l.families) (drop l.family-index l.families) l.metrics.items l.left l.groups
+invariant-loop-family l = (place : Reading → Option Placed) (ms : List Marker) → l.fn.places ≡ map place (readings_in l.families) → l.initial.groups ≡ marker_groups [] ms
+    → ArePassed place ms (take l.family-index l.families) (drop l.family-index l.families) l.metrics.items l.left l.groups

@@ -1,5 +1,5 @@
 use Rattle.page_model.proofs.Laws.{right-distinct_keys}
-use Rattle.staleness.proofs.keys.keys_of.Goals as goal
+use Rattle.staleness.proofs.keys.untimed_keys.Goals as goal
 
 pub returns-in_err-put_keys-clause-once : goal.returns-in_err-put_keys-clause-once
 returns-in_err-put_keys-clause-once c = right-distinct_keys c.args.page.now c.families.ensures.right
