@@ -1,5 +1,5 @@
 -- Steps of the code, over plain lists.
-use Rattle.std.proofs.Common.{◌≡◌, ℕ, suc, List, [], ◌∷◌, ◌++◌, map, length, drop, refl, ap}
+use Rattle.std.proofs.Common.{◌≡◌, ℕ, suc, Bool, List, [], ◌∷◌, ◌++◌, map, length, drop, refl, ap}
 use Rattle.label_sets.specs.Lists.{first_some}
 use Rattle.toml.specs.View.{items_view}
 use Rattle.toml.specs.declared.value.Value.{Value}
@@ -17,7 +17,7 @@ count_view [] = refl
 count_view (v ∷ vs) = ap suc (count_view vs)
 
 -- what is left of some tables, in front of which these targets were made
-pub record AreLeft (tables : List TargetTable) (i : ℕ) (made : List Scraped) : Type 0 where
+pub record AreLeft (honor : Bool) (tables : List TargetTable) (i : ℕ) (made : List Scraped) : Type 0 where
   pub wrong : first_some wrong_target (all_numbered (drop i tables)) ≡ first_some wrong_target (all_numbered tables)
-  pub whole : made ++ map table_target (all_numbered (drop i tables)) ≡ map table_target (all_numbered tables)
+  pub whole : made ++ map (table_target honor) (all_numbered (drop i tables)) ≡ map (table_target honor) (all_numbered tables)
   pub jobs : HaveJobs (all_numbered (drop i tables))

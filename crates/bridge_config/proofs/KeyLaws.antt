@@ -80,7 +80,7 @@ keys_right d e =
     let r = f.ranges in
     let needed : is_none (get_member (codes "rounds") d) ≡ false = when_true-none _ _ f.missing.1.0 in
     let interval = in_key d (codes "interval_ms") 0 86400000 (Some 15000) (when_true-none _ _ r.1.1.1.1.1.1.1.0) (λ _. refl) in
-    let pages = in_key d (codes "pages") 0 1000 (Some 0) (when_true-none _ _ r.1.1.1.1.1.1.1.1.1.0) (λ _. refl) in
+    let pages = in_key d (codes "pages") 0 1000 (Some 0) (when_true-none _ _ r.1.1.1.1.1.1.1.1.1.1.0) (λ _. refl) in
     record {
       keep = in_key d (codes "keep") 0 4 (Some 2) (when_true-none _ _ r.1.1.1.0) (λ _. refl);
       tries = in_key d (codes "tries") 1 8 (Some 3) (when_true-none _ _ r.1.1.1.1.0) (λ _. refl);
@@ -135,9 +135,9 @@ pub few_targets : {A : Type 0} (f : ℕ × Members → A) (d : Members) → key_
 unfolding is_faulty target_tables
 few_targets f d e =
     let none = faultless d e in
-    let missing : is_none (get_member (codes "target") d) ≡ false = when_true-none _ _ none.missing.1.1.1.1.1.1.1.1.1.1.0 in
+    let missing : is_none (get_member (codes "target") d) ≡ false = when_true-none _ _ none.missing.1.1.1.1.1.1.1.1.1.1.1.0 in
     let few : AreFewTables (target_items d) = few_found (get_member (codes "target") d) missing
-    (when_true-none _ _ none.kinds.1.1.1.1.1.1.1.1.1.1.0) (when_true-none _ _ none.ranges.1.1.1.1.1.1.1.1.1.1.0) in
+    (when_true-none _ _ none.kinds.1.1.1.1.1.1.1.1.1.1.1.0) (when_true-none _ _ none.ranges.1.1.1.1.1.1.1.1.1.1.1.0) in
     let count = in_range 1 256 (item_count (target_items d)) few.1 in
     let same = counted f 1 (target_items d) few.0 in
     (subst (λ n. 1 ≤ n) (sym same) count.0, subst (λ n. n ≤ 256) (sym same) count.1)

@@ -21,9 +21,9 @@ use Rattle.url.specs.Parser.{parse_url}
 use Rattle.bridge_config.specs.declared.config.Config.{Config}
 use Rattle.bridge_config.specs.declared.fault.ConfigFault.TheVariants.{Address, Twice, Product}
 use Rattle.bridge_config.specs.declared.fault.Product.TheVariants.{Samples, Pages, Held}
-use Rattle.bridge_config.specs.ConfigKeys.{collector_key, pages_key, listen_key, job_word, url_word, natural_of, natural_in, is_place}
+use Rattle.bridge_config.specs.ConfigKeys.{collector_key, honor_key, pages_key, listen_key, job_word, url_word, natural_of, natural_in, is_place}
 use Rattle.bridge_config.specs.Addresses.{url_host, port_of, is_host, is_bare, is_url_address, url_in, right_url, address_of, is_pathless, collector_of}
-use Rattle.bridge_config.specs.Configurations.{key_number, text_at, target_tables, no_address, collector_in, table_target, place_address, door_in, config_of}
+use Rattle.bridge_config.specs.Configurations.{key_number, key_truth, text_at, target_tables, no_address, collector_in, table_target, place_address, door_in, config_of}
 use Rattle.bridge_config.specs.KeyFaults.{is_not_zero, is_faulty, is_job, key_fault}
 use Rattle.bridge_config.specs.ConfigFaults.{wrong_address, wrong_target, address_fault, is_named_in, first_repeated, twice_fault, too_large, product_fault, limits_fault, config_fault}
 use Rattle.bridge_config.specs.RightConfigs.{IsRightAddress, IsRightConfigTarget, AreRightProducts, AreRightNumbers, IsRightConfig, NumbersAreRight, ConfigsAreRight}
@@ -135,8 +135,8 @@ found_collector d e =
     let found = has_url (text_at d collector_key.word) (when_true-none _ _ e) in
     subst (λ o. IsRightAddress (unwrap_or (option_map collector_of o) no_address)) (sym found.is) (collector_right found.url found.right)
 
-target_right : (found : ℕ × Members) → wrong_target found ≡ None → IsTrue (is_job (text_at found.1 job_word)) → IsRightConfigTarget (table_target found)
-target_right found e job =
+target_right : (honor : Bool) (found : ℕ × Members) → wrong_target found ≡ None → IsTrue (is_job (text_at found.1 job_word)) → IsRightConfigTarget (table_target honor found)
+target_right honor found e job =
     let url = has_url (text_at found.1 url_word) (when_true-none _ _ e) in
     record {
       job = job;
@@ -145,9 +145,9 @@ target_right found e job =
           (record { host = (url_right url.url url.right).0; port = (url_right url.url url.right).1 });
     }
 
-targets_right : (tables : List (ℕ × Members)) → first_some wrong_target tables ≡ None → HaveJobs tables → AllByRecursion IsRightConfigTarget (map table_target tables)
-targets_right [] e jobs = tt
-targets_right (t ∷ ts) e jobs = let both = first_none wrong_target t ts e in (target_right t both.0 jobs.0, targets_right ts both.1 jobs.1)
+targets_right : (honor : Bool) (tables : List (ℕ × Members)) → first_some wrong_target tables ≡ None → HaveJobs tables → AllByRecursion IsRightConfigTarget (map (table_target honor) tables)
+targets_right honor [] e jobs = tt
+targets_right honor (t ∷ ts) e jobs = let both = first_none wrong_target t ts e in (target_right honor t both.0 jobs.0, targets_right honor ts both.1 jobs.1)
 
 -- ---- the door
 
@@ -206,9 +206,9 @@ some_door : (d : Members) → key_fault d ≡ None → 1 ≤ key_number d pages_
 unfolding is_faulty key_number door_in
 some_door d e pages =
     let none = faultless d e in
-    let missing = second_fails (some_passes is_not_zero (get_member pages_key.word d)) (is_none (get_member listen_key.word d)) (when_true-none _ _ none.missing.1.1.1.1.1.1.1.1.0)
+    let missing = second_fails (some_passes is_not_zero (get_member pages_key.word d)) (is_none (get_member listen_key.word d)) (when_true-none _ _ none.missing.1.1.1.1.1.1.1.1.1.0)
     (asks (get_member pages_key.word d) pages) in
-    gives_door (get_member listen_key.word d) missing (when_true-none _ _ none.ranges.1.1.1.1.1.1.1.1.0)
+    gives_door (get_member listen_key.word d) missing (when_true-none _ _ none.ranges.1.1.1.1.1.1.1.1.1.0)
 
 -- ---- names
 
@@ -264,13 +264,14 @@ distinct n earlier (t ∷ ts) e =
 -- there are few targets
 pub config_few : (d : Members) → key_fault d ≡ None → length (config_of d).targets ≤ 256
 unfolding config_of
-config_few d e = (few_targets table_target d e).1
+config_few d e = (few_targets (table_target (key_truth d honor_key)) d e).1
 
 config_right : (d : Members) → config_fault d ≡ None → IsRightConfig (config_of d)
 unfolding config_of
 config_right d e =
     let f = whole_faultless d e in
-    let few = few_targets table_target d f.keys in
+    let honor = key_truth d honor_key in
+    let few = few_targets (table_target honor) d f.keys in
     record {
       numbers = numbers_right d e;
       products = products_right (config_of d) f.products;
@@ -279,7 +280,7 @@ config_right d e =
       some_door = some_door d f.keys;
       some_target = few.0;
       few_targets = few.1;
-      targets = targets_right (target_tables d) f.targets (jobs_right d f.keys);
+      targets = targets_right honor (target_tables d) f.targets (jobs_right d f.keys);
       names = distinct 1 [] (config_of d).targets f.names;
     }
 

@@ -1,5 +1,5 @@
 -- What the type of a target asks for, of the targets of a document.
-use Rattle.std.proofs.Common.{◌≡◌, ℕ, ◌+◌, ◌≤◌, true, false, List, ◌++◌, length, codes, nat_le, Some, ap, ◌∙◌, arith, length-append}
+use Rattle.std.proofs.Common.{◌≡◌, ℕ, ◌+◌, ◌≤◌, Bool, true, List, ◌++◌, length, codes, nat_le, Some, ap, ◌∙◌, arith, length-append}
 use Rattle.std.specs.Prelude.{IsUtf8}
 use Rattle.std.specs.Fmt.{decimal}
 use Rattle.std.proofs.lemmas.Bool.{and_parts, leb-true}
@@ -13,9 +13,9 @@ use Rattle.bridge_config.specs.Configurations.{instance_of}
 use Rattle.bridge_config.specs.KeyFaults.{is_job}
 use Rattle.bridge_config.proofs.RightLaws.{url_right, right_is}
 
-pub scraped : (job instance text : List ℕ) (address : Address) (u : Parts) → IsUtf8 job → IsUtf8 instance → IsUtf8 address.host → is_job job ≡ true
-    → instance ≡ instance_of (address_of u) → address ≡ address_of u → right_url text ≡ Some u → IsScraped (record { job = job; instance = instance; address = address; honor = false })
-scraped job instance text address u job_text instance_text host_text right is same found =
+pub scraped : (honor : Bool) (job instance text : List ℕ) (address : Address) (u : Parts) → IsUtf8 job → IsUtf8 instance → IsUtf8 address.host → is_job job ≡ true
+    → instance ≡ instance_of (address_of u) → address ≡ address_of u → right_url text ≡ Some u → IsScraped (record { job = job; instance = instance; address = address; honor = honor })
+scraped honor job instance text address u job_text instance_text host_text right is same found =
     let parts = url_right u (right_is text u found) in
     let host = in_range 1 256 (length (url_host u)) parts.0 in
     let port = in_range 1 65535 (port_of u) parts.1 in

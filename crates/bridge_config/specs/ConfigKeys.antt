@@ -6,13 +6,13 @@ use Rattle.std.specs.Int.{is_in_range}
 use Rattle.label_sets.specs.Lists.{◌>>=◌, some_passes}
 use Rattle.plain_words.specs.Places.{place_in}
 use Rattle.bridge_ports.specs.Targets.{most_targets}
-use Rattle.toml.specs.Data.{Data, Items, no_items, item, Members, no_members, member, as_str, as_integer, as_array, as_table}
+use Rattle.toml.specs.Data.{Data, Items, no_items, item, Members, no_members, member, as_str, as_integer, as_bool, as_array, as_table}
 use Rattle.bridge_config.specs.declared.key.Key.{Key}
-use Rattle.bridge_config.specs.declared.key.Key.TheVariants.{Collector, Rounds, Scrapers, Keep, Tries, MaxPage, SampleLimit, Interval, Listen, Pages, Target}
+use Rattle.bridge_config.specs.declared.key.Key.TheVariants.{Collector, Rounds, Scrapers, Keep, Tries, MaxPage, SampleLimit, Interval, Honor, Listen, Pages, Target}
 use Rattle.bridge_config.specs.declared.key.Form.{Form}
-use Rattle.bridge_config.specs.declared.key.Form.TheVariants.{Url, Place, Tables, Whole}
+use Rattle.bridge_config.specs.declared.key.Form.TheVariants.{Url, Place, Tables, Truth, Whole}
 
--- a key's word, and the form of its value: a URL, a host and a port, a whole number with its range and default, or tables
+-- a key's word, and the form of its value: a URL, a host and a port, a whole number with its range and default, a truth value, which is false where it is left out, or tables
 pub record KeyRow : Type 0 where
   pub word : List ℕ
   pub form : Form
@@ -49,6 +49,10 @@ sample_limit_key = record { word = codes "sample_limit"; form = Whole 1 200000 (
 abbrev pub interval_key : KeyRow
 interval_key = record { word = codes "interval_ms"; form = Whole 0 86400000 (Some 15000) }
 
+-- whether times of pages count
+abbrev pub honor_key : KeyRow
+honor_key = record { word = codes "honor_timestamps"; form = Truth }
+
 -- where the federation page is served
 abbrev pub listen_key : KeyRow
 listen_key = record { word = codes "listen"; form = Place }
@@ -71,13 +75,14 @@ key_row Tries = tries_key
 key_row MaxPage = max_page_key
 key_row SampleLimit = sample_limit_key
 key_row Interval = interval_key
+key_row Honor = honor_key
 key_row Listen = listen_key
 key_row Pages = pages_key
 key_row Target = target_key
 
 -- all keys, in the order of the table
 abbrev pub all_keys : List Key
-all_keys = Collector ∷ Rounds ∷ Scrapers ∷ Keep ∷ Tries ∷ MaxPage ∷ SampleLimit ∷ Interval ∷ Listen ∷ Pages ∷ Target ∷ []
+all_keys = Collector ∷ Rounds ∷ Scrapers ∷ Keep ∷ Tries ∷ MaxPage ∷ SampleLimit ∷ Interval ∷ Honor ∷ Listen ∷ Pages ∷ Target ∷ []
 
 -- the job of a target
 abbrev pub job_word : List ℕ
@@ -134,6 +139,7 @@ abbrev pub has_form : Form → Data → Bool
 has_form Url d = is_text d
 has_form Place d = is_text d
 has_form (Whole least most default) d = is_some (as_integer d)
+has_form Truth d = is_some (as_bool d)
 has_form Tables d = some_passes are_tables (as_array d)
 
 -- a whole number of this range
@@ -152,9 +158,10 @@ is_place d = some_passes (λ text. is_some (place_in most_door_host text)) (as_s
 abbrev pub are_few : Data → Bool
 are_few d = some_passes (λ items. is_in_range 1 most_targets (item_count items)) (as_array d)
 
--- the value of the key's form is in the key's range; a URL is judged apart
+-- the value of the key's form is in the key's range; a URL is judged apart, and a truth value has none
 abbrev pub is_in_form : Form → Data → Bool
 is_in_form Url d = true
 is_in_form Place d = is_place d
 is_in_form (Whole least most default) d = is_whole_in least most d
+is_in_form Truth d = true
 is_in_form Tables d = are_few d

@@ -1,17 +1,17 @@
 -- What a configuration says.
 -- TOML 1.1; the keys are the bridge's own.
-use Rattle.std.specs.Prelude.{◌≡◌, ℕ, ◌+◌, ◌*◌, ◌^◌, false, List, [], ◌∷◌, ◌++◌, map, codes, Option, Some, None, option_map, unwrap_or, IsUtf8}
+use Rattle.std.specs.Prelude.{◌≡◌, ℕ, ◌+◌, ◌*◌, ◌^◌, Bool, false, List, [], ◌∷◌, ◌++◌, map, codes, Option, Some, None, option_map, unwrap_or, IsUtf8}
 use Rattle.std.specs.Fmt.{decimal}
 use Rattle.label_sets.specs.Lists.{◌>>=◌}
 use Rattle.plain_words.specs.Places.{place_in}
 use Rattle.bridge_ports.specs.declared.talk.Address.{Address}
 use Rattle.bridge_ports.specs.Targets.{Scraped}
-use Rattle.toml.specs.Data.{Items, no_items, item, Members, get_member, as_str, as_array, as_table}
+use Rattle.toml.specs.Data.{Items, no_items, item, Members, get_member, as_str, as_bool, as_array, as_table}
 use Rattle.toml.specs.Parse.{parse_document}
 use Rattle.bridge_config.specs.declared.config.Config.{Config}
 use Rattle.bridge_config.specs.declared.key.Form.{Form}
 use Rattle.bridge_config.specs.declared.key.Form.TheVariants.{Whole}
-use Rattle.bridge_config.specs.ConfigKeys.{KeyRow, collector_key, rounds_key, scrapers_key, keep_key, tries_key, max_page_key, sample_limit_key, interval_key, listen_key, pages_key, target_key, job_word, url_word, natural_in, most_door_host}
+use Rattle.bridge_config.specs.ConfigKeys.{KeyRow, collector_key, rounds_key, scrapers_key, keep_key, tries_key, max_page_key, sample_limit_key, interval_key, honor_key, listen_key, pages_key, target_key, job_word, url_word, natural_in, most_door_host}
 use Rattle.bridge_config.specs.Addresses.{right_url, address_of, collector_of}
 
 -- the bytes are this TOML document
@@ -29,6 +29,10 @@ default_of _ = None
 -- the number of a key, or its default
 unfoldable pub key_number : Members → KeyRow → ℕ
 key_number document row = unwrap_or (get_member row.word document >>= natural_in) (unwrap_or (default_of row.form) 0)
+
+-- the truth value of a key, false where it is left out
+unfoldable pub key_truth : Members → KeyRow → Bool
+key_truth document row = unwrap_or (get_member row.word document >>= as_bool) false
 
 -- the text of a key
 unfoldable pub text_at : Members → List ℕ → List ℕ
@@ -74,13 +78,13 @@ collector_in document = unwrap_or (option_map collector_of (right_url (text_at d
 abbrev pub instance_of : Address → List ℕ
 instance_of a = a.host ++ (codes ":" ++ decimal a.port)
 
--- the target of a job and an address; its page time stamps are not honoured yet
-abbrev pub target_at : List ℕ → Address → Scraped
-target_at job address = record { job = job; instance = instance_of address; address = address; honor = false }
+-- the target of a job and an address, whose times of pages count or don't
+abbrev pub target_at : Bool → List ℕ → Address → Scraped
+target_at honor job address = record { job = job; instance = instance_of address; address = address; honor = honor }
 
 -- the target of a table
-abbrev pub table_target : ℕ × Members → Scraped
-table_target found = target_at (text_at found.1 job_word) (address_in (text_at found.1 url_word))
+abbrev pub table_target : Bool → ℕ × Members → Scraped
+table_target honor found = target_at honor (text_at found.1 job_word) (address_in (text_at found.1 url_word))
 
 -- the address of a host and a port
 abbrev pub place_address : List ℕ × ℕ → Address
@@ -105,5 +109,5 @@ config_of document = record {
   collector = collector_in document;
   door = door_in document;
   pages = key_number document pages_key;
-  targets = map table_target (target_tables document);
+  targets = map (table_target (key_truth document honor_key)) (target_tables document);
 }

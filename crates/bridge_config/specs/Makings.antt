@@ -1,6 +1,6 @@
 -- What the steps from a document with right keys to a configuration answer.
 -- The bridge's own.
-use Rattle.std.specs.Prelude.{◌≡◌, ℕ, ◌*◌, ◌^◌, true, List, map, Option, None, option_map, Result, MatchResult, Vec}
+use Rattle.std.specs.Prelude.{◌≡◌, ℕ, ◌*◌, ◌^◌, Bool, true, List, map, Option, None, option_map, Result, MatchResult, Vec}
 use Rattle.std.specs.List.{AllByRecursion}
 use Rattle.std.specs.declared.alloc.Global.{Global}
 use Rattle.label_sets.specs.Lists.{first_some}
@@ -42,13 +42,13 @@ MakesOr view wrong value result = MatchResult result (λ made. (wrong ≡ None) 
 abbrev pub MakesCollector : Members → Result addresses.Address ConfigFault → Type 0
 MakesCollector document = MakesOr (λ made. made) (wrong_address (0, text_at document collector_key.word)) (collector_in document)
 
--- the target of a table
-abbrev pub MakesTarget : ℕ × Members → Result Scraped ConfigFault → Type 0
-MakesTarget found = MakesOr (λ made. made) (wrong_target found) (table_target found)
+-- the target of a table, whose times of pages count or don't
+abbrev pub MakesTarget : Bool → ℕ × Members → Result Scraped ConfigFault → Type 0
+MakesTarget honor found = MakesOr (λ made. made) (wrong_target found) (table_target honor found)
 
 -- the targets of some tables
-abbrev pub MakesTargets : List (ℕ × Members) → Result (Vec Scraped Global) ConfigFault → Type 0
-MakesTargets tables = MakesOr (λ (made : Vec Scraped Global). made.items) (first_some wrong_target tables) (map table_target tables)
+abbrev pub MakesTargets : Bool → List (ℕ × Members) → Result (Vec Scraped Global) ConfigFault → Type 0
+MakesTargets honor tables = MakesOr (λ (made : Vec Scraped Global). made.items) (first_some wrong_target tables) (map (table_target honor) tables)
 
 -- the configuration of a document
 abbrev pub MakesConfig : Members → Result Config ConfigFault → Type 0

@@ -19,6 +19,7 @@ pub(crate) enum Key {
     MaxPage,
     SampleLimit,
     Interval,
+    Honor,
     Listen,
     Pages,
     Target,
@@ -32,6 +33,8 @@ pub(crate) enum Form {
     Place,
     /// An array of tables.
     Tables,
+    /// A truth value, which is false where the key is left out.
+    Truth,
     /// A whole number from the least to the most, and what holds where the key is left out.
     Whole(u32, u32, Option<u32>),
 }
@@ -46,7 +49,7 @@ pub(crate) enum Level {
 }
 
 /// All keys, in the order in which their faults go.
-pub(crate) const KEYS: [Key; 11] = [
+pub(crate) const KEYS: [Key; 12] = [
     Key::Collector,
     Key::Rounds,
     Key::Scrapers,
@@ -55,6 +58,7 @@ pub(crate) const KEYS: [Key; 11] = [
     Key::MaxPage,
     Key::SampleLimit,
     Key::Interval,
+    Key::Honor,
     Key::Listen,
     Key::Pages,
     Key::Target,
@@ -75,6 +79,7 @@ impl Key {
             Key::MaxPage => ("max_page", Form::Whole(1_024, 67_108_864, Some(16_777_216))),
             Key::SampleLimit => ("sample_limit", Form::Whole(1, 200_000, Some(20_000))),
             Key::Interval => ("interval_ms", Form::Whole(0, 86_400_000, Some(15_000))),
+            Key::Honor => ("honor_timestamps", Form::Truth),
             Key::Listen => ("listen", Form::Place),
             Key::Pages => ("pages", Form::Whole(0, 1_000, Some(0))),
             Key::Target => ("target", Form::Tables),

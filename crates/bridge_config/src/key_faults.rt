@@ -104,6 +104,7 @@ fn is_needed(document: &Table, key: Key) -> bool
         Key::MaxPage => false,
         Key::SampleLimit => false,
         Key::Interval => false,
+        Key::Honor => false,
         Key::Pages => false,
     }
 }

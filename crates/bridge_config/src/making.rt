@@ -2,7 +2,7 @@
 ghost use Rattle.std.specs.Prelude.{◌≡◌, None, IfOk, MatchResult, option_map, map};
 ghost use Rattle.label_sets.specs.Lists.{first_some};
 ghost use Rattle.toml.specs.View.{table_view};
-ghost use Rattle.bridge_config.specs.ConfigKeys.{collector_key};
+ghost use Rattle.bridge_config.specs.ConfigKeys.{collector_key, honor_key};
 ghost use Rattle.bridge_config.specs.Addresses as urls;
 ghost use Rattle.bridge_config.specs.Configurations as spec;
 ghost use Rattle.bridge_config.specs.KeyFaults.{key_fault};
@@ -16,7 +16,7 @@ use crate::config::Config;
 use crate::fault::ConfigFault;
 use crate::key::{JOB, Key, URL};
 use crate::tables::TargetTable;
-use crate::values::{MOST_DOOR_HOST_BYTES, key_number, text_at, value_at};
+use crate::values::{MOST_DOOR_HOST_BYTES, key_number, key_truth, text_at, value_at};
 use bridge_ports::{Address, MILLISECOND, Settings, Target};
 use label_sets::{Bytes, List, Memory, Text};
 use plain_words::host_and_port;
@@ -70,10 +70,10 @@ fn collector(alloc: Global, document: &Table) -> Result<Address, ConfigFault>
     }
 }
 
-/// The target of a table, or the fault of its URL.
-fn table_target(alloc: Global, found: &TargetTable<'_>) -> Result<Target, ConfigFault>
+/// The target of a table, whose times of pages count or don't, or the fault of its URL.
+fn table_target(alloc: Global, honor: bool, found: &TargetTable<'_>) -> Result<Target, ConfigFault>
     requires { making.HasJob (numbered found.now) }
-    ensures { making.MakesTarget (numbered found.now) result }
+    ensures { making.MakesTarget honor (numbered found.now) result }
 {
     let url = match right_url(alloc, text_at(found.table, URL))? {
         Some(url) => url,
@@ -83,19 +83,35 @@ fn table_target(alloc: Global, found: &TargetTable<'_>) -> Result<Target, Config
     let instance = instance_of(alloc, &url)?;
     let instance = Text::from_str(alloc, instance.as_str())?;
     let address = address_of(alloc, &url)?;
-    Ok(Target::new(job, instance, address, false))
+    Ok(Target::new(job, instance, address, honor))
 }
 
 /// The targets of some tables, or the first fault of a URL.
-fn targets_of(alloc: Global, tables: &[TargetTable<'_>]) -> Result<Vec<Target>, ConfigFault>
+fn targets_of(
+    alloc: Global,
+    honor: bool,
+    tables: &[TargetTable<'_>],
+) -> Result<Vec<Target>, ConfigFault>
     requires { making.HaveJobs (all_numbered tables.now) }
-    ensures { making.MakesTargets (all_numbered tables.now) result }
+    ensures { making.MakesTargets honor (all_numbered tables.now) result }
 {
     let mut targets = Vec::new(alloc);
     for found in tables {
-        targets.push(table_target(alloc, found)?)?;
+        targets.push(table_target(alloc, honor, found)?)?;
     }
     Ok(targets)
+}
+
+/// The targets of a document with these tables, or the first fault of a URL.
+fn document_targets(
+    alloc: Global,
+    document: &Table,
+    tables: &[TargetTable<'_>],
+) -> Result<Vec<Target>, ConfigFault>
+    requires { making.HaveJobs (all_numbered tables.now) }
+    ensures { making.MakesTargets (spec.key_truth (table_view document.now) honor_key) (all_numbered tables.now) result }
+{
+    targets_of(alloc, key_truth(document, Key::Honor), tables)
 }
 
 /// The configuration that a document says, or the first fault of an address.
@@ -111,7 +127,7 @@ pub(crate) fn config_of(
     ensures { making.MakesConfig (table_view document.now) result }
 {
     let collector = collector(alloc, document)?;
-    let targets = targets_of(alloc, tables)?;
+    let targets = document_targets(alloc, document, tables)?;
     let targets = List::from_vec(targets)?;
     let door = door_in(alloc, document)?;
     Ok(Config {

@@ -83,6 +83,7 @@ pub(crate) fn has_form(form: Form, value: &Value) -> bool
     match form {
         Form::Url | Form::Place => value.is_str(),
         Form::Whole(_, _, _) => value.is_integer(),
+        Form::Truth => value.is_bool(),
         Form::Tables => match value.as_array() {
             Some(items) => are_tables(items.as_slice()),
             None => false,
@@ -142,6 +143,7 @@ pub(crate) fn is_in_form(form: Form, value: &Value) -> bool
         Form::Url => true,
         Form::Place => is_place(value),
         Form::Whole(least, most, _) => is_in_range(least, most, value),
+        Form::Truth => true,
         Form::Tables => are_few(value),
     }
 }
@@ -158,5 +160,16 @@ pub(crate) fn key_number(document: &Table, key: Key) -> u64
     match value_at(document, key.word()) {
         Some(value) => natural_in(value).unwrap_or(default),
         None => default,
+    }
+}
+
+/// The truth value of a key; it is false where the key is left out.
+#[tactic(auto, unfolding(crate::specs::Configurations::key_truth))]
+pub(crate) fn key_truth(document: &Table, key: Key) -> bool
+    ensures { result ≡ spec.key_truth (table_view document.now) (keys.key_row key) }
+{
+    match value_at(document, key.word()) {
+        Some(value) => value.as_bool().unwrap_or(false),
+        None => false,
     }
 }

@@ -77,13 +77,13 @@ target_more number rounds made old new t was more is =
 
 -- the script of these targets
 pub script_is : (number targets rounds : ℕ) (ts : List ScriptTarget) → ts ≡ generated_targets number rounds targets
-    → record { header = record { keep = 2; tries = 3; limit = 20000; max_page = 16777216; cut = 4096; rounds = rounds }; targets = ts } ≡ generated_script number targets rounds
+    → record { header = record { keep = 2; tries = 3; limit = 20000; max_page = 16777216; cut = 4096; honor = false; rounds = rounds }; targets = ts } ≡ generated_script number targets rounds
 unfolding generated_script load_header
-script_is number targets rounds ts same = λ i. record { header = record { keep = 2; tries = 3; limit = 20000; max_page = 16777216; cut = 4096; rounds = rounds }; targets = same i }
+script_is number targets rounds ts same = λ i. record { header = record { keep = 2; tries = 3; limit = 20000; max_page = 16777216; cut = 4096; honor = false; rounds = rounds }; targets = same i }
 
 -- the same, where the numbers were made from others
 pub script_made : (number targets rounds n r t : ℕ) (ts : List ScriptTarget) → n ≡ number → r ≡ rounds → t ≡ targets → ts ≡ generated_targets n r t
-    → record { header = record { keep = 2; tries = 3; limit = 20000; max_page = 16777216; cut = 4096; rounds = rounds }; targets = ts } ≡ generated_script number targets rounds
+    → record { header = record { keep = 2; tries = 3; limit = 20000; max_page = 16777216; cut = 4096; honor = false; rounds = rounds }; targets = ts } ≡ generated_script number targets rounds
 script_made number targets rounds n r t ts a b c same =
     script_is number targets rounds ts (same ∙ ap (λ m. generated_targets m r t) a ∙ ap (λ m. generated_targets number m t) b ∙ ap (generated_targets number rounds) c)
 
@@ -143,6 +143,7 @@ right_target number rounds t few = record {
   host = hosts_visible t few;
   port = refl;
   path = refl;
+  honor = refl;
   scrapes = length-map-range_with_len (generated_reply number t) 0 rounds;
   replies = right_replies number t 0 rounds;
   posts = omega arith;

@@ -1,5 +1,5 @@
 -- The script that a number stands for: its targets, and what their wires answer. The bridge's own.
-use Rattle.std.specs.Prelude.{◌≡◌, ℕ, ◌+◌, ◌*◌, ◌%◌, ◌^◌, ◌<◌, ◌≤◌, Bool, ◌==◌, List, [], ◌++◌, map, codes, if◌then◌else◌}
+use Rattle.std.specs.Prelude.{◌≡◌, ℕ, ◌+◌, ◌*◌, ◌%◌, ◌^◌, ◌<◌, ◌≤◌, Bool, false, ◌==◌, List, [], ◌++◌, map, codes, if◌then◌else◌}
 use Rattle.std.specs.List.{AllByRecursion, range_with_len}
 use Rattle.std.specs.Fmt.{decimal}
 use Rattle.page_model.specs.declared.format.Format.TheVariants.{OpenMetrics}
@@ -10,7 +10,7 @@ use Rattle.replay_script.specs.declared.header.Header.{Header}
 use Rattle.replay_script.specs.declared.script.ScriptTarget.{ScriptTarget}
 use Rattle.replay_script.specs.declared.script.Script.{Script}
 use Rattle.replay_script.specs.ScriptParts.{TargetLine}
-use Rattle.replay_script.specs.ScriptContents.{page_reply, raw_reply, target_of}
+use Rattle.replay_script.specs.ScriptContents.{page_reply, raw_reply, line_target}
 use Rattle.load_pages.specs.GeneratedPages.{generated_text}
 
 -- ---- what may be asked for
@@ -70,9 +70,9 @@ generated_replies number target rounds = map (generated_reply number target) (ra
 unfoldable pub generated_line : ℕ → TargetLine
 generated_line target = record { job = codes "load"; host = codes "t" ++ decimal target; port = 80; path = codes "/metrics" }
 
--- what is scraped of a target
+-- what is scraped of a target, whose times of pages don't count
 abbrev pub generated_scraped : ℕ → Scraped
-generated_scraped target = target_of (generated_line target)
+generated_scraped target = line_target false (generated_line target)
 
 -- a target, and what its wires answer: all its posts get the default reply
 unfoldable pub generated_target : (number rounds target : ℕ) → ScriptTarget
@@ -84,7 +84,7 @@ generated_targets number rounds targets = map (generated_target number rounds) (
 
 -- the header: what a script has where it says nothing, but for the rounds
 unfoldable pub load_header : ℕ → Header
-load_header rounds = record { keep = 2; tries = 3; limit = 20000; max_page = 16777216; cut = 4096; rounds = rounds }
+load_header rounds = record { keep = 2; tries = 3; limit = 20000; max_page = 16777216; cut = 4096; honor = false; rounds = rounds }
 
 -- the script that a number, so many targets and so many rounds stand for
 unfoldable pub generated_script : (number targets rounds : ℕ) → Script

@@ -67,7 +67,7 @@ fn scraped(alloc: Global, number: u64) -> Result<Target, Memory>
         port: 80,
         path: b"/metrics",
     };
-    target(alloc, &words)
+    target(alloc, &words, false)
 }
 
 /// A target, numbered from 1, and what its wires answer.
@@ -142,6 +142,7 @@ pub fn generated(alloc: Global, number: u32, targets: u32, rounds: u32) -> Resul
             limit: 20_000,
             max_page: 16_777_216,
             cut: 4_096,
+            honor: false,
             rounds,
         },
         targets: List::from_vec(all)?,

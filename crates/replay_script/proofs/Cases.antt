@@ -32,7 +32,7 @@ one_target job instance host port path scrapes posts = record {
 -- a script
 abbrev a_script : ℕ → ℕ → ℕ → ℕ → ℕ → ℕ → List ScriptTarget → Script
 a_script keep tries limit max_page cut rounds targets = record {
-  header = record { keep = keep; tries = tries; limit = limit; max_page = max_page; cut = cut; rounds = rounds };
+  header = record { keep = keep; tries = tries; limit = limit; max_page = max_page; cut = cut; honor = false; rounds = rounds };
   targets = targets;
 }
 

@@ -11,7 +11,7 @@ use Rattle.plain_words.specs.Places.{is_visible, is_visible_word, is_port}
 use Rattle.plain_words.specs.HeadLines.{head_line}
 use Rattle.plain_words.proofs.Laws.{number_found, place_found, in_range, port_small, decimal_visible, are_visible, words_found}
 use Rattle.replay_script.specs.declared.header.HeaderLine.{HeaderLine}
-use Rattle.replay_script.specs.declared.header.HeaderLine.TheVariants.{Keep, Tries, Limit, MaxPage, Cut, Rounds}
+use Rattle.replay_script.specs.declared.header.HeaderLine.TheVariants.{Keep, Tries, Limit, MaxPage, Cut, Honor, Rounds}
 use Rattle.replay_script.specs.HeaderLines.{header_row, is_in_row}
 use Rattle.replay_script.specs.declared.ending.Ending.{Ending}
 use Rattle.replay_script.specs.declared.ending.Ending.TheVariants.{ConnectFails}
@@ -60,6 +60,7 @@ header_small Tries n e = omega (arith, (in_range 1 8 n e).1)
 header_small Limit n e = omega (arith, (in_range 1 200000 n e).1)
 header_small MaxPage n e = omega (arith, (in_range 1024 67108864 n e).1)
 header_small Cut n e = omega (arith, (in_range 1 65536 n e).1)
+header_small Honor n e = omega (arith, (in_range 0 1 n e).1)
 header_small Rounds n e = omega (arith, (in_range 1 1000000 n e).1)
 
 -- a header line is read as itself

@@ -9,13 +9,13 @@ use Rattle.plain_words.proofs.Laws.{in_range}
 use Rattle.bridge_ports.specs.Targets.{Scraped, have_same_names, most_targets}
 use Rattle.replay_script.specs.declared.header.Header.{Header}
 use Rattle.replay_script.specs.declared.header.HeaderLine.{HeaderLine}
-use Rattle.replay_script.specs.declared.header.HeaderLine.TheVariants.{Keep, Tries, Limit, MaxPage, Cut, Rounds}
+use Rattle.replay_script.specs.declared.header.HeaderLine.TheVariants.{Keep, Tries, Limit, MaxPage, Cut, Honor, Rounds}
 use Rattle.bridge_ports.specs.declared.talk.MemoryReply.{MemoryReply}
 use Rattle.replay_script.specs.declared.script.ScriptTarget.{ScriptTarget}
 use Rattle.replay_script.specs.declared.progress.Progress.{Progress}
 use Rattle.replay_script.specs.HeaderLines.{header_row, place_of, is_in_row}
 use Rattle.replay_script.specs.ScriptParts.{TargetLine, Part, opening, header, target, page, scrape, post}
-use Rattle.replay_script.specs.ScriptContents.{header_of, header_number, written_number, target_of, new_target, targets_of}
+use Rattle.replay_script.specs.ScriptContents.{header_of, header_number, written_number, are_honored, line_target, target_of, new_target, targets_of}
 use Rattle.replay_script.specs.ScriptRules.{may_stand_behind, is_next_line, has_rounds, is_last_whole, is_target_line, has_namesake, is_named_before, AreInOrder}
 use Rattle.replay_script.specs.Progresses.{place_behind, with_header_number, target_read, targets_read, has_whole_target, Knows, IsClosed, TakesPart}
 use Rattle.replay_script.proofs.RightLaws.{in_row}
@@ -23,7 +23,7 @@ use Rattle.replay_script.proofs.RightLaws.{in_row}
 -- ---- the opening line
 
 -- it stands in front of all
-opens : (earlier : List Part) → may_stand_behind earlier opening ≡ nat_eq (place_behind earlier) 7
+opens : (earlier : List Part) → may_stand_behind earlier opening ≡ nat_eq (place_behind earlier) 8
 unfolding may_stand_behind
 opens [] = refl
 opens (opening ∷ earlier) = refl
@@ -32,6 +32,7 @@ opens (header Tries n ∷ earlier) = refl
 opens (header Limit n ∷ earlier) = refl
 opens (header MaxPage n ∷ earlier) = refl
 opens (header Cut n ∷ earlier) = refl
+opens (header Honor n ∷ earlier) = refl
 opens (header Rounds n ∷ earlier) = refl
 opens (target t ∷ earlier) = refl
 opens (page at format body ∷ earlier) = refl
@@ -42,8 +43,8 @@ opens (post at ending bytes ∷ earlier) = refl
 pub refused : (p : Part) (old new : Progress) → ((earlier : List Part) → AreInOrder earlier → Knows earlier old → may_stand_behind earlier p ≡ false) → TakesPart p old new false
 refused p old new fails earlier o k = (sym (fails earlier o k), λ e. absurd (true≢false (sym e)))
 
-pub opening_refused : (old new : Progress) → old.place ≢ 7 → TakesPart opening old new false
-opening_refused old new other = refused opening old new (λ earlier o k. opens earlier ∙ ne_eqb (place_behind earlier) 7 (λ e. other (k.place ∙ e)))
+pub opening_refused : (old new : Progress) → old.place ≢ 8 → TakesPart opening old new false
+opening_refused old new other = refused opening old new (λ earlier o k. opens earlier ∙ ne_eqb (place_behind earlier) 8 (λ e. other (k.place ∙ e)))
 
 -- what is kept of targets stays
 same_read : (old new : Progress) → new.target ≡ old.target → new.scrapes.items ≡ old.scrapes.items → new.posts.items ≡ old.posts.items → new.finished.items ≡ old.finished.items
@@ -59,9 +60,9 @@ header_opened : (earlier : List Part) → header_of earlier ≡ header_of (openi
 unfolding header_of
 header_opened earlier = refl
 
-pub opening_taken : (old new : Progress) → old.place ≡ 7 → new.place ≡ 0 → new.header ≡ old.header → new.target ≡ old.target → new.scrapes.items ≡ old.scrapes.items → new.posts.items ≡ old.posts.items → new.finished.items ≡ old.finished.items → TakesPart opening old new true
+pub opening_taken : (old new : Progress) → old.place ≡ 8 → new.place ≡ 0 → new.header ≡ old.header → new.target ≡ old.target → new.scrapes.items ≡ old.scrapes.items → new.posts.items ≡ old.posts.items → new.finished.items ≡ old.finished.items → TakesPart opening old new true
 opening_taken old new is place same_header same_target same_scrapes same_posts same_finished earlier o k = (
-  sym (opens earlier ∙ eq-eqb (place_behind earlier) 7 (sym k.place ∙ is)),
+  sym (opens earlier ∙ eq-eqb (place_behind earlier) 8 (sym k.place ∙ is)),
   λ _. record {
     place = place;
     header = same_header ∙ k.header ∙ header_opened earlier;
@@ -72,13 +73,13 @@ opening_taken old new is place same_header same_target same_scrapes same_posts s
 
 -- ---- header lines
 
+below_eight : (line : HeaderLine) → nat_lt 8 (place_of line) ≡ false
+below_eight Keep = refl
+below_eight _ = refl
+
 below_seven : (line : HeaderLine) → nat_lt 7 (place_of line) ≡ false
 below_seven Keep = refl
 below_seven _ = refl
-
-below_six : (line : HeaderLine) → nat_lt 6 (place_of line) ≡ false
-below_six Keep = refl
-below_six _ = refl
 
 above_none : (line : HeaderLine) → nat_lt 0 (place_of line) ≡ true
 above_none Keep = refl
@@ -86,13 +87,13 @@ above_none _ = refl
 
 -- a line is next where its place is greater
 next_is : (line : HeaderLine) (earlier : List Part) → is_next_line line earlier ≡ nat_lt (place_behind earlier) (place_of line)
-next_is line [] = sym (below_seven line)
+next_is line [] = sym (below_eight line)
 next_is line (opening ∷ earlier) = sym (above_none line)
 next_is line (header other n ∷ earlier) = refl
-next_is line (target t ∷ earlier) = sym (below_six line)
-next_is line (page at format body ∷ earlier) = sym (below_six line)
-next_is line (scrape at ending bytes ∷ earlier) = sym (below_six line)
-next_is line (post at ending bytes ∷ earlier) = sym (below_six line)
+next_is line (target t ∷ earlier) = sym (below_seven line)
+next_is line (page at format body ∷ earlier) = sym (below_seven line)
+next_is line (scrape at ending bytes ∷ earlier) = sym (below_seven line)
+next_is line (post at ending bytes ∷ earlier) = sym (below_seven line)
 
 pub not_next : (line : HeaderLine) (n : ℕ) (old new : Progress) → place_of line ≤ old.place → TakesPart (header line n) old new false
 unfolding may_stand_behind
@@ -130,6 +131,7 @@ row_small Tries n e = omega (arith, (in_range 1 8 n e).1)
 row_small Limit n e = omega (arith, (in_range 1 200000 n e).1)
 row_small MaxPage n e = omega (arith, (in_range 1024 67108864 n e).1)
 row_small Cut n e = omega (arith, (in_range 1 65536 n e).1)
+row_small Honor n e = omega (arith, (in_range 0 1 n e).1)
 row_small Rounds n e = omega (arith, (in_range 1 1000000 n e).1)
 
 -- ---- target lines
@@ -210,14 +212,24 @@ too_many_targets t old closed is many = refused (target t) old closed (λ earlie
     let count : length (targets_of earlier) ≡ length closed.finished.items = ap length (above_known earlier old closed k is) ∙ length-reverse closed.finished.items in
     third_false (has_rounds earlier) _ _ _ _ (ap (λ n. nat_lt n most_targets) count ∙ le-ltb (length closed.finished.items) most_targets many))
 
--- the names of the targets above
-named_known : (t : TargetLine) (earlier : List Part) (old closed : Progress) (named : Bool) → Knows earlier old → IsClosed old closed → has_namesake closed.finished.items (target_of t) ≡ named
-    → is_named_before t (targets_of earlier) ≡ named
-named_known t earlier old closed named k is found =
-    ap (is_named_before t) (above_known earlier old closed k is)
-    ∙ sym (list_any-IsPermutation (λ (other : ScriptTarget). have_same_names (target_of t) other.target) closed.finished.items (reverse closed.finished.items) (IsPermutation-reverse closed.finished.items)) ∙ found
+-- whether times of pages count
+header_honor : (parts : List Part) → (header_of parts).honor ≡ are_honored parts
+unfolding header_of
+header_honor parts = refl
 
-pub named_before : (t : TargetLine) (old closed : Progress) → IsClosed old closed → has_namesake closed.finished.items (target_of t) ≡ true → TakesPart (target t) old closed false
+-- the target of a line is the one that is made by what is kept
+target_known : (t : TargetLine) (earlier : List Part) (old closed : Progress) → Knows earlier old → IsClosed old closed → line_target closed.header.honor t ≡ target_of earlier t
+target_known t earlier old closed k is = ap (λ b. line_target b t) (ap (λ (h : Header). h.honor) (is.header ∙ k.header) ∙ header_honor earlier)
+
+-- the names of the targets above
+named_known : (t : TargetLine) (earlier : List Part) (old closed : Progress) (named : Bool) → Knows earlier old → IsClosed old closed
+    → has_namesake closed.finished.items (line_target closed.header.honor t) ≡ named → is_named_before earlier t ≡ named
+named_known t earlier old closed named k is found =
+    ap (λ ts. has_namesake ts (target_of earlier t)) (above_known earlier old closed k is)
+    ∙ sym (list_any-IsPermutation (λ (other : ScriptTarget). have_same_names (target_of earlier t) other.target) closed.finished.items (reverse closed.finished.items) (IsPermutation-reverse closed.finished.items))
+    ∙ ap (has_namesake closed.finished.items) (sym (target_known t earlier old closed k is)) ∙ found
+
+pub named_before : (t : TargetLine) (old closed : Progress) → IsClosed old closed → has_namesake closed.finished.items (line_target closed.header.honor t) ≡ true → TakesPart (target t) old closed false
 unfolding may_stand_behind
 named_before t old closed is found = refused (target t) old closed (λ earlier o k. fifth_false (has_rounds earlier) _ _ _ _ (ap not (named_known t earlier old closed true k is found)))
 
@@ -230,24 +242,25 @@ unfolding header_of
 target_header t earlier = refl
 
 pub target_taken : (t : TargetLine) (old closed new : Progress) → old.header.rounds ≢ 0 → has_whole_target old ≡ true → is_target_line t ≡ true → IsClosed old closed
-    → length closed.finished.items < most_targets → has_namesake closed.finished.items (target_of t) ≡ false → new.place ≡ 6 → new.header ≡ closed.header → new.target ≡ Some (target_of t)
-    → new.scrapes.items ≡ closed.scrapes.items → new.posts.items ≡ closed.posts.items → new.finished.items ≡ closed.finished.items → TakesPart (target t) old new true
+    → length closed.finished.items < most_targets → has_namesake closed.finished.items (line_target closed.header.honor t) ≡ false → new.place ≡ 7 → new.header ≡ closed.header
+    → new.target ≡ Some (line_target closed.header.honor t) → new.scrapes.items ≡ closed.scrapes.items → new.posts.items ≡ closed.posts.items → new.finished.items ≡ closed.finished.items → TakesPart (target t) old new true
 unfolding may_stand_behind
 target_taken t old closed new some whole line is few other place same_header made same_scrapes same_posts same_finished earlier o k =
     let above = above_known earlier old closed k is in
     let count : length (targets_of earlier) ≡ length closed.finished.items = ap length above ∙ length-reverse closed.finished.items in
-    let read : targets_read new ≡ new_target t ∷ reverse closed.finished.items =
-    ap (λ u. target_read u new.scrapes.items new.posts.items ++ reverse new.finished.items) made
-    ∙ ap (λ rs. target_read (Some (target_of t)) rs new.posts.items ++ reverse new.finished.items) (same_scrapes ∙ is.no_scrapes)
-    ∙ ap (λ rs. target_read (Some (target_of t)) [] rs ++ reverse new.finished.items) (same_posts ∙ is.no_posts)
-    ∙ ap (λ ts. new_target t ∷ reverse ts) same_finished in (
-      sym (all_five (has_rounds earlier) (is_last_whole (header_number earlier Rounds) (targets_of earlier)) (nat_lt (length (targets_of earlier)) most_targets) (is_target_line t) (not (is_named_before t (targets_of earlier)))
+    let named : new.target ≡ Some (target_of earlier t) = made ∙ ap Some (target_known t earlier old closed k is) in
+    let read : targets_read new ≡ new_target earlier t ∷ reverse closed.finished.items =
+    ap (λ u. target_read u new.scrapes.items new.posts.items ++ reverse new.finished.items) named
+    ∙ ap (λ rs. target_read (Some (target_of earlier t)) rs new.posts.items ++ reverse new.finished.items) (same_scrapes ∙ is.no_scrapes)
+    ∙ ap (λ rs. target_read (Some (target_of earlier t)) [] rs ++ reverse new.finished.items) (same_posts ∙ is.no_posts)
+    ∙ ap (λ ts. new_target earlier t ∷ reverse ts) same_finished in (
+      sym (all_five (has_rounds earlier) (is_last_whole (header_number earlier Rounds) (targets_of earlier)) (nat_lt (length (targets_of earlier)) most_targets) (is_target_line t) (not (is_named_before earlier t))
           (some_rounds earlier (λ e. some (ap (λ (h : Header). h.rounds) k.header ∙ e))) (last_known earlier old k ∙ whole)
           (ap (λ n. nat_lt n most_targets) count ∙ lt-ltb (length closed.finished.items) most_targets few) line (ap not (named_known t earlier old closed false k is other))),
       λ _. record {
         place = place;
         header = same_header ∙ is.header ∙ k.header ∙ target_header t earlier;
-        targets = ap (λ ts. new_target t ∷ ts) above ∙ sym read;
-        none_finished = λ none. absurd (none-some (target_of t) (sym none ∙ made));
+        targets = ap (λ ts. new_target earlier t ∷ ts) above ∙ sym read;
+        none_finished = λ none. absurd (none-some (target_of earlier t) (sym none ∙ named));
       },
     )

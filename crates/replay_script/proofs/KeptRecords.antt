@@ -77,9 +77,9 @@ the_target (Some t) e = (t, refl)
 
 -- what is kept with a reply more of the last target, whose replies are then these
 reply_known : (p : Part) (old new : Progress) (earlier : List Part) (scrapes posts : List MemoryReply) → Knows earlier old → is_some old.target ≡ true
-    → place_behind (p ∷ earlier) ≡ 6 → header_of (p ∷ earlier) ≡ header_of earlier
+    → place_behind (p ∷ earlier) ≡ 7 → header_of (p ∷ earlier) ≡ header_of earlier
     → ((last : Scraped) → targets_of earlier ≡ target_read (Some last) old.scrapes.items old.posts.items ++ reverse old.finished.items → targets_of (p ∷ earlier) ≡ target_read (Some last) scrapes posts ++ reverse old.finished.items)
-    → new.place ≡ 6 → new.header ≡ old.header → new.target ≡ old.target → new.scrapes.items ≡ scrapes → new.posts.items ≡ posts → new.finished.items ≡ old.finished.items → Knows (p ∷ earlier) new
+    → new.place ≡ 7 → new.header ≡ old.header → new.target ≡ old.target → new.scrapes.items ≡ scrapes → new.posts.items ≡ posts → new.finished.items ≡ old.finished.items → Knows (p ∷ earlier) new
 reply_known p old new earlier scrapes posts k some at_place its_header one_more place same_header same_target its_scrapes its_posts same_finished =
     let last = the_target old.target some in
     let TargetsWith : Option Scraped → List MemoryReply → List MemoryReply → List ScriptTarget → List ScriptTarget = λ u xs ys ts. target_read u xs ys ++ reverse ts in
@@ -97,16 +97,16 @@ reply_known p old new earlier scrapes posts k some at_place its_header one_more 
 
 -- with a scrape more
 scrape_known : (p : Part) (r : MemoryReply) (old new : Progress) (earlier : List Part) → Knows earlier old → is_some old.target ≡ true
-    → place_behind (p ∷ earlier) ≡ 6 → header_of (p ∷ earlier) ≡ header_of earlier → targets_of (p ∷ earlier) ≡ with_scrape r (targets_of earlier)
-    → new.place ≡ 6 → new.header ≡ old.header → new.target ≡ old.target → new.scrapes.items ≡ old.scrapes.items ++ r ∷ [] → new.posts.items ≡ old.posts.items
+    → place_behind (p ∷ earlier) ≡ 7 → header_of (p ∷ earlier) ≡ header_of earlier → targets_of (p ∷ earlier) ≡ with_scrape r (targets_of earlier)
+    → new.place ≡ 7 → new.header ≡ old.header → new.target ≡ old.target → new.scrapes.items ≡ old.scrapes.items ++ r ∷ [] → new.posts.items ≡ old.posts.items
     → new.finished.items ≡ old.finished.items → Knows (p ∷ earlier) new
 scrape_known p r old new earlier k some at_place its_header its_targets =
     reply_known p old new earlier (old.scrapes.items ++ r ∷ []) old.posts.items k some at_place its_header (λ last before. its_targets ∙ ap (with_scrape r) before)
 
 -- with a post more
 post_known : (p : Part) (r : MemoryReply) (old new : Progress) (earlier : List Part) → Knows earlier old → is_some old.target ≡ true
-    → place_behind (p ∷ earlier) ≡ 6 → header_of (p ∷ earlier) ≡ header_of earlier → targets_of (p ∷ earlier) ≡ with_post r (targets_of earlier)
-    → new.place ≡ 6 → new.header ≡ old.header → new.target ≡ old.target → new.scrapes.items ≡ old.scrapes.items → new.posts.items ≡ old.posts.items ++ r ∷ []
+    → place_behind (p ∷ earlier) ≡ 7 → header_of (p ∷ earlier) ≡ header_of earlier → targets_of (p ∷ earlier) ≡ with_post r (targets_of earlier)
+    → new.place ≡ 7 → new.header ≡ old.header → new.target ≡ old.target → new.scrapes.items ≡ old.scrapes.items → new.posts.items ≡ old.posts.items ++ r ∷ []
     → new.finished.items ≡ old.finished.items → Knows (p ∷ earlier) new
 post_known p r old new earlier k some at_place its_header its_targets =
     reply_known p old new earlier old.scrapes.items (old.posts.items ++ r ∷ []) k some at_place its_header (λ last before. its_targets ∙ ap (with_post r) before)
@@ -126,7 +126,7 @@ page_header : (at : ℕ) (format : Format) (body : List ℕ) (earlier : List Par
 unfolding header_of
 page_header at format body earlier = refl
 
-pub page_taken : (at : ℕ) (format : Format) (body : List ℕ) (old new : Progress) → is_some old.target ≡ true → at < 2 ^ 64 → length body < 2 ^ 32 → new.place ≡ 6 → new.header ≡ old.header → new.target ≡ old.target
+pub page_taken : (at : ℕ) (format : Format) (body : List ℕ) (old new : Progress) → is_some old.target ≡ true → at < 2 ^ 64 → length body < 2 ^ 32 → new.place ≡ 7 → new.header ≡ old.header → new.target ≡ old.target
     → new.scrapes.items ≡ old.scrapes.items ++ page_reply at format body ∷ [] → new.posts.items ≡ old.posts.items → new.finished.items ≡ old.finished.items → TakesPart (page at format body) old new true
 unfolding may_stand_behind
 page_taken at format body old new some early short place same_header same_target more same_posts same_finished earlier o k = (
@@ -156,7 +156,7 @@ unfolding header_of
 scrape_header at ending bytes earlier = refl
 
 pub scrape_taken : (at : ℕ) (ending : Ending) (bytes : List ℕ) (old new : Progress) → is_some old.target ≡ true → at < 2 ^ 64 → length bytes < 2 ^ 32 → fits_ending ending bytes ≡ true
-    → new.place ≡ 6 → new.header ≡ old.header → new.target ≡ old.target
+    → new.place ≡ 7 → new.header ≡ old.header → new.target ≡ old.target
     → new.scrapes.items ≡ old.scrapes.items ++ raw_reply at ending bytes ∷ [] → new.posts.items ≡ old.posts.items → new.finished.items ≡ old.finished.items → TakesPart (scrape at ending bytes) old new true
 unfolding may_stand_behind
 scrape_taken at ending bytes old new some early short fits place same_header same_target more same_posts same_finished earlier o k = (
@@ -194,7 +194,7 @@ unfolding header_of
 post_header at ending bytes earlier = refl
 
 pub post_taken : (at : ℕ) (ending : Ending) (bytes : List ℕ) (old new : Progress) → is_some old.target ≡ true → nat_lt (length old.posts.items) (old.header.rounds * old.header.tries) ≡ true → at < 2 ^ 64
-    → length bytes < 2 ^ 32 → fits_ending ending bytes ≡ true → new.place ≡ 6 → new.header ≡ old.header → new.target ≡ old.target
+    → length bytes < 2 ^ 32 → fits_ending ending bytes ≡ true → new.place ≡ 7 → new.header ≡ old.header → new.target ≡ old.target
     → new.scrapes.items ≡ old.scrapes.items → new.posts.items ≡ old.posts.items ++ raw_reply at ending bytes ∷ [] → new.finished.items ≡ old.finished.items → TakesPart (post at ending bytes) old new true
 unfolding may_stand_behind
 post_taken at ending bytes old new some few early short fits place same_header same_target same_scrapes more same_finished earlier o k = (

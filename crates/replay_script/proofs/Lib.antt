@@ -9,3 +9,4 @@ pub mod Fronts
 pub mod ReadOn
 pub mod Laws
 mod Cases
+mod HonorCases

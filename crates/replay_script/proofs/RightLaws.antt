@@ -21,10 +21,10 @@ use Rattle.replay_script.specs.declared.ending.Ending.{Ending}
 use Rattle.replay_script.specs.declared.ending.Ending.TheVariants.{ConnectFails, WriteFails, ReadFails, PeerEnds}
 use Rattle.bridge_ports.specs.Targets.{Scraped, have_same_names, most_targets}
 use Rattle.replay_script.specs.declared.header.HeaderLine.{HeaderLine}
-use Rattle.replay_script.specs.declared.header.HeaderLine.TheVariants.{Keep, Tries, Limit, MaxPage, Cut, Rounds}
+use Rattle.replay_script.specs.declared.header.HeaderLine.TheVariants.{Keep, Tries, Limit, MaxPage, Cut, Honor, Rounds}
 use Rattle.replay_script.specs.HeaderLines.{place_of, header_row, is_in_row}
 use Rattle.replay_script.specs.ScriptParts.{TargetLine, Part, opening, header, target, page, scrape, post}
-use Rattle.replay_script.specs.ScriptContents.{number_at, written_number, header_number, header_of, page_reply, raw_reply, target_of, new_target, with_scrape, with_post, targets_of, script_of}
+use Rattle.replay_script.specs.ScriptContents.{number_at, written_number, header_number, are_honored, header_of, page_reply, raw_reply, target_of, new_target, with_scrape, with_post, targets_of, script_of}
 use Rattle.replay_script.specs.ScriptRules.{is_next_line, has_rounds, is_last_whole, is_target_line, is_record, fits_ending, has_target, has_room_for_post, is_named_before, may_stand_behind, may_end, AreInOrder}
 use Rattle.replay_script.proofs.ScriptTargets.{script_target}
 use Rattle.replay_script.specs.RightScripts.{IsOver, IsRightReply, IsRightHeader, IsRightTarget, IsRightScript, ScriptsAreRight}
@@ -39,7 +39,8 @@ line_at (suc (suc zero)) = Tries
 line_at (suc (suc (suc zero))) = Limit
 line_at (suc (suc (suc (suc zero)))) = MaxPage
 line_at (suc (suc (suc (suc (suc zero))))) = Cut
-line_at (suc (suc (suc (suc (suc (suc n)))))) = Rounds
+line_at (suc (suc (suc (suc (suc (suc zero)))))) = Honor
+line_at (suc (suc (suc (suc (suc (suc (suc n))))))) = Rounds
 
 at_place : (line : HeaderLine) → line_at (place_of line) ≡ line
 unfolding line_at
@@ -89,7 +90,7 @@ rounds_above [] o e = absurd (true≢false (sym e))
 rounds_above (opening ∷ earlier) o e = rounds_above earlier o.1 e
 rounds_above (header other m ∷ earlier) o e = or_some (number_at Rounds (header other m)) (written_number earlier Rounds) (rounds_above earlier o.1 e)
 rounds_above (target t ∷ earlier) o e =
-    let a = and_parts (has_rounds earlier && is_last_whole (header_number earlier Rounds) (targets_of earlier) && nat_lt (length (targets_of earlier)) most_targets && is_target_line t) (not (is_named_before t (targets_of earlier))) o.0 in
+    let a = and_parts (has_rounds earlier && is_last_whole (header_number earlier Rounds) (targets_of earlier) && nat_lt (length (targets_of earlier)) most_targets && is_target_line t) (not (is_named_before earlier t)) o.0 in
     let b = and_parts (has_rounds earlier && is_last_whole (header_number earlier Rounds) (targets_of earlier) && nat_lt (length (targets_of earlier)) most_targets) (is_target_line t) a.0 in
     let c = and_parts (has_rounds earlier && is_last_whole (header_number earlier Rounds) (targets_of earlier)) (nat_lt (length (targets_of earlier)) most_targets) b.0 in
     (and_parts (has_rounds earlier) (is_last_whole (header_number earlier Rounds) (targets_of earlier)) c.0).0
@@ -137,7 +138,7 @@ few_targets [] o = omega arith
 few_targets (opening ∷ earlier) o = few_targets earlier o.1
 few_targets (header line n ∷ earlier) o = few_targets earlier o.1
 few_targets (target t ∷ earlier) o =
-    let a = and_parts (has_rounds earlier && is_last_whole (header_number earlier Rounds) (targets_of earlier) && nat_lt (length (targets_of earlier)) most_targets && is_target_line t) (not (is_named_before t (targets_of earlier))) o.0 in
+    let a = and_parts (has_rounds earlier && is_last_whole (header_number earlier Rounds) (targets_of earlier) && nat_lt (length (targets_of earlier)) most_targets && is_target_line t) (not (is_named_before earlier t)) o.0 in
     let b = and_parts (has_rounds earlier && is_last_whole (header_number earlier Rounds) (targets_of earlier) && nat_lt (length (targets_of earlier)) most_targets) (is_target_line t) a.0 in
     let c = and_parts (has_rounds earlier && is_last_whole (header_number earlier Rounds) (targets_of earlier)) (nat_lt (length (targets_of earlier)) most_targets) b.0 in
     let less : length (targets_of earlier) < most_targets = ltb-true (length (targets_of earlier)) most_targets c.1 in
@@ -152,13 +153,14 @@ few_targets (post at ending bytes ∷ earlier) o = omega (arith, few_targets ear
 abbrev most_posts : List Part → ℕ
 most_posts parts = header_number parts Rounds * header_number parts Tries
 
--- a target's words and replies are right, and it has no more posts than these
-record IsSound (most : ℕ) (t : ScriptTarget) : Type 0 where
+-- a target's words and replies are right, its times of pages count just where they are to, and it has no more posts than these
+record IsSound (most : ℕ) (honored : Bool) (t : ScriptTarget) : Type 0 where
   instance : t.target.instance ≡ t.target.address.host ++ (codes ":" ++ decimal t.target.address.port)
   job : is_visible_word 256 t.target.job ≡ true
   host : is_visible_word 256 t.target.address.host ≡ true
   port : is_port t.target.address.port ≡ true
   path : is_visible_word 256 t.target.address.path ≡ true
+  honor : t.target.honor ≡ honored
   replies : AllByRecursion IsRightReply t.scrapes
   posts : length t.posts ≤ most
   post_replies : AllByRecursion IsRightReply t.posts
@@ -176,13 +178,13 @@ no_target_yet line (scrape at ending bytes ∷ earlier) next o = absurd (true≢
 no_target_yet line (post at ending bytes ∷ earlier) next o = absurd (true≢false (sym next))
 
 -- a new target is sound
-new_sound : (most : ℕ) (t : TargetLine) → is_target_line t ≡ true → IsSound most (new_target t)
-new_sound most t e =
+new_sound : (most : ℕ) (earlier : List Part) (t : TargetLine) → is_target_line t ≡ true → IsSound most (are_honored earlier) (new_target earlier t)
+new_sound most earlier t e =
     let a = and_parts (is_visible_word 256 t.job && is_visible_word 256 t.host && is_port t.port && is_visible_word 256 t.path) (starts_with nat_eq t.path (codes "/")) e in
     let b = and_parts (is_visible_word 256 t.job && is_visible_word 256 t.host && is_port t.port) (is_visible_word 256 t.path) a.0 in
     let c = and_parts (is_visible_word 256 t.job && is_visible_word 256 t.host) (is_port t.port) b.0 in
     let d = and_parts (is_visible_word 256 t.job) (is_visible_word 256 t.host) c.0 in
-    record { instance = refl; job = d.0; host = d.1; port = c.1; path = b.1; replies = tt; posts = omega arith; post_replies = tt }
+    record { instance = refl; job = d.0; host = d.1; port = c.1; path = b.1; honor = refl; replies = tt; posts = omega arith; post_replies = tt }
 
 -- the replies of records end by themselves
 page_over : (at : ℕ) (format : Format) (body : List ℕ) → IsOver (page_reply at format body)
@@ -221,21 +223,23 @@ page_right at format body = record { over = page_over at format body; silent = p
 pub raw_right : (at : ℕ) (ending : Ending) (bytes : List ℕ) → fits_ending ending bytes ≡ true → IsRightReply (raw_reply at ending bytes)
 raw_right at ending bytes fits = record { over = raw_over at ending bytes; silent = raw_silent at ending bytes fits }
 
-sound_scrape : (most : ℕ) (reply : MemoryReply) (ts : List ScriptTarget) → IsRightReply reply → AllByRecursion (IsSound most) ts → AllByRecursion (IsSound most) (with_scrape reply ts)
-sound_scrape most reply [] is all = tt
-sound_scrape most reply (t ∷ ts) is all =
+sound_scrape : (most : ℕ) (honored : Bool) (reply : MemoryReply) (ts : List ScriptTarget) → IsRightReply reply → AllByRecursion (IsSound most honored) ts
+    → AllByRecursion (IsSound most honored) (with_scrape reply ts)
+sound_scrape most honored reply [] is all = tt
+sound_scrape most honored reply (t ∷ ts) is all =
     let h = all.0 in
     let replies = all-append IsRightReply t.scrapes (reply ∷ []) h.replies (is, tt) in
-    (record { instance = h.instance; job = h.job; host = h.host; port = h.port; path = h.path; replies = replies; posts = h.posts; post_replies = h.post_replies }, all.1)
+    (record { instance = h.instance; job = h.job; host = h.host; port = h.port; path = h.path; honor = h.honor; replies = replies; posts = h.posts; post_replies = h.post_replies }, all.1)
 
-sound_post : (most : ℕ) (reply : MemoryReply) (ts : List ScriptTarget) → has_room_for_post most ts ≡ true → IsRightReply reply → AllByRecursion (IsSound most) ts → AllByRecursion (IsSound most) (with_post reply ts)
-sound_post most reply [] room is all = tt
-sound_post most reply (t ∷ ts) room is all =
+sound_post : (most : ℕ) (honored : Bool) (reply : MemoryReply) (ts : List ScriptTarget) → has_room_for_post most ts ≡ true → IsRightReply reply → AllByRecursion (IsSound most honored) ts
+    → AllByRecursion (IsSound most honored) (with_post reply ts)
+sound_post most honored reply [] room is all = tt
+sound_post most honored reply (t ∷ ts) room is all =
     let h = all.0 in
     let less : length t.posts < most = ltb-true (length t.posts) most room in
     let post_replies = all-append IsRightReply t.posts (reply ∷ []) h.post_replies (is, tt) in
     let posts : length (t.posts ++ reply ∷ []) ≤ most = omega (arith, less, length-append t.posts (reply ∷ [])) in
-    (record { instance = h.instance; job = h.job; host = h.host; port = h.port; path = h.path; replies = h.replies; posts = posts; post_replies = post_replies }, all.1)
+    (record { instance = h.instance; job = h.job; host = h.host; port = h.port; path = h.path; honor = h.honor; replies = h.replies; posts = posts; post_replies = post_replies }, all.1)
 
 -- the parts of what a target line needs
 record TargetNeeds (earlier : List Part) (t : TargetLine) : Type 0 where
@@ -243,35 +247,35 @@ record TargetNeeds (earlier : List Part) (t : TargetLine) : Type 0 where
   whole : is_last_whole (header_number earlier Rounds) (targets_of earlier) ≡ true
   few : nat_lt (length (targets_of earlier)) most_targets ≡ true
   words : is_target_line t ≡ true
-  new : not (is_named_before t (targets_of earlier)) ≡ true
+  new : not (is_named_before earlier t) ≡ true
 
 needs : (earlier : List Part) (t : TargetLine) → may_stand_behind earlier (target t) ≡ true → TargetNeeds earlier t
 unfolding may_stand_behind
 needs earlier t e =
-    let a = and_parts (has_rounds earlier && is_last_whole (header_number earlier Rounds) (targets_of earlier) && nat_lt (length (targets_of earlier)) most_targets && is_target_line t) (not (is_named_before t (targets_of earlier))) e in
+    let a = and_parts (has_rounds earlier && is_last_whole (header_number earlier Rounds) (targets_of earlier) && nat_lt (length (targets_of earlier)) most_targets && is_target_line t) (not (is_named_before earlier t)) e in
     let b = and_parts (has_rounds earlier && is_last_whole (header_number earlier Rounds) (targets_of earlier) && nat_lt (length (targets_of earlier)) most_targets) (is_target_line t) a.0 in
     let c = and_parts (has_rounds earlier && is_last_whole (header_number earlier Rounds) (targets_of earlier)) (nat_lt (length (targets_of earlier)) most_targets) b.0 in
     let d = and_parts (has_rounds earlier) (is_last_whole (header_number earlier Rounds) (targets_of earlier)) c.0 in
     record { rounds = d.0; whole = d.1; few = c.1; words = b.1; new = a.1 }
 
 -- all targets are sound
-sound_targets : (parts : List Part) → AreInOrder parts → AllByRecursion (IsSound (most_posts parts)) (targets_of parts)
+sound_targets : (parts : List Part) → AreInOrder parts → AllByRecursion (IsSound (most_posts parts) (are_honored parts)) (targets_of parts)
 unfolding may_stand_behind
 sound_targets [] o = tt
 sound_targets (opening ∷ earlier) o = sound_targets earlier o.1
 sound_targets (header line n ∷ earlier) o =
     let none = no_target_yet line earlier (and_parts (is_next_line line earlier) (is_in_row (header_row line) n) o.0).0 o.1 in
-    subst (AllByRecursion (IsSound (most_posts (header line n ∷ earlier)))) (sym none) tt
-sound_targets (target t ∷ earlier) o = (new_sound (most_posts earlier) t (needs earlier t o.0).words, sound_targets earlier o.1)
-sound_targets (page at format body ∷ earlier) o = sound_scrape (most_posts earlier) (page_reply at format body) (targets_of earlier) (page_right at format body) (sound_targets earlier o.1)
+    subst (AllByRecursion (IsSound (most_posts (header line n ∷ earlier)) (are_honored (header line n ∷ earlier)))) (sym none) tt
+sound_targets (target t ∷ earlier) o = (new_sound (most_posts earlier) earlier t (needs earlier t o.0).words, sound_targets earlier o.1)
+sound_targets (page at format body ∷ earlier) o = sound_scrape (most_posts earlier) (are_honored earlier) (page_reply at format body) (targets_of earlier) (page_right at format body) (sound_targets earlier o.1)
 sound_targets (scrape at ending bytes ∷ earlier) o =
     let fits = (and_parts (has_target (targets_of earlier) && is_record at bytes) (fits_ending ending bytes) o.0).1 in
-    sound_scrape (most_posts earlier) (raw_reply at ending bytes) (targets_of earlier) (raw_right at ending bytes fits) (sound_targets earlier o.1)
+    sound_scrape (most_posts earlier) (are_honored earlier) (raw_reply at ending bytes) (targets_of earlier) (raw_right at ending bytes fits) (sound_targets earlier o.1)
 sound_targets (post at ending bytes ∷ earlier) o =
     let room = has_room_for_post (most_posts earlier) (targets_of earlier) in
     let both = and_parts (room && is_record at bytes) (fits_ending ending bytes) o.0 in
     let room_there : room ≡ true = (and_parts room (is_record at bytes) both.0).0 in
-    sound_post (most_posts earlier) (raw_reply at ending bytes) (targets_of earlier) room_there (raw_right at ending bytes both.1) (sound_targets earlier o.1)
+    sound_post (most_posts earlier) (are_honored earlier) (raw_reply at ending bytes) (targets_of earlier) room_there (raw_right at ending bytes both.1) (sound_targets earlier o.1)
 
 -- a target with one scrape for each round
 abbrev IsWhole : ℕ → ScriptTarget → Type 0
@@ -309,10 +313,10 @@ closed_whole (scrape at ending bytes ∷ earlier) o = closed_scrape (header_numb
 closed_whole (post at ending bytes ∷ earlier) o = closed_post (header_number earlier Rounds) (raw_reply at ending bytes) (targets_of earlier) (closed_whole earlier o.1)
 
 -- sound and whole targets are right
-right_targets : (h : Header) (ts : List ScriptTarget) → AllByRecursion (IsSound (h.rounds * h.tries)) ts → AllByRecursion (IsWhole h.rounds) ts → AllByRecursion (IsRightTarget h) ts
+right_targets : (h : Header) (ts : List ScriptTarget) → AllByRecursion (IsSound (h.rounds * h.tries) h.honor) ts → AllByRecursion (IsWhole h.rounds) ts → AllByRecursion (IsRightTarget h) ts
 right_targets h [] sound whole = tt
 right_targets h (t ∷ ts) sound whole =
-    let s = sound.0 in (record { scraped = script_target (t.target) s.instance s.job s.host s.port; job = s.job; host = s.host; port = s.port; path = s.path; scrapes = whole.0; replies = s.replies; posts = s.posts; post_replies = s.post_replies }, right_targets h ts sound.1 whole.1)
+    let s = sound.0 in (record { scraped = script_target (t.target) s.instance s.job s.host s.port; job = s.job; host = s.host; port = s.port; path = s.path; honor = s.honor; scrapes = whole.0; replies = s.replies; posts = s.posts; post_replies = s.post_replies }, right_targets h ts sound.1 whole.1)
 
 -- ---- names
 
@@ -342,7 +346,7 @@ unfolding IsDistinct
 distinct_names [] o = tt
 distinct_names (opening ∷ earlier) o = distinct_names earlier o.1
 distinct_names (header line n ∷ earlier) o = distinct_names earlier o.1
-distinct_names (target t ∷ earlier) o = (none_named (target_of t) (targets_of earlier) (not-true _ (needs earlier t o.0).new), distinct_names earlier o.1)
+distinct_names (target t ∷ earlier) o = (none_named (target_of earlier t) (targets_of earlier) (not-true _ (needs earlier t o.0).new), distinct_names earlier o.1)
 distinct_names (page at format body ∷ earlier) o = subst (IsDistinct have_same_names) (sym (scrape_names (page_reply at format body) (targets_of earlier))) (distinct_names earlier o.1)
 distinct_names (scrape at ending bytes ∷ earlier) o = subst (IsDistinct have_same_names) (sym (scrape_names (raw_reply at ending bytes) (targets_of earlier))) (distinct_names earlier o.1)
 distinct_names (post at ending bytes ∷ earlier) o = subst (IsDistinct have_same_names) (sym (post_names (raw_reply at ending bytes) (targets_of earlier))) (distinct_names earlier o.1)

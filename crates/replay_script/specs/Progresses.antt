@@ -1,9 +1,9 @@
 -- What is kept of the parts that were read.
 -- The bridge's own.
-use Rattle.std.specs.Prelude.{◌≡◌, ℕ, Bool, true, false, List, [], ◌∷◌, ◌++◌, reverse, Option, Some, None, ⊤}
+use Rattle.std.specs.Prelude.{◌≡◌, ℕ, Bool, true, false, ◌==◌, List, [], ◌∷◌, ◌++◌, reverse, Option, Some, None, ⊤}
 use Rattle.replay_script.specs.declared.header.Header.{Header}
 use Rattle.replay_script.specs.declared.header.HeaderLine.{HeaderLine}
-use Rattle.replay_script.specs.declared.header.HeaderLine.TheVariants.{Keep, Tries, Limit, MaxPage, Cut, Rounds}
+use Rattle.replay_script.specs.declared.header.HeaderLine.TheVariants.{Keep, Tries, Limit, MaxPage, Cut, Honor, Rounds}
 use Rattle.bridge_ports.specs.Targets.{Scraped}
 use Rattle.bridge_ports.specs.declared.talk.MemoryReply.{MemoryReply}
 use Rattle.replay_script.specs.declared.script.ScriptTarget.{ScriptTarget}
@@ -38,21 +38,22 @@ part_found_as (found.Post r) = post r.at r.ending r.got.now
 abbrev pub front_found_as : Front → Part × List ℕ
 front_found_as f = (part_found_as f.part, f.rest.now)
 
--- where the parts are in the order of the header: before the opening line 7, and behind the header 6
+-- where the parts are in the order of the header: before the opening line 8, and behind the header 7
 abbrev pub place_behind : List Part → ℕ
-place_behind [] = 7
+place_behind [] = 8
 place_behind (opening ∷ earlier) = 0
 place_behind (header line n ∷ earlier) = place_of line
-place_behind _ = 6
+place_behind _ = 7
 
 -- a header with another number of one line
 abbrev pub with_header_number : HeaderLine → ℕ → Header → Header
-with_header_number Keep n h = record { keep = n; tries = h.tries; limit = h.limit; max_page = h.max_page; cut = h.cut; rounds = h.rounds }
-with_header_number Tries n h = record { keep = h.keep; tries = n; limit = h.limit; max_page = h.max_page; cut = h.cut; rounds = h.rounds }
-with_header_number Limit n h = record { keep = h.keep; tries = h.tries; limit = n; max_page = h.max_page; cut = h.cut; rounds = h.rounds }
-with_header_number MaxPage n h = record { keep = h.keep; tries = h.tries; limit = h.limit; max_page = n; cut = h.cut; rounds = h.rounds }
-with_header_number Cut n h = record { keep = h.keep; tries = h.tries; limit = h.limit; max_page = h.max_page; cut = n; rounds = h.rounds }
-with_header_number Rounds n h = record { keep = h.keep; tries = h.tries; limit = h.limit; max_page = h.max_page; cut = h.cut; rounds = n }
+with_header_number Keep n h = record { keep = n; tries = h.tries; limit = h.limit; max_page = h.max_page; cut = h.cut; honor = h.honor; rounds = h.rounds }
+with_header_number Tries n h = record { keep = h.keep; tries = n; limit = h.limit; max_page = h.max_page; cut = h.cut; honor = h.honor; rounds = h.rounds }
+with_header_number Limit n h = record { keep = h.keep; tries = h.tries; limit = n; max_page = h.max_page; cut = h.cut; honor = h.honor; rounds = h.rounds }
+with_header_number MaxPage n h = record { keep = h.keep; tries = h.tries; limit = h.limit; max_page = n; cut = h.cut; honor = h.honor; rounds = h.rounds }
+with_header_number Cut n h = record { keep = h.keep; tries = h.tries; limit = h.limit; max_page = h.max_page; cut = n; honor = h.honor; rounds = h.rounds }
+with_header_number Honor n h = record { keep = h.keep; tries = h.tries; limit = h.limit; max_page = h.max_page; cut = h.cut; honor = n == 1; rounds = h.rounds }
+with_header_number Rounds n h = record { keep = h.keep; tries = h.tries; limit = h.limit; max_page = h.max_page; cut = h.cut; honor = h.honor; rounds = n }
 
 -- the target that records belong to, with the replies to its scrapes and posts that were read
 abbrev pub target_read : Option Scraped → List MemoryReply → List MemoryReply → List ScriptTarget
@@ -83,7 +84,7 @@ pub record IsClosed (old new : Progress) : Type 0 where
 
 -- the reply to a scrape was put behind those of the target that records belong to
 pub record PutsReply (reply : MemoryReply) (old new : Progress) : Type 0 where
-  pub place : new.place ≡ 6
+  pub place : new.place ≡ 7
   pub header : new.header ≡ old.header
   pub target : new.target ≡ old.target
   pub scrapes : new.scrapes.items ≡ old.scrapes.items ++ reply ∷ []

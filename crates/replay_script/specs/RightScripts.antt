@@ -30,13 +30,14 @@ pub record IsRightReply (reply : MemoryReply) : Type 0 where
   pub over : IsOver reply
   pub silent : (reply.end ≡ ConnectFailed) ⊎ (reply.end ≡ WriteFailed) → reply.got ≡ []
 
--- a target of a script: what its type keeps, its words, one scrape for each round, no more posts than `rounds` times `tries`, and right replies to both
+-- a target of a script: what its type keeps, its words, that its times of pages count just where the header says so, one scrape for each round, no more posts than `rounds` times `tries`, and right replies to both
 pub record IsRightTarget (h : Header) (t : ScriptTarget) : Type 0 where
   pub scraped : IsScraped t.target
   pub job : IsTrue (is_visible_word 256 t.target.job)
   pub host : IsTrue (is_visible_word 256 t.target.address.host)
   pub port : IsTrue (is_port t.target.address.port)
   pub path : IsTrue (is_visible_word 256 t.target.address.path)
+  pub honor : t.target.honor ≡ h.honor
   pub scrapes : length t.scrapes ≡ h.rounds
   pub replies : AllByRecursion IsRightReply t.scrapes
   pub posts : length t.posts ≤ h.rounds * h.tries

@@ -1,19 +1,20 @@
 -- What parts of a script say: a header, and targets with what their wires answer.
 -- The bridge's own; the replies of `page` records after RFC 9112, sections 4 to 6.
-use Rattle.std.specs.Prelude.{ℕ, List, [], ◌∷◌, ◌++◌, length, codes, reverse, Option, None, unwrap_or, nat_eq, false}
+use Rattle.std.specs.Prelude.{ℕ, Bool, ◌==◌, List, [], ◌∷◌, ◌++◌, length, codes, reverse, Option, None, unwrap_or, nat_eq}
 use Rattle.std.specs.Fmt.{decimal}
 use Rattle.label_sets.specs.Lists.{first_some, when_true}
 use Rattle.page_model.specs.declared.format.Format.{Format}
 use Rattle.page_model.specs.declared.format.Format.TheVariants as formats
 use Rattle.bridge_ports.specs.declared.talk.End.{End}
 use Rattle.bridge_ports.specs.declared.talk.End.TheVariants.{ConnectFailed, WriteFailed, ReadFailed, Ended}
+use Rattle.bridge_ports.specs.declared.talk.Address.{Address}
 use Rattle.bridge_ports.specs.declared.talk.MemoryReply.{MemoryReply}
 use Rattle.bridge_ports.specs.Targets.{Scraped}
 use Rattle.replay_script.specs.declared.header.Header.{Header}
 use Rattle.replay_script.specs.declared.script.ScriptTarget.{ScriptTarget}
 use Rattle.replay_script.specs.declared.script.Script.{Script}
 use Rattle.replay_script.specs.declared.header.HeaderLine.{HeaderLine}
-use Rattle.replay_script.specs.declared.header.HeaderLine.TheVariants.{Keep, Tries, Limit, MaxPage, Cut, Rounds}
+use Rattle.replay_script.specs.declared.header.HeaderLine.TheVariants.{Keep, Tries, Limit, MaxPage, Cut, Honor, Rounds}
 use Rattle.replay_script.specs.HeaderLines.{place_of, header_row}
 use Rattle.replay_script.specs.declared.ending.Ending.{Ending}
 use Rattle.replay_script.specs.declared.ending.Ending.TheVariants.{ConnectFails, WriteFails, ReadFails, PeerEnds}
@@ -34,6 +35,10 @@ written_number parts line = first_some (number_at line) parts
 abbrev pub header_number : List Part → HeaderLine → ℕ
 header_number parts line = unwrap_or (written_number parts line) (unwrap_or (header_row line).default 0)
 
+-- the header says that times of pages count
+abbrev pub are_honored : List Part → Bool
+are_honored parts = header_number parts Honor == 1
+
 -- the header of parts
 unfoldable pub header_of : List Part → Header
 header_of parts = record {
@@ -42,6 +47,7 @@ header_of parts = record {
   limit = header_number parts Limit;
   max_page = header_number parts MaxPage;
   cut = header_number parts Cut;
+  honor = are_honored parts;
   rounds = header_number parts Rounds;
 }
 
@@ -74,18 +80,26 @@ page_reply at format body = record { at = at; got = page_message format body; en
 
 -- ---- targets
 
--- the target of a line; its page time stamps are not honoured yet
-abbrev pub target_of : TargetLine → Scraped
-target_of t = record {
+-- the address of a line
+abbrev pub line_address : TargetLine → Address
+line_address t = record { host = t.host; port = t.port; path = t.path }
+
+-- the target of a line, whose times of pages count or don't
+abbrev pub line_target : Bool → TargetLine → Scraped
+line_target honor t = record {
   job = t.job;
   instance = t.host ++ (codes ":" ++ decimal t.port);
-  address = record { host = t.host; port = t.port; path = t.path };
-  honor = false;
+  address = line_address t;
+  honor = honor;
 }
 
+-- the target of a line behind these parts, among which is the header
+abbrev pub target_of : List Part → TargetLine → Scraped
+target_of parts t = line_target (are_honored parts) t
+
 -- a target whose wires answer nothing yet
-abbrev pub new_target : TargetLine → ScriptTarget
-new_target t = record { target = target_of t; scrapes = []; posts = [] }
+abbrev pub new_target : List Part → TargetLine → ScriptTarget
+new_target parts t = record { target = target_of parts t; scrapes = []; posts = [] }
 
 -- the targets, the last first, with one reply more for the scrapes of the last
 abbrev pub with_scrape : MemoryReply → List ScriptTarget → List ScriptTarget
@@ -100,7 +114,7 @@ with_post reply (last ∷ others) = record { target = last.target; scrapes = las
 -- the targets of parts, in both of which the last comes first: a record belongs to the target above it
 abbrev pub targets_of : List Part → List ScriptTarget
 targets_of [] = []
-targets_of (target t ∷ earlier) = new_target t ∷ targets_of earlier
+targets_of (target t ∷ earlier) = new_target earlier t ∷ targets_of earlier
 targets_of (page at format body ∷ earlier) = with_scrape (page_reply at format body) (targets_of earlier)
 targets_of (scrape at ending bytes ∷ earlier) = with_scrape (raw_reply at ending bytes) (targets_of earlier)
 targets_of (post at ending bytes ∷ earlier) = with_post (raw_reply at ending bytes) (targets_of earlier)

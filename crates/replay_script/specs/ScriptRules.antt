@@ -45,9 +45,9 @@ is_target_line t = is_visible_word 256 t.job && is_visible_word 256 t.host && is
 abbrev pub has_namesake : List ScriptTarget → Scraped → Bool
 has_namesake targets t = list_any (λ (other : ScriptTarget). have_same_names t other.target) targets
 
--- some target has this job and this instance
-abbrev pub is_named_before : TargetLine → List ScriptTarget → Bool
-is_named_before t targets = has_namesake targets (target_of t)
+-- some target above has this job and this instance
+abbrev pub is_named_before : List Part → TargetLine → Bool
+is_named_before earlier t = has_namesake (targets_of earlier) (target_of earlier t)
 
 -- a record's time and length are in their ranges
 abbrev pub is_record : ℕ → List ℕ → Bool
@@ -71,7 +71,7 @@ may_stand_behind [] opening = true
 may_stand_behind (p ∷ earlier) opening = false
 may_stand_behind earlier (header line n) = is_next_line line earlier && is_in_row (header_row line) n
 may_stand_behind earlier (target t) = has_rounds earlier && is_last_whole (header_number earlier Rounds) (targets_of earlier)
-    && nat_lt (length (targets_of earlier)) most_targets && is_target_line t && not (is_named_before t (targets_of earlier))
+    && nat_lt (length (targets_of earlier)) most_targets && is_target_line t && not (is_named_before earlier t)
 may_stand_behind earlier (page at format body) = has_target (targets_of earlier) && is_record at body
 may_stand_behind earlier (scrape at ending bytes) = has_target (targets_of earlier) && is_record at bytes && fits_ending ending bytes
 may_stand_behind earlier (post at ending bytes) = has_room_for_post (header_number earlier Rounds * header_number earlier Tries) (targets_of earlier)

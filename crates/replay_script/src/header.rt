@@ -12,6 +12,7 @@ pub enum HeaderLine {
     Limit,
     MaxPage,
     Cut,
+    Honor,
     Rounds,
 }
 
@@ -28,6 +29,8 @@ pub struct Header {
     pub max_page: u32,
     /// The most bytes that one read hands out, from 1 to 65,536.
     pub cut: u32,
+    /// Whether times of pages are taken for those of the points.
+    pub honor: bool,
     /// How many scrapes each target has, from 1 to 1,000,000.
     pub rounds: u32,
 }
@@ -43,7 +46,8 @@ impl HeaderLine {
             HeaderLine::Limit => 3,
             HeaderLine::MaxPage => 4,
             HeaderLine::Cut => 5,
-            HeaderLine::Rounds => 6,
+            HeaderLine::Honor => 6,
+            HeaderLine::Rounds => 7,
         }
     }
 
@@ -58,6 +62,7 @@ impl HeaderLine {
             HeaderLine::Limit => (1, 200_000),
             HeaderLine::MaxPage => (1_024, 67_108_864),
             HeaderLine::Cut => (1, 65_536),
+            HeaderLine::Honor => (0, 1),
             HeaderLine::Rounds => (1, 1_000_000),
         }
     }
@@ -83,6 +88,7 @@ impl Header {
             limit: 20_000,
             max_page: 16_777_216,
             cut: 4_096,
+            honor: false,
             rounds: 0,
         }
     }
@@ -110,6 +116,10 @@ impl Header {
             },
             HeaderLine::Cut => Header {
                 cut: number,
+                ..self
+            },
+            HeaderLine::Honor => Header {
+                honor: number == 1,
                 ..self
             },
             HeaderLine::Rounds => Header {

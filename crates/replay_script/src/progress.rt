@@ -14,10 +14,10 @@ use std::alloc::{AllocError, Global};
 use std::mem;
 
 /// The place before the opening line.
-const BEFORE_ALL: u32 = 7;
+const BEFORE_ALL: u32 = 8;
 
 /// The place behind the header.
-const BEHIND_HEADER: u32 = 6;
+const BEHIND_HEADER: u32 = 7;
 
 /// The most bytes of a record.
 const MOST_BODY_BYTES: usize = 0xFFFF_FFFF;
@@ -124,7 +124,7 @@ impl Progress {
         if self.finished.len() >= MOST_TARGETS {
             return Ok(false);
         }
-        let target = target(alloc, words)?;
+        let target = target(alloc, words, self.header.honor)?;
         if has_namesake(self.finished.as_slice(), &target) {
             return Ok(false);
         }

@@ -2,7 +2,7 @@
 ghost use Rattle.std.specs.Prelude.{◌≡◌, ◌++◌, true, codes, IfOk, IsUtf8};
 ghost use Rattle.std.specs.Fmt.{decimal};
 ghost use Rattle.replay_script.specs.ScriptRules as rules;
-ghost use Rattle.replay_script.specs.ScriptContents.{target_of};
+ghost use Rattle.replay_script.specs.ScriptContents.{line_address, line_target};
 ghost use Rattle.replay_script.specs.Progresses.{words_found_as};
 
 use crate::parts::TargetWords;
@@ -62,7 +62,7 @@ fn instance_text(alloc: Global, host: &[u8], port: u16) -> Result<Text, AllocErr
 
 /// The address of a target line.
 fn address(alloc: Global, words: &TargetWords<'_>) -> Result<Address, AllocError>
-    ensures { IfOk result (λ a. a ≡ (target_of (words_found_as words.now)).address) }
+    ensures { IfOk result (λ a. a ≡ line_address (words_found_as words.now)) }
 {
     let host = Bytes::from_slice(alloc, words.host)?;
     let path = Bytes::from_slice(alloc, words.path)?;
@@ -73,17 +73,17 @@ fn address(alloc: Global, words: &TargetWords<'_>) -> Result<Address, AllocError
     })
 }
 
-/// The target of a target line.
+/// The target of a target line; `honor` says whether times of its pages are taken for those of the points.
 ///
 /// # Errors
 ///
 /// Want of memory.
-pub fn target(alloc: Global, words: &TargetWords<'_>) -> Result<Target, AllocError>
+pub fn target(alloc: Global, words: &TargetWords<'_>, honor: bool) -> Result<Target, AllocError>
     requires { rules.is_target_line (words_found_as words.now) ≡ true }
-    ensures { IfOk result (λ t. t ≡ target_of (words_found_as words.now)) }
+    ensures { IfOk result (λ t. t ≡ line_target honor (words_found_as words.now)) }
 {
     let job = Text::from_utf8(alloc, words.job)?;
     let instance = instance_text(alloc, words.host, words.port)?;
     let address = address(alloc, words)?;
-    Ok(Target::new(job, instance, address, false))
+    Ok(Target::new(job, instance, address, honor))
 }

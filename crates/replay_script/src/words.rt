@@ -92,6 +92,9 @@ pub(crate) fn header_line(word: &[u8]) -> Option<HeaderLine>
     if word == b"cut".as_slice() {
         return Some(HeaderLine::Cut);
     }
+    if word == b"honor".as_slice() {
+        return Some(HeaderLine::Honor);
+    }
     if word == b"rounds".as_slice() {
         return Some(HeaderLine::Rounds);
     }

@@ -118,10 +118,11 @@ fn texts_of_a_configuration(rt: HostRuntime) {
 
 #[test]
 fn faults(rt: HostRuntime) -> Result<(), Fail> {
-    const ROWS: [(&str, &str); 5] = [
+    const ROWS: [(&str, &str); 6] = [
         ("colour = 1\n", "config: unknown colour\n"),
         ("listen = \"127.0.0.1:\"\n", "config: range listen\n"),
         ("keep = 1.5\n", "config: kind keep\n"),
+        ("honor_timestamps = 1\n", "config: kind honor_timestamps\n"),
         ("pages = 1001\n", "config: missing listen\n"),
         ("keep\n", "config: toml\n"),
     ];
@@ -149,6 +150,36 @@ fn faults_of_many_targets(rt: HostRuntime) -> Result<(), Fail> {
         );
     }
     Ok(())
+}
+
+/// How many targets of a configuration have times of their pages taken for those of the points.
+fn honored(config: &Config) -> usize {
+    let mut count = 0usize;
+    for target in config.targets.as_slice() {
+        if target.honor() {
+            count = count.saturating_add(1);
+        }
+    }
+    count
+}
+
+/// The same of a configuration of so many targets, with some lines before them.
+fn honored_read(alloc: Global, lines: &str, targets: u32) -> Option<usize> {
+    let text = many(alloc, lines, targets).ok()?;
+    let config = read(alloc, text.as_slice()).ok()?;
+    Some(honored(&config))
+}
+
+#[test]
+fn honor_timestamps_are_of_all_targets(rt: HostRuntime) {
+    const ROWS: [(&str, usize); 3] = [
+        ("honor_timestamps = true\n", 3),
+        ("honor_timestamps = false\n", 0),
+        ("", 0),
+    ];
+    for (lines, expected) in &ROWS {
+        assert_eq!(rt; honored_read(rt.alloc(), lines, 3), Some(*expected));
+    }
 }
 
 /// Whether a text is a configuration.

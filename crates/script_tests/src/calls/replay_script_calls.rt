@@ -150,7 +150,7 @@ fn what_wires_answer(rt: HostRuntime) {
 }
 
 /// Refused scripts, each with the line that is named.
-const REFUSED: [(&[u8], u64); 7] = [
+const REFUSED: [(&[u8], u64); 9] = [
     (b"", 1),
     (
         b"bridge-script 1\nrounds 1\ntarget j h:1 /m\npage 1 text 2\nx\n",
@@ -175,6 +175,14 @@ const REFUSED: [(&[u8], u64); 7] = [
     (
         b"bridge-script 1\nrounds 1\ntarget j h:1 /m\npage 1 text 1\n\n\ntarget j h:1 /x\n",
         7,
+    ),
+    (
+        b"bridge-script 1\nhonor 2\nrounds 1\ntarget j h:1 /m\npage 1 text 0\n\n",
+        2,
+    ),
+    (
+        b"bridge-script 1\nhonor 1\ncut 7\nrounds 1\ntarget j h:1 /m\npage 1 text 0\n\n",
+        3,
     ),
 ];
 
@@ -236,6 +244,43 @@ fn three_read(alloc: Global) -> Option<(usize, usize, usize)> {
 #[test]
 fn three_targets_have_their_names_and_replies(rt: HostRuntime) {
     assert_eq!(rt; three_read(rt.alloc()), Some((3, 3, 3)));
+}
+
+/// Two targets behind a header whose line `honor` is missing.
+const HONORED: &[u8] =
+    b"rounds 1\ntarget j h:1 /m\npage 1 text 0\n\ntarget j h:2 /m\npage 1 text 0\n\n";
+
+/// How many targets of a script have times of their pages taken for those of the points.
+fn honored(script: &Script) -> usize {
+    let mut count = 0usize;
+    for target in script.targets.as_slice() {
+        if target.target.honor() {
+            count = count.saturating_add(1);
+        }
+    }
+    count
+}
+
+/// Whether the header of a script of two targets with this line says that times of pages count, and for how many of
+/// its targets they do.
+fn honored_read(alloc: Global, line: &[u8]) -> Option<(bool, usize)> {
+    let mut text = Vec::from_slice(alloc, b"bridge-script 1\n").ok()?;
+    text.extend_from_slice(line).ok()?;
+    text.extend_from_slice(HONORED).ok()?;
+    let script = read(alloc, text.as_slice()).ok()?;
+    Some((script.header.honor, honored(&script)))
+}
+
+#[test]
+fn the_line_honor_is_of_all_targets(rt: HostRuntime) {
+    const ROWS: [(&[u8], (bool, usize)); 3] = [
+        (b"honor 1\n", (true, 2)),
+        (b"honor 0\n", (false, 0)),
+        (b"", (false, 0)),
+    ];
+    for (line, expected) in &ROWS {
+        assert_eq!(rt; honored_read(rt.alloc(), line), Some(*expected));
+    }
 }
 
 /// A script of so many targets, each with an empty page.
