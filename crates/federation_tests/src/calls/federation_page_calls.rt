@@ -1,10 +1,11 @@
 //! What is gathered of three targets and of none.
 ghost use Rattle.std.specs.Prelude.{◌≡◌, ◌≤◌, length, IfOk};
 ghost use Rattle.page_model.specs.Pages.{IsScrapedPage};
+ghost use Rattle.open_writing.specs.OpenForms.{IsOpenForm};
 ghost use Rattle.federation_page.specs.Gathering.{IsShowable};
 ghost use Rattle.federation_tests.specs.ShortTexts.{most_short_text};
 
-use federation_page::{gather, text};
+use federation_page::{gather, gathered_pages, text};
 use label_sets::{Memory, Text};
 use page_model::page_laws::right_pages;
 use page_model::{Format, Page, PageFault, Shown, Treatment};
@@ -67,19 +68,28 @@ fn shown(alloc: Global, job: &str, instance: &str, text: &str) -> Result<Shown, 
 }
 
 /// The text of a page.
-fn written(alloc: Global, page: &Page) -> Result<Vec<u8>, Memory> {
+pub(crate) fn written(alloc: Global, page: &Page) -> Result<Vec<u8>, Memory> {
     let mut out = Vec::new(alloc);
     text(page, &mut out)?;
     Ok(out)
 }
 
-/// The text of what is gathered of three targets.
-fn gathered(alloc: Global, texts: &[&str; 3]) -> Result<Vec<u8>, PageFault> {
+/// The page that is gathered of three targets.
+pub(crate) fn gathered_page(alloc: Global, texts: &[&str; 3]) -> Result<Page, PageFault>
+    ensures { IfOk result (λ page. IsOpenForm page) }
+{
+    gathered_pages();
     let [one, two, three] = texts;
     let first = shown(alloc, "a", "h1:80", one)?;
     let second = shown(alloc, "b", "h2:80", two)?;
     let third = shown(alloc, "c", "h3:80", three)?;
     let page = gather(alloc, &[first, second, third])?;
+    Ok(page)
+}
+
+/// Its text.
+fn gathered(alloc: Global, texts: &[&str; 3]) -> Result<Vec<u8>, PageFault> {
+    let page = gathered_page(alloc, texts)?;
     let out = written(alloc, &page);
     drop(page);
     Ok(out?)

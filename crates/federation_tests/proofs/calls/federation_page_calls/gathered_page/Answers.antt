@@ -1,9 +1,10 @@
-use Rattle.std.proofs.Common.{◌≡◌, ◌&&◌, ℕ, List, [], ◌∷◌, codes, bytes_eq, false, refl, ap, ◌∙◌, arith}
+use Rattle.std.proofs.Common.{◌≡◌, ◌&&◌, ℕ, List, [], ◌∷◌, codes, bytes_eq, false, refl, sym, ap, subst, ◌∙◌, arith}
 use Rattle.std.specs.List.{IsDistinct}
 use Rattle.std.proofs.lemmas.List.Elements.{All-nil, All-cons}
 use Rattle.page_model.specs.declared.event.Shown.{Shown}
+use Rattle.open_writing.specs.OpenForms.{IsOpenForm}
 use Rattle.federation_page.specs.Gathering.{is_one_target, IsShowable, AreShowable}
-use Rattle.federation_tests.proofs.calls.federation_page_calls.gathered.Goals as goal
+use Rattle.federation_tests.proofs.calls.federation_page_calls.gathered_page.Goals as goal
 
 other_jobs : (s t : Shown) (a b : List ℕ) → bytes_eq a b ≡ false → s.job ≡ a → t.job ≡ b → is_one_target s t ≡ false
 other_jobs s t a b apart x y =
@@ -23,3 +24,8 @@ three_showable s t u x y z a b c = record {
 
 pub gather-requires : goal.gather-requires
 gather-requires c = three_showable c.in_ok-first.first c.in_ok-second.second c.in_ok-third.third c.in_ok-first.ensures.job c.in_ok-second.ensures.job c.in_ok-third.ensures.job c.in_ok-first.ensures.showable c.in_ok-second.ensures.showable c.in_ok-third.ensures.showable
+
+pub returns : goal.returns
+returns c =
+    subst IsOpenForm (sym c.in_ok-page.ensures)
+    (c.gathered_pages.ensures.forms _ (three_showable c.in_ok-first.first c.in_ok-second.second c.in_ok-third.third c.in_ok-first.ensures.job c.in_ok-second.ensures.job c.in_ok-third.ensures.job c.in_ok-first.ensures.showable c.in_ok-second.ensures.showable c.in_ok-third.ensures.showable))

@@ -1,0 +1,7 @@
+pub mod Selectors
+pub mod SelectorReading
+pub mod SelectorSteps
+pub mod QuerySteps
+pub mod Selection
+pub mod SelectionSteps
+pub mod Laws
