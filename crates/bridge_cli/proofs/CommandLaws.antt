@@ -9,11 +9,9 @@ use Rattle.page_commands.specs.PageAnswers.{page_setting}
 use Rattle.page_commands.specs.CheckTexts.{checked_text}
 use Rattle.page_commands.specs.ConvertTexts.{converted_text}
 use Rattle.bridge_cli.specs.Answers.{Answers, IsAnswer, no_form, answers}
-use Rattle.bridge_cli.specs.Replays.{IsReplayWith}
+use Rattle.script_commands.specs.Replays.{IsReplayWith}
 use Rattle.load_pages.specs.GeneratedScripts.{generated_script}
-use Rattle.bridge_cli.proofs.EndLaws.{report_once}
-use Rattle.bridge_cli.proofs.ShownLaws.{replay_with_once}
-use Rattle.bridge_cli.proofs.ScriptAnswerLaws.{script_once_at, script_form}
+use Rattle.script_commands.proofs.Laws.{report_once, replay_with_once, script_once_at, script_form}
 use Rattle.page_commands.proofs.Laws.{page_once_at, page_form}
 use Rattle.program_words.proofs.Laws.{one_command, AreSame, fixed_once, fixed_form}
 

@@ -1,12 +1,4 @@
-mod ScriptAnswerLaws
-mod ReplayLaws
-mod ShownLaws
-mod VisitLaws
-mod TalkLaws
-mod TurnLaws
-mod EndLaws
-mod ShelfLaws
-mod ScriptLaws
+mod RunLaws
 mod CommandLaws
 mod AnswerLaws
 mod PrintLaws

@@ -6,8 +6,8 @@ use Rattle.std.proofs.lemmas.Bool.{true≢false}
 use Rattle.replay_script.specs.declared.script.Script.{Script}
 use Rattle.bridge_cli.specs.declared.answer.Printed.{Printed}
 use Rattle.bridge_cli.specs.declared.answer.Printed.TheVariants.{Whole, Tree, Bodies, Report}
-use Rattle.bridge_cli.specs.declared.replaying.Cut.{Cut}
-use Rattle.bridge_cli.specs.declared.replaying.Cut.TheVariants as cuts
+use Rattle.script_commands.specs.declared.replaying.Cut.{Cut}
+use Rattle.script_commands.specs.declared.replaying.Cut.TheVariants as cuts
 use Rattle.program_words.specs.declared.status.Status.{Status}
 use Rattle.program_words.specs.declared.status.Status.TheVariants as statuses
 use Rattle.program_words.specs.declared.stop.Stop.{Stop}
@@ -16,17 +16,19 @@ use Rattle.bridge_ports.specs.Worlds.{ShelvedPair}
 use Rattle.program_words.specs.declared.words.Command.{Command}
 use Rattle.program_words.specs.declared.words.Command.TheVariants.{Replay, Load}
 use Rattle.program_words.specs.Statuses.{code_of, IsStatus, IsTold, IsUntold, TellsFault}
-use Rattle.bridge_cli.specs.Replays.{MayBeCut}
+use Rattle.script_commands.specs.Replays.{MayBeCut}
 use Rattle.replay_script.specs.RightScripts.{IsRightScript}
 use Rattle.load_pages.specs.GeneratedScripts.{generated_script, TakesAllBodies}
-use Rattle.bridge_cli.specs.Loads.{IsLoadReport, MayBeReported}
+use Rattle.script_commands.specs.Loads.{IsLoadReport, MayBeReported}
 use Rattle.program_words.specs.CommandWords.{IsCommand, FitNoForm, AskForNo, WhereRead, reads_input, most_input, takes_memory, prints_pieces}
 use Rattle.program_words.specs.StopAnswers.{IsStopAnswer, StopsAs}
-use Rattle.bridge_cli.specs.Answers.{Answers, IsAnswer, no_form, answers, IsCutAnswer, whole, cut_off, script_done, IsReportAnswer}
+use Rattle.script_commands.specs.ScriptAnswers.{script_done, IsReportAnswer}
+use Rattle.bridge_cli.specs.Answers.{Answers, IsAnswer, no_form, answers, IsCutAnswer, whole, cut_off}
 use Rattle.bridge_ports.specs.Writing.{WroteFront}
 use Rattle.program_words.specs.InputAnswers.{HasAnswer}
 use Rattle.bridge_cli.specs.ProgramOutputs.{Answered, AnsweredInPart, AnsweredInPieces, ShelvesVisits}
-use Rattle.bridge_cli.specs.Printed.{cut_status, CutCause, CutsScript, PrintsReport, Gives, GivesPart, IsNothing, IsPrintable, IsWhole, Ended, printed, stopped, wanting, IsPartOf, part_of_whole, part_of_some, AnswersVisits, IsShelved, IsPrintedOf, IsPrintedFor, IsStopPrinted, HoldsScript, HasPartOf}
+use Rattle.script_commands.specs.Printing.{cut_status, CutCause, CutsScript, PrintsReport, HoldsScript}
+use Rattle.bridge_cli.specs.Printed.{Gives, GivesPart, IsNothing, IsPrintable, IsWhole, Ended, printed, stopped, wanting, IsPartOf, part_of_whole, part_of_some, AnswersVisits, IsShelved, IsPrintedOf, IsPrintedFor, IsStopPrinted, HasPartOf}
 use Rattle.bridge_cli.proofs.AnswerLaws.{words_answer, no_front}
 use Rattle.program_words.proofs.Laws.{same_text, done_told, same_code, stop_undone, stop_written, stop_not_read, one_command, pieces_take, any_bytes, stop_told, stop_untold, told_or_not, tells_fault}
 

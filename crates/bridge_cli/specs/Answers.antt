@@ -1,37 +1,20 @@
 -- What the program answers to words and to the bytes on its input: a status and a text. The bridge's own.
-use Rattle.std.specs.Prelude.{◌≡◌, ℕ, ◌<◌, ◌≤◌, List, length}
+use Rattle.std.specs.Prelude.{◌≡◌, ℕ, List}
 use Rattle.replay_script.specs.declared.script.Script.{Script}
-use Rattle.replay_script.specs.Scripts.{IsScript, HasScriptFault}
-use Rattle.program_words.specs.declared.status.Status.TheVariants.{Done, NoForm, ScriptRefused, TooLong}
+use Rattle.program_words.specs.declared.status.Status.TheVariants.{NoForm}
 use Rattle.program_words.specs.declared.words.Command.{Command}
 use Rattle.program_words.specs.declared.words.Command.TheVariants.{Help, Version, Check, Convert, Replay, Load}
 use Rattle.program_words.specs.Statuses.{code_of}
 use Rattle.program_words.specs.CommandWords.{IsCommand, FitNoForm}
-use Rattle.program_words.specs.Stops.{no_form_text, script_text, too_long_text}
+use Rattle.program_words.specs.Stops.{no_form_text}
 use Rattle.program_words.specs.HelpTexts.{help_text, version_text, IsFixedAnswer}
 use Rattle.page_commands.specs.PageAnswers.{page_setting, IsPageAnswer}
 use Rattle.page_commands.specs.CheckTexts.{checked_text}
 use Rattle.page_commands.specs.ConvertTexts.{converted_text}
-use Rattle.program_words.specs.Limits.{most_script}
-use Rattle.bridge_cli.specs.Replays.{IsReplayWith, IsReplayOfSome}
+use Rattle.script_commands.specs.Replays.{IsReplayWith, IsReplayOfSome}
+use Rattle.script_commands.specs.ScriptAnswers.{IsScriptInput, IsScriptAnswer, IsReportAnswer}
 use Rattle.load_pages.specs.GeneratedScripts.{generated_script}
-use Rattle.bridge_cli.specs.Loads.{IsLoadReport, MayBeReported}
-
--- the bytes on the input are this script
-pub record IsScriptInput (script : Script) (bytes : List ℕ) : Type 0 where
-  pub short : length bytes ≤ most_script
-  pub is : IsScript bytes script
-
--- what a command that prints a text of a script answers to the bytes on the input: a status and a text
-pub data IsScriptAnswer (Prints : Script → List ℕ → Type 0) (bytes : List ℕ) : ℕ → List ℕ → Type 0 where
-  script_done : (script : Script) (text : List ℕ) → IsScriptInput script bytes → Prints script text → IsScriptAnswer Prints bytes (code_of Done) text
-  script_refused : (line : ℕ) → length bytes ≤ most_script → HasScriptFault bytes line → IsScriptAnswer Prints bytes (code_of ScriptRefused) (script_text line)
-  script_too_long : most_script < length bytes → IsScriptAnswer Prints bytes (code_of TooLong) too_long_text
-
--- what `load` answers: the report of all visits of a script
-pub record IsReportAnswer (script : Script) (status : ℕ) (text : List ℕ) : Type 0 where
-  pub done : status ≡ code_of Done
-  pub reports : IsLoadReport script text
+use Rattle.script_commands.specs.Loads.{MayBeReported}
 
 -- what a command answers to the bytes on the input; of `replay` it is the same for every number of scrapers
 abbrev pub Answers : Command → List ℕ → ℕ → List ℕ → Type 0

@@ -12,7 +12,7 @@ use Rattle.program_words.specs.declared.words.Command.{Command}
 use Rattle.program_words.specs.declared.status.Status.TheVariants.{Done, NoForm, ReadFailed, WriteFailed, WantOfMemory}
 use Rattle.program_words.specs.Statuses.{code_of, IsTold, IsUntold}
 use Rattle.program_words.specs.InputAnswers.{HasAnswer}
-use Rattle.bridge_cli.specs.Shelves.{IsShelfOf}
+use Rattle.script_commands.specs.Shelves.{IsShelfOf}
 use Rattle.bridge_cli.specs.Answers.{VisitsScript, Answers, IsAnswer, IsCutAnswer}
 
 -- the whole answer was written

@@ -8,11 +8,11 @@ ghost use Rattle.program_words.specs.StopAnswers.{StopsAs};
 ghost use Rattle.program_words.specs.Stops.{ReadCause, IsUnread};
 
 use crate::answer::Printed;
-use crate::scripts::whole_script;
 use bridge_ports::Source;
 use load_pages::generated;
 use page_commands::{check, convert};
 use program_words::{Command, Stop, help, version};
+use script_commands::whole_script;
 use std::alloc::{AllocError, Global};
 use std::borrow::CowSlice;
 

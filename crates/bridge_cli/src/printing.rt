@@ -1,57 +1,25 @@
-//! What `replay` prints of a script: the bodies of its targets, and behind them the federation page of what they show.
-ghost use Rattle.std.specs.Prelude.{◌≡◌, true, IfOk, OnOk, map};
-ghost use Rattle.federation_page.specs.Gathering.{AreShowable};
-ghost use Rattle.target_table.specs.Paging.{federated_text};
+//! What the commands over scripts print: the targets of a script are visited by scrapers, and their wires go on the
+//! shelf of a world.
+ghost use Rattle.std.specs.Prelude.{◌≡◌, true, IfOk, OnOk};
+ghost use Rattle.load_pages.specs.GeneratedScripts.{TakesAllBodies};
 ghost use Rattle.replay_script.specs.RightScripts.{IsRightScript};
-ghost use Rattle.bridge_cli.specs.Replays.{AreLastShown};
-ghost use Rattle.bridge_cli.specs.Rounds.{visits_counted, AreVisitedWires};
-ghost use Rattle.bridge_cli.specs.Shelves.{IsShelfOf, KeepsAllButShelf};
-ghost use Rattle.bridge_cli.specs.Printed.{CutCause, PrintsText, PrintsBodies, PrintsScript};
+ghost use Rattle.script_commands.specs.Replays.{AreLastShown};
+ghost use Rattle.script_commands.specs.Rounds.{AreVisitedWires};
+ghost use Rattle.script_commands.specs.Shelves.{IsShelfOf, KeepsAllButShelf};
+ghost use Rattle.script_commands.specs.Printing.{CutCause, PrintsBodies, PrintsReport, PrintsScript};
 
-use crate::in_turn::{Over, Wanted, print_in_turn};
-use crate::replaying::{Cut, print_targets};
-use crate::shelving::shelve;
 use crate::turns::run_script;
-use bridge_ports::{Failed, Shelved, Sink, World, write_all};
-use label_sets::Memory;
-use page_model::Shown;
+use bridge_ports::{Sink, World};
 use replay_script::Script;
-use run_report::TargetEnd;
+use script_commands::{Cut, Over, Wanted, end_load, end_replay, print_in_turn, print_run};
 use std::alloc::{AllocError, Global};
 use std::sync::Wait;
 use std::thread::Threads;
-use target_table::write_page;
 
-/// Prints the federation page of what is shown.
-fn print_page<O: Sink>(alloc: Global, shown: &[Shown], output: &mut O) -> Result<(), Cut>
-    requires { AreShowable shown.now }
-    ensures printed { PrintsText (federated_text shown.now) (O.held output.old) (O.held output.new) result }
-    ensures cause { CutCause (O.write_faults output.old) (O.write_faults output.new) result }
-{
-    let mut text = Vec::new(alloc);
-    match write_page(shown, &mut text) {
-        Ok(()) => {}
-        Err(AllocError) => return Err(Cut::Memory),
-    }
-    match write_all(output, text.as_slice()) {
-        Ok(()) => Ok(()),
-        Err(Failed) => Err(Cut::Write),
-    }
-}
+/// How many scrapers visit the targets of a load at once.
+const LOAD_SCRAPERS: u32 = 4;
 
-/// How many visits of each target were counted, in order.
-fn visits_of(alloc: Global, ends: &[TargetEnd]) -> Result<Vec<u64>, Memory>
-    ensures { IfOk result (λ visits. visits.items ≡ map visits_counted ends.now) }
-{
-    let mut visits = Vec::new(alloc);
-    for end in ends {
-        visits.push(end.counts.visits)?;
-    }
-    Ok(visits)
-}
-
-/// Visits the targets of a script by several scrapers at once, and then prints the bodies of the visits, which are made
-/// once more for it.
+/// Visits the targets of a script by several scrapers at once, and then prints the bodies of the visits.
 fn print_by_pool<R: Threads + Wait + Sync, O: Sink>(
     rt: &R,
     alloc: Global,
@@ -66,20 +34,9 @@ fn print_by_pool<R: Threads + Wait + Sync, O: Sink>(
     ensures wires { IfOk result (λ over. AreVisitedWires wanted.keeps script.now over.wires.items) }
     ensures shown { wanted.page ≡ true → IfOk result (λ over. AreLastShown script.now.header script.now.targets over.shown.items) }
 {
-    let over = match run_script(rt, alloc, script, scrapers, wanted.keeps) {
-        Ok(over) => over,
-        Err(AllocError) => return Err(Cut::Memory),
-    };
-    let visits = match visits_of(alloc, over.ends.as_slice()) {
-        Ok(visits) => visits,
-        Err(AllocError) => return Err(Cut::Memory),
-    };
-    match print_targets(alloc, script, visits.as_slice(), wanted.page, output) {
-        Ok(shown) => Ok(Over {
-            wires: over.wires,
-            shown,
-        }),
-        Err(cut) => Err(cut),
+    match run_script(rt, alloc, script, scrapers, wanted.keeps) {
+        Ok(over) => print_run(alloc, script, over, wanted, output),
+        Err(AllocError) => Err(Cut::Memory),
     }
 }
 
@@ -105,34 +62,6 @@ fn print_bodies<R: Threads + Wait + Sync, O: Sink>(
     print_by_pool(rt, alloc, script, scrapers, wanted, output)
 }
 
-/// Prints the bodies of the visits of a script's targets, and the page behind them, where it is asked for. Gives the
-/// targets' wires, in order; what was posted is kept where that is asked for.
-fn print_visits<R: Threads + Wait + Sync, O: Sink>(
-    rt: &R,
-    alloc: Global,
-    script: &Script,
-    scrapers: u32,
-    wanted: Wanted,
-    output: &mut O,
-) -> Result<Vec<Shelved>, Cut>
-    requires { IsRightScript script.now }
-    ensures printed { PrintsScript wanted.page script.now (O.held output.old) (O.held output.new) result }
-    ensures cause { CutCause (O.write_faults output.old) (O.write_faults output.new) result }
-    ensures wires { IfOk result (λ wires. AreVisitedWires wanted.keeps script.now wires.items) }
-{
-    let Over { wires, shown } = match print_bodies(rt, alloc, script, scrapers, wanted, output) {
-        Ok(over) => over,
-        Err(cut) => return Err(cut),
-    };
-    if !wanted.page {
-        return Ok(wires);
-    }
-    match print_page(alloc, shown.as_slice(), output) {
-        Ok(()) => Ok(wires),
-        Err(cut) => Err(cut),
-    }
-}
-
 /// Visits the targets of a script by so many scrapers, prints the bodies of their visits, and the page where it is
 /// asked for, and puts their wires on the shelf of the world.
 pub(crate) fn print_script<R: Threads + Wait + Sync, W: World, O: Sink>(
@@ -154,12 +83,30 @@ pub(crate) fn print_script<R: Threads + Wait + Sync, W: World, O: Sink>(
         page,
         keeps: world.has_shelf(),
     };
-    let wires = match print_visits(rt, alloc, script, scrapers, wanted, output) {
-        Ok(wires) => wires,
-        Err(cut) => return Err(cut),
-    };
-    match shelve(alloc, wires, world) {
-        Ok(()) => Ok(()),
+    match print_bodies(rt, alloc, script, scrapers, wanted, output) {
+        Ok(over) => end_replay(alloc, page, over, world, output),
+        Err(cut) => Err(cut),
+    }
+}
+
+/// Visits the targets of a load, prints the report of the visits, and puts their wires on the shelf of the world.
+pub(crate) fn print_report<R: Threads + Wait + Sync, W: World, O: Sink>(
+    rt: &R,
+    alloc: Global,
+    script: &Script,
+    world: &mut W,
+    output: &mut O,
+) -> Result<(), Cut>
+    requires right { IsRightScript script.now }
+    requires taken { TakesAllBodies script.now }
+    ensures printed { PrintsReport script.now (O.held output.old) (O.held output.new) result }
+    ensures cause { CutCause (O.write_faults output.old) (O.write_faults output.new) result }
+    ensures shelf { OnOk result (IsShelfOf script.now (W.seen world.old).world.shelf (W.seen world.new).world.shelf) }
+    ensures kept { KeepsAllButShelf (W.seen world.old) (W.seen world.new) }
+{
+    let keeps = world.has_shelf();
+    match run_script(rt, alloc, script, LOAD_SCRAPERS, keeps) {
+        Ok(over) => end_load(alloc, over, world, output),
         Err(AllocError) => Err(Cut::Memory),
     }
 }

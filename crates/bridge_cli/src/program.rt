@@ -8,14 +8,13 @@ ghost use Rattle.program_words.specs.StopInputs.{Leaves};
 ghost use Rattle.bridge_cli.specs.Printed.{IsPrintedFor, IsPrintable, IsNothing, IsWhole, IsShelved, Ended};
 ghost use Rattle.bridge_cli.specs.ProgramOutputs.{WritesAnswer, HasOneAnswer, ReadsAsAsked, ShelvesWires};
 ghost use Rattle.program_words.specs.Statuses.{TellsFault, code_of, IsStatus, IsTold, IsUntold};
-ghost use Rattle.bridge_cli.specs.Shelves.{KeepsAllButShelf};
+ghost use Rattle.script_commands.specs.Shelves.{KeepsAllButShelf};
 ghost use Rattle.program_words.specs.StopAnswers.{StopsAs};
 ghost use Rattle.program_words.specs.Stops.{ReadCause, IsUnread, TakesMemory};
 
 use crate::answer::{Answer, Printed, stop_answer};
 use crate::commands::run;
-use crate::loading::print_report;
-use crate::printing::print_script;
+use crate::printing::{print_report, print_script};
 use bridge_ports::{Sink, Source, World, write_all};
 use program_words::{Status, Stop, command_of, end_code};
 use std::alloc::Global;

@@ -3,9 +3,9 @@ use Rattle.std.proofs.Common.{◌≡◌, ◌≢◌, ◌⊎◌, inl, inr, ℕ, tr
 use Rattle.std.specs.Io.KnownBytes.{Appends}
 use Rattle.bridge_ports.specs.Causes.{Rose}
 use Rattle.bridge_ports.specs.Worlds.{WorldState}
-use Rattle.config_file.specs.declared.file_stop.FileStop.{FileStop}
-use Rattle.config_file.specs.declared.file_stop.FileStop.TheVariants.{Read, Memory}
-use Rattle.config_file.specs.ConfigFiles.{StopsAtFile, StopsReadingFile}
+use Rattle.run_command.specs.declared.file_stop.FileStop.{FileStop}
+use Rattle.run_command.specs.declared.file_stop.FileStop.TheVariants.{Read, Memory}
+use Rattle.run_command.specs.ConfigFiles.{StopsAtFile, StopsReadingFile}
 use Rattle.bridge_ports.specs.Outside.{Outside}
 use Rattle.run_command.specs.RunReports.{LeavesWorld}
 use Rattle.run_command.proofs.Laws.{report_asked, run_asked}

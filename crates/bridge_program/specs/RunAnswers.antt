@@ -5,9 +5,9 @@ use Rattle.bridge_ports.specs.Causes.{Rose}
 use Rattle.bridge_ports.specs.Outside.{Outside}
 use Rattle.bridge_config.specs.declared.fault.ConfigFault.{ConfigFault}
 use Rattle.bridge_config.specs.ConfigLines.{config_line}
-use Rattle.config_file.specs.declared.file_stop.FileStop.{FileStop}
-use Rattle.config_file.specs.declared.file_stop.FileStop.TheVariants as stops
-use Rattle.config_file.specs.ConfigFiles.{HoldsFault, IsTooLong, IsFileAsked}
+use Rattle.run_command.specs.declared.file_stop.FileStop.{FileStop}
+use Rattle.run_command.specs.declared.file_stop.FileStop.TheVariants as stops
+use Rattle.run_command.specs.ConfigFiles.{HoldsFault, IsTooLong, IsFileAsked}
 use Rattle.world_run.specs.Unused.{AreUnused}
 use Rattle.run_command.specs.RunReports.{IsReportOfRun, MayHaveRun, IsRunAsked}
 use Rattle.program_words.specs.declared.status.Status.TheVariants.{Done, ReadFailed, WriteFailed, WantOfMemory, TooLong}

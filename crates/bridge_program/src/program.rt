@@ -5,7 +5,7 @@ ghost use Rattle.program_words.specs.declared.status.Status.TheVariants.{ReadFai
 ghost use Rattle.program_words.specs.CommandWords.{AskForNo, prints_pieces, takes_memory};
 ghost use Rattle.bridge_cli.specs.ProgramOutputs.{WritesAnswer, HasOneAnswer, ReadsAsAsked, ShelvesWires};
 ghost use Rattle.program_words.specs.Statuses.{TellsFault, code_of, IsStatus};
-ghost use Rattle.bridge_cli.specs.Shelves.{KeepsAllButShelf};
+ghost use Rattle.script_commands.specs.Shelves.{KeepsAllButShelf};
 ghost use Rattle.bridge_program.specs.RunWords.{WhereRun, AskForNoRun};
 ghost use Rattle.bridge_program.specs.RunAnswers.{IsUnasked, IsWritten, RunAnswered, RunLeaves, config_refused};
 

@@ -10,9 +10,8 @@ ghost use Rattle.bridge_program.specs.RunAnswers.{IsRunAnswer, IsStopEnd, run_st
 use bridge_cli::Status;
 use bridge_config::{ConfigFault, push_line};
 use bridge_ports::{Conn, Door, World};
-use config_file::FileStop;
 use label_sets::{Memory, Text};
-use run_command::{Report, run};
+use run_command::{FileStop, Report, run};
 use std::alloc::{AllocError, Global};
 use std::borrow::CowSlice;
 use std::sync::Wait;

@@ -3,7 +3,7 @@
 
 ghost use Rattle.std.specs.Prelude.{◌≡◌, ◌++◌, IfOk, OnOk, OnErr};
 ghost use Rattle.open_writing.specs.Writing.{written_text};
-ghost use Rattle.federation_page.specs.Gathering.{AreShowable, federated_page};
+ghost use Rattle.federation_page.specs.Gathering.{AreShowable, federated_page, federated_text};
 ghost use Rattle.federation_page.specs.Laws.{
   FilledGatherTheSame,
   GatheredAreApart,
@@ -24,7 +24,7 @@ mod targets;
 use label_sets::Memory;
 use page_model::{Page, Shown};
 use pages::gathered_families;
-use std::alloc::Global;
+use std::alloc::{AllocError, Global};
 
 /// Gathers what targets show, in their order, into one page (Prometheus, "Federation").
 ///
@@ -63,6 +63,22 @@ pub fn text(page: &Page, out: &mut Vec<u8>) -> Result<(), Memory>
     ensures err { OnErr result (out.new.items ≡ out.old.items) }
 {
     open_writing::write(page, out)
+}
+
+/// Puts the text of the federation page of what is shown behind what `out` holds.
+///
+/// # Errors
+///
+/// Want of memory: then `out` holds what it held.
+pub fn write_page(shown: &[Shown], out: &mut Vec<u8>) -> Result<(), Memory>
+    requires { AreShowable shown.now }
+    ensures ok { OnOk result (out.new.items ≡ out.old.items ++ federated_text shown.now) }
+    ensures err { OnErr result (out.new.items ≡ out.old.items) }
+{
+    match gather(*out.allocator(), shown) {
+        Ok(page) => text(&page, out),
+        Err(AllocError) => Err(AllocError),
+    }
 }
 
 /// No two families of the federation page clash, whatever is shown.

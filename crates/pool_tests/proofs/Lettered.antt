@@ -10,7 +10,7 @@ use Rattle.bridge_ports.specs.Targets.{IsScraped}
 use Rattle.series_table.specs.Talking.{Talking, Followed, AreInRange}
 use Rattle.series_table.specs.Records.{Kept, IsTrack, most_visits}
 use Rattle.target_table.specs.Runs.{IsRightRun, is_same_target}
-use Rattle.target_table.specs.Tables.{IsTrackAt, AreTracks, AreUnvisited}
+use Rattle.series_table.specs.Tracks.{IsTrackAt, AreTracks, AreUnvisited}
 use Rattle.scraper_pool.specs.Turns.{run_of}
 
 -- a track that was not visited, at its place, with the letter of the place as its job

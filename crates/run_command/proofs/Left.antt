@@ -4,9 +4,9 @@ use Rattle.std.specs.Prelude.{IfErr, IsErrAnd}
 use Rattle.bridge_ports.specs.Worlds.{WorldState, OpenFile}
 use Rattle.bridge_ports.specs.Outside.{Outside}
 use Rattle.bridge_ports.specs.Inputs.{EndsWithin}
-use Rattle.config_file.specs.declared.file_stop.FileStop.{FileStop}
-use Rattle.config_file.specs.declared.file_stop.FileStop.TheVariants.{TooLong, Read, Fault, Memory}
-use Rattle.config_file.specs.ConfigFiles.{IsFileAsked, LeavesFile, StopsReadingFile, left_of, most_config}
+use Rattle.run_command.specs.declared.file_stop.FileStop.{FileStop}
+use Rattle.run_command.specs.declared.file_stop.FileStop.TheVariants.{TooLong, Read, Fault, Memory}
+use Rattle.run_command.specs.ConfigFiles.{IsFileAsked, LeavesFile, StopsReadingFile, left_of, most_config}
 use Rattle.bridge_config.specs.declared.config.Config.{Config}
 use Rattle.run_report.specs.declared.target_end.TargetEnd.{TargetEnd}
 use Rattle.world_run.specs.Serving.{IsServedRun, IsUnserved, ChangesDoorsAlone, ChangesAtMost}

@@ -1,2 +1,3 @@
+mod Files
 pub mod Left
 pub mod Laws

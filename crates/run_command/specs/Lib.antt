@@ -1,1 +1,2 @@
+pub mod ConfigFiles
 pub mod RunReports

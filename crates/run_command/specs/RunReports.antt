@@ -2,9 +2,9 @@
 use Rattle.std.specs.Prelude.{◌≡◌, ◌⊎◌, ℕ, Bool, List, ◌++◌}
 use Rattle.bridge_ports.specs.Outside.{Outside}
 use Rattle.bridge_config.specs.declared.config.Config.{Config}
-use Rattle.config_file.specs.declared.file_stop.FileStop.{FileStop}
-use Rattle.config_file.specs.declared.file_stop.FileStop.TheVariants.{TooLong, Read, Fault, Memory}
-use Rattle.config_file.specs.ConfigFiles.{HoldsConfig, IsFileAsked}
+use Rattle.run_command.specs.declared.file_stop.FileStop.{FileStop}
+use Rattle.run_command.specs.declared.file_stop.FileStop.TheVariants.{TooLong, Read, Fault, Memory}
+use Rattle.run_command.specs.ConfigFiles.{HoldsConfig, IsFileAsked}
 use Rattle.run_report.specs.declared.target_end.TargetEnd.{TargetEnd}
 use Rattle.run_report.specs.Ends.{some_halted}
 use Rattle.run_report.specs.Reports.{report_text, served_line}

@@ -1,13 +1,14 @@
 //! The run of the configuration in a file.
 ghost use Rattle.std.specs.Prelude.{◌≡◌, None, IfOk, IfErr, OnErr};
 ghost use Rattle.bridge_config.specs.declared.config.Config.{Config as AnyConfig};
-ghost use Rattle.config_file.specs.ConfigFiles.{StopsAtFile, LeavesFile};
+ghost use Rattle.run_command.specs.ConfigFiles.{StopsAtFile, LeavesFile};
 ghost use Rattle.world_run.specs.Unused.{AreUnused};
 ghost use Rattle.run_command.specs.RunReports.{IsReportOfRun, LeavesWorld};
 
+use crate::config_file::config_in;
+use crate::file_stop::FileStop;
 use crate::report::{Report, report_of};
 use bridge_ports::{Conn, Door, World};
-use config_file::{FileStop, config_in};
 use label_sets::Text;
 use std::alloc::Global;
 use std::sync::Wait;
@@ -19,8 +20,8 @@ use world_run::run_config;
 ///
 /// # Errors
 ///
-/// What [`config_in`] answers where the file is no configuration; and want of memory. Where memory is wanted for
-/// the report alone the run is over, and its wires and its door came home.
+/// Each way in which the file gives no configuration, as [`FileStop`] tells it; and want of memory. Where memory is
+/// wanted for the report alone the run is over, and its wires and its door came home.
 ///
 /// # Example
 ///

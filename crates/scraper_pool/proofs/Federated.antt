@@ -2,10 +2,9 @@
 use Rattle.std.proofs.Common.{◌≡◌, ℕ, List, ◌++◌, Result, Ok, Err, IfOk, OnOk, refl, sym, subst}
 use Rattle.page_model.specs.declared.event.Shown.{Shown}
 use Rattle.series_table.specs.Talking.{Talking}
-use Rattle.federation_page.specs.Gathering.{AreShowable}
+use Rattle.federation_page.specs.Gathering.{AreShowable, federated_text}
 use Rattle.target_table.specs.Runs.{Run}
 use Rattle.target_table.specs.Tables.{Held, IsTable}
-use Rattle.target_table.specs.Paging.{federated_text}
 use Rattle.scraper_pool.specs.Federating.{AreSeen, HasPage}
 
 pub are_seen : {T E : Type 0} (items : T → List Shown) (w : Talking) (run : Run) (h : Held) (r : Result T E) → IfOk r (λ copies. items copies ≡ h.seen) → IsTable w run h → AreShowable h.seen

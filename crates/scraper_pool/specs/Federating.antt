@@ -3,10 +3,9 @@
 use Rattle.std.specs.Prelude.{◌≡◌, ℕ, List, ◌++◌}
 use Rattle.page_model.specs.declared.event.Shown.{Shown}
 use Rattle.series_table.specs.Talking.{Talking}
-use Rattle.federation_page.specs.Gathering.{AreShowable}
+use Rattle.federation_page.specs.Gathering.{AreShowable, federated_text}
 use Rattle.target_table.specs.Runs.{Run}
 use Rattle.target_table.specs.Tables.{Held, IsTable}
-use Rattle.target_table.specs.Paging.{federated_text}
 
 -- readers of some table of the run see this of its targets, in order; it may be gathered
 pub record AreSeen (w : Talking) (run : Run) (shown : List Shown) : Type 0 where

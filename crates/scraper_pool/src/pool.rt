@@ -8,11 +8,12 @@ ghost use Rattle.scraper_pool.specs.Turns.{IsTurn, seated};
 
 use crate::turn::Turn;
 use bridge_ports::Wire;
+use federation_page::write_page;
 use label_sets::Memory;
 use page_model::Shown;
 use std::alloc::{AllocError, Global};
 use std::sync::{Mutex, Wait};
-use target_table::{Lane, Lease, RunName, Seat, Table, write_page};
+use target_table::{Lane, Lease, RunName, Seat, Table};
 
 /// A table of targets that several workers share.
 pub struct Pool<N: RunName, A: Lane, B: Lane, C: Lane, D: Lane, W: Wire> {

@@ -3,7 +3,8 @@ ghost use Rattle.std.specs.Prelude.{◌≡◌, ◌<◌, None, IfOk, IfErr, IfSom
 ghost use Rattle.series_table.specs.HttpTalks.{talking};
 ghost use Rattle.target_table.specs.declared.table.TableFault.TheVariants as table_faults;
 ghost use Rattle.target_table.specs.Runs.{IsRightRun};
-ghost use Rattle.target_table.specs.Tables.{next_place, AreTracks, AreUnvisited, IsRunOver};
+ghost use Rattle.series_table.specs.Tracks.{AreTracks, AreUnvisited};
+ghost use Rattle.target_table.specs.Tables.{next_place, IsRunOver};
 ghost use Rattle.scraper_pool.specs.declared.run.RunFault.TheVariants as faults;
 ghost use Rattle.scraper_pool.specs.declared.turn.Turn.TheVariants as turns;
 ghost use Rattle.scraper_pool.specs.Serving.{IsUnopened, ServesAt};

@@ -4,7 +4,8 @@ ghost use Rattle.std.specs.Prelude.{◌≡◌, ◌<◌, nat_lt, IfOk, IfErr, IfS
 ghost use Rattle.std.specs.Thread.{IsSync};
 ghost use Rattle.series_table.specs.HttpTalks.{talking};
 ghost use Rattle.target_table.specs.Runs.{IsRightRun};
-ghost use Rattle.target_table.specs.Tables.{AreTracks, AreUnvisited, IsRunOver};
+ghost use Rattle.series_table.specs.Tracks.{AreTracks, AreUnvisited};
+ghost use Rattle.target_table.specs.Tables.{IsRunOver};
 ghost use Rattle.scraper_pool.specs.declared.run.RunFault.TheVariants as faults;
 ghost use Rattle.scraper_pool.specs.Serving.{IsUnopened, ServesAt};
 ghost use Rattle.scraper_pool.specs.Turns.{IsFreeLane, IsWork, seated};

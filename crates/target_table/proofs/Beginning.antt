@@ -4,7 +4,8 @@ use Rattle.page_model.specs.declared.event.Shown.{Shown}
 use Rattle.series_table.specs.Talking.{Talking, Followed}
 use Rattle.series_table.specs.Records.{Kept, IsShownOf}
 use Rattle.target_table.specs.Runs.{Run, IsRightRun}
-use Rattle.target_table.specs.Tables.{holders, IsTrackAt, IsSlot, AreSlots, IsTable, AreTracks, AreUnvisited}
+use Rattle.series_table.specs.Tracks.{IsTrackAt, AreTracks, AreUnvisited}
+use Rattle.target_table.specs.Tables.{holders, IsSlot, AreSlots, IsTable}
 use Rattle.target_table.proofs.Tabled.{hit-other, holders-step}
 
 -- no lane is out

@@ -6,7 +6,8 @@ use Rattle.page_model.specs.declared.event.Shown.{Shown}
 use Rattle.series_table.specs.Talking.{Talking, Followed}
 use Rattle.series_table.specs.Records.{Kept}
 use Rattle.target_table.specs.Runs.{Run}
-use Rattle.target_table.specs.Tables.{Held, may_leave, visits_in, next_place, AreSlots, IsTable, AreTracks, IsRunOver}
+use Rattle.series_table.specs.Tracks.{AreTracks}
+use Rattle.target_table.specs.Tables.{Held, may_leave, visits_in, next_place, AreSlots, IsTable, IsRunOver}
 use Rattle.target_table.proofs.Beginning.{no_books, none_holds, length-slots}
 use Rattle.target_table.proofs.Turning.{none_passes}
 

@@ -9,7 +9,8 @@ use Rattle.otlp_sender.specs.declared.posted.Posted.{Posted}
 use Rattle.series_table.specs.Talking.{Talking}
 use Rattle.series_table.specs.Records.{Kept}
 use Rattle.target_table.specs.Machine.{OneTarget, TableStep, taking, visiting, halting, putting, deed_at, paging, taken_by, visited_with, halted_with, done, changed_at, step_from, state_after, pages_seen}
-use Rattle.target_table.specs.Paging.{federated_text, is_put_of}
+use Rattle.federation_page.specs.Gathering.{federated_text}
+use Rattle.target_table.specs.Paging.{is_put_of}
 use Rattle.target_table.specs.Mirrors.{Mirrors, PageIsAStep}
 use Rattle.target_table.specs.Laws.{HasOwnRun, PagesAreOwn, SeenUntilPut}
 use Rattle.target_table.proofs.Places.{get_other, unequal_numbers}

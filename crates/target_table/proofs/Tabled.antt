@@ -11,7 +11,8 @@ use Rattle.series_table.specs.Records.{Kept, IsShownOf, MayShow}
 use Rattle.series_table.specs.Moving.{without_second}
 use Rattle.series_table.proofs.Laws.{track-without_second}
 use Rattle.target_table.specs.Machine.{changed_at, turn_of, first_place, fewest}
-use Rattle.target_table.specs.Tables.{Held, Leased, holders, may_leave, visits_in, next_place, IsTrackHome, IsSlot, AreSlots, AreNumbers, IsTable, IsLease, MayBePut, seen_after, TakesTarget, PutsTarget, IsTrackAt}
+use Rattle.series_table.specs.Tracks.{IsTrackAt}
+use Rattle.target_table.specs.Tables.{Held, Leased, holders, may_leave, visits_in, next_place, IsTrackHome, IsSlot, AreSlots, AreNumbers, IsTable, IsLease, MayBePut, seen_after, TakesTarget, PutsTarget}
 use Rattle.target_table.proofs.Places.{equal_numbers, unequal_numbers, same_number, below}
 
 -- ---- lists with one element changed

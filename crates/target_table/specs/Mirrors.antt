@@ -12,7 +12,7 @@ use Rattle.series_table.specs.Talking.{Talking}
 use Rattle.target_table.specs.Runs.{Run}
 use Rattle.series_table.specs.Records.{Kept, Visits, talks_of}
 use Rattle.target_table.specs.Machine.{OneTarget, Deed, taking, putting, deed_at, paging, visits_of, May, Allowed, done, step_from, pages_seen}
-use Rattle.target_table.specs.Paging.{federated_text}
+use Rattle.federation_page.specs.Gathering.{federated_text}
 use Rattle.target_table.specs.Tables.{Held, Leased, IsTable, TakesTarget, MayBePut, PutsTarget}
 
 -- a track has what the machine has of its target: its wires tell the same talks

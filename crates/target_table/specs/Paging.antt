@@ -1,15 +1,8 @@
--- What the reader of a page gets, and the steps that change it.
+-- The steps that change what the reader of a page gets.
 -- Prometheus, "Federation"; when a page is seen is the bridge's own.
 use Rattle.std.specs.Prelude.{◌≡◌, ℕ, Bool, true, false, ◌&&◌, ◌==◌, List}
 use Rattle.std.specs.List.{AllByRecursion}
-use Rattle.page_model.specs.declared.event.Shown.{Shown}
-use Rattle.open_writing.specs.Writing.{written_text}
-use Rattle.federation_page.specs.Gathering.{federated_page}
 use Rattle.target_table.specs.Machine.{Deed, putting, TableStep, deed_at, paging}
-
--- the text of the federation page of what is shown, targets in order
-abbrev pub federated_text : List Shown → List ℕ
-federated_text shown = written_text (federated_page shown)
 
 -- a target is put back
 abbrev pub is_putting : Deed → Bool

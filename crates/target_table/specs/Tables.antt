@@ -5,7 +5,8 @@ use Rattle.std.specs.List.{slice_get}
 use Rattle.page_model.specs.declared.event.Shown.{Shown}
 use Rattle.series_table.specs.Talking.{Talking, Followed}
 use Rattle.target_table.specs.Runs.{Run, IsRightRun, most_of_run}
-use Rattle.series_table.specs.Records.{Kept, IsTrack, IsShownOf}
+use Rattle.series_table.specs.Records.{Kept, IsShownOf}
+use Rattle.series_table.specs.Tracks.{IsTrackAt, HasAllVisits, AreTracks}
 use Rattle.series_table.specs.Moving.{without_second}
 use Rattle.target_table.specs.Machine.{turn_of, changed_at}
 
@@ -44,13 +45,6 @@ abbrev pub targets_out : List ℕ → ℕ
 targets_out books = length (filter (λ n. not (n == 0)) books)
 
 -- ---- what it keeps
-
--- a track that is one of the run's target at this place, with its wires at home
-pub record IsTrackAt (w : Talking) (f : Followed) (place : ℕ) (k : Kept) : Type 0 where
-  pub followed : k.followed ≡ f
-  pub scrape_place : k.scrape.place ≡ record { number = place + 1; post = false }
-  pub post_place : k.post.place ≡ record { number = place + 1; post = true }
-  pub track : IsTrack w k
 
 -- a track that is at home: at most `rounds` visits, fewer where it is halted, no second page, and readers see what it shows, where it isn't halted
 pub record IsTrackHome (w : Talking) (rounds : ℕ) (f : Followed) (place : ℕ) (seen : Shown) (k : Kept) : Type 0 where
@@ -129,21 +123,6 @@ pub record PutsTarget (lane : ℕ) (before after : Held) (l : Leased) : Type 0 w
   pub seen : after.seen ≡ changed_at (seen_after l.track) before.seen place
 
 -- ---- what a run gives back
-
--- a track that has all its visits, or is halted and has fewer
-pub record HasAllVisits (rounds : ℕ) (k : Kept) : Type 0 where
-  pub all : k.halted ≡ false → k.counts.visits ≡ rounds
-  pub left : k.halted ≡ true → k.counts.visits < rounds
-
--- one track of each target, in order, from this place on
-abbrev pub AreTracks : Talking → ℕ → List Followed → List Kept → Type 0
-AreTracks w place [] [] = ⊤
-AreTracks w place (f ∷ fs) (k ∷ ks) = IsTrackAt w f place k × AreTracks w (place + 1) fs ks
-AreTracks w place _ _ = ⊥
-
--- no track was visited or is halted
-abbrev pub AreUnvisited : List Kept → Type 0
-AreUnvisited tracks = All (λ (k : Kept). (k.counts.visits ≡ 0) × (k.halted ≡ false)) tracks
 
 -- there is one track of each target, in order, and each of its rounds was made, but of those that are halted
 pub record IsRunOver (w : Talking) (run : Run) (tracks : List Kept) : Type 0 where

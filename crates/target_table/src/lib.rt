@@ -13,6 +13,5 @@ mod turn;
 pub use books::{Books, Seat};
 pub use lane::{Blanks, First, Fourth, Lane, Second, Share, Shares, Third};
 pub use lease::{Lease, RunName};
-pub use page::write_page;
 pub use series_table::{Counts, Track, Visited};
 pub use table::{Table, TableFault};

@@ -1,22 +1,23 @@
 //! The table of all targets of a run: what a lock keeps.
 ghost use Rattle.std.specs.Prelude.{◌≡◌, ◌∷◌, [], ◌+◌, ◌++◌, ◌≤◌, length, map, Some, None, IfOk, IfErr, IfSome, IfNone, OnOk, OnErr};
 ghost use Rattle.std.specs.Vec.{vec_capacity};
-ghost use Rattle.federation_page.specs.Gathering.{AreShowable};
+ghost use Rattle.federation_page.specs.Gathering.{AreShowable, federated_text};
 ghost use Rattle.series_table.specs.Counting.{as_count};
 ghost use Rattle.series_table.specs.HttpTalks.{talking};
 ghost use Rattle.series_table.specs.Records.{Kept};
 ghost use Rattle.target_table.specs.declared.table.TableFault.TheVariants as faults;
 ghost use Rattle.target_table.specs.Runs.{IsRightRun};
-ghost use Rattle.target_table.specs.Paging.{federated_text};
-ghost use Rattle.target_table.specs.Tables.{next_place, targets_out, TakesTarget, MayBePut, PutsTarget, IsTable, AreTracks, AreUnvisited, IsRunOver};
+ghost use Rattle.series_table.specs.Tracks.{AreTracks, AreUnvisited};
+ghost use Rattle.target_table.specs.Tables.{next_place, targets_out, TakesTarget, MayBePut, PutsTarget, IsTable, IsRunOver};
 
 use crate::books::{Books, Seat};
 use crate::lane::{Blanks, Lane, Shares};
 use crate::lease::{Lease, RunName};
-use crate::page::{copies_of, write_page};
+use crate::page::copies_of;
 use crate::slots::{clear, count_empty, fill, pages_of, put_in, put_seen, take_out};
 use crate::turn::whose_turn;
 use bridge_ports::Wire;
+use federation_page::write_page;
 use label_sets::Memory;
 use page_model::Shown;
 use series_table::Track;

@@ -13,7 +13,8 @@ use Rattle.series_table.specs.HttpTalks.{talking}
 use Rattle.series_table.specs.declared.counts.Counts.{Counts}
 use Rattle.series_table.specs.Talking.{Followed}
 use Rattle.series_table.specs.Records.{Kept, talks_of, HasRecord}
-use Rattle.target_table.specs.Tables.{IsTrackAt, HasAllVisits, AreTracks, IsRunOver}
+use Rattle.series_table.specs.Tracks.{IsTrackAt, HasAllVisits, AreTracks}
+use Rattle.target_table.specs.Tables.{IsRunOver}
 use Rattle.scraper_pool.specs.Turns.{run_of}
 use Rattle.bridge_config.specs.declared.config.Config.{Config}
 use Rattle.bridge_config.specs.RightConfigs.{IsRightConfig}

@@ -11,7 +11,7 @@ use Rattle.series_table.specs.HttpTalks.{talking}
 use Rattle.series_table.specs.Talking.{Followed, AreInRange}
 use Rattle.series_table.specs.Records.{Kept}
 use Rattle.target_table.specs.Runs.{IsRightRun, is_same_target}
-use Rattle.target_table.specs.Tables.{IsTrackAt, AreTracks}
+use Rattle.series_table.specs.Tracks.{IsTrackAt, AreTracks}
 use Rattle.scraper_pool.specs.Turns.{run_of}
 use Rattle.bridge_config.specs.declared.config.Config.{Config}
 use Rattle.bridge_config.specs.RightConfigs.{IsRightConfig}

@@ -6,7 +6,7 @@ use Rattle.bridge_ports.specs.Worlds.{KeepsOthers}
 use Rattle.bridge_ports.specs.Outside.{SeenPair, Outside, with_pairs}
 use Rattle.series_table.specs.HttpTalks.{talking}
 use Rattle.series_table.specs.Records.{Kept}
-use Rattle.target_table.specs.Tables.{IsTrackAt}
+use Rattle.series_table.specs.Tracks.{IsTrackAt}
 use Rattle.bridge_config.specs.declared.config.Config.{Config}
 use Rattle.run_report.specs.declared.target_end.TargetEnd.{TargetEnd}
 

@@ -3,7 +3,7 @@ ghost use Rattle.std.specs.Prelude.{◌≡◌, ◌<◌};
 ghost use Rattle.std.specs.Thread.{IsSync};
 ghost use Rattle.series_table.specs.HttpTalks.{talking};
 ghost use Rattle.target_table.specs.Runs.{IsRightRun};
-ghost use Rattle.target_table.specs.Tables.{AreTracks, AreUnvisited};
+ghost use Rattle.series_table.specs.Tracks.{AreTracks, AreUnvisited};
 ghost use Rattle.scraper_pool.specs.Turns.{IsFreeLane, run_of};
 
 use crate::calls::run_calls::REPLY;

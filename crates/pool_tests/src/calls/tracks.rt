@@ -5,7 +5,7 @@ ghost use Rattle.bridge_ports.specs.Targets.{IsScraped};
 ghost use Rattle.series_table.specs.HttpTalks.{talking};
 ghost use Rattle.series_table.specs.Records.{IsFresh, IsTrack, most_visits};
 ghost use Rattle.target_table.specs.Runs.{IsRightRun};
-ghost use Rattle.target_table.specs.Tables.{AreTracks, AreUnvisited};
+ghost use Rattle.series_table.specs.Tracks.{AreTracks, AreUnvisited};
 ghost use Rattle.scraper_pool.specs.Turns.{run_of};
 
 use bridge_ports::{Address, End, MemoryReply, MemoryWire, Place, Settings, Target};

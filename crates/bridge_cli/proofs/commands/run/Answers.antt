@@ -1,8 +1,9 @@
 use Rattle.std.proofs.Common.{refl, ◌∙◌}
 use Rattle.program_words.specs.declared.words.Command.TheVariants.{Help, Version, Check, Convert}
 use Rattle.program_words.specs.HelpTexts.{help_text, version_text}
-use Rattle.bridge_cli.specs.Answers.{Answers, IsScriptAnswer}
-use Rattle.bridge_cli.specs.Replays.{IsReplayWith}
+use Rattle.script_commands.specs.ScriptAnswers.{IsScriptAnswer}
+use Rattle.bridge_cli.specs.Answers.{Answers}
+use Rattle.script_commands.specs.Replays.{IsReplayWith}
 use Rattle.page_commands.specs.PageAnswers.{page_setting, IsPageAnswer}
 use Rattle.page_commands.specs.CheckTexts.{checked_text}
 use Rattle.page_commands.specs.ConvertTexts.{converted_text}

@@ -1,5 +1,5 @@
 use Rattle.std.proofs.Common.{refl}
-use Rattle.config_file.specs.declared.file_stop.FileStop.TheVariants.{Memory}
+use Rattle.run_command.specs.declared.file_stop.FileStop.TheVariants.{Memory}
 use Rattle.bridge_program.specs.RunAnswers.{run_over}
 use Rattle.bridge_program.proofs.RunEnds.{stop_answers, unasked_answers, stop_tells, rose_at_read}
 use Rattle.bridge_program.proofs.run_end.run_end.Goals as goal

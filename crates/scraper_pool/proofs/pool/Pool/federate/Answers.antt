@@ -1,8 +1,7 @@
 use Rattle.std.proofs.Common.{◌≡◌, ◌++◌, List, OnOk, sym, subst}
 use Rattle.page_model.specs.declared.event.Shown.{Shown}
 use Rattle.series_table.specs.HttpTalks.{talking}
-use Rattle.federation_page.specs.Gathering.{AreShowable}
-use Rattle.target_table.specs.Paging.{federated_text}
+use Rattle.federation_page.specs.Gathering.{AreShowable, federated_text}
 use Rattle.scraper_pool.proofs.Federated.{has_page}
 use Rattle.scraper_pool.proofs.pool.Pool.federate.Goals as goal
 

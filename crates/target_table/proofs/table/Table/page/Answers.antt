@@ -1,9 +1,8 @@
 use Rattle.std.proofs.Common.{◌≡◌, ◌++◌, ◌∙◌, List, OnOk, ap, sym, subst}
 use Rattle.page_model.specs.declared.event.Shown.{Shown}
 use Rattle.series_table.specs.HttpTalks.{talking}
-use Rattle.federation_page.specs.Gathering.{AreShowable}
+use Rattle.federation_page.specs.Gathering.{AreShowable, federated_text}
 use Rattle.target_table.specs.Tables.{Held}
-use Rattle.target_table.specs.Paging.{federated_text}
 use Rattle.target_table.proofs.Showable.{showable}
 use Rattle.target_table.proofs.table.Table.page.Goals as goal
 
