@@ -29,6 +29,11 @@ pub member_if_some : {A : Type 0} (xs : List A) (key text : List ℕ) → (lengt
 member_if_some [] key text some = cc
 member_if_some (x ∷ xs) key text some = grind (arith, common_steps)
 
+-- the same, where it stands behind another one
+pub member_if_more : {A : Type 0} (xs : List A) (key text : List ℕ) → (length xs == 0) ≡ false → each_behind_comma (member_if (has_some xs) key text) ≡ codes "," ++ member key text
+member_if_more [] key text some = cc
+member_if_more (x ∷ xs) key text some = grind (arith, common_steps)
+
 -- members with commas are those in front, each with a comma behind it, and the last
 pub with_commas-last : (members : List (List ℕ)) (last : List ℕ) → with_commas (members ++ last ∷ []) ≡ each_before_comma members ++ last
 with_commas-last [] last = refl

@@ -4,7 +4,7 @@ use Rattle.std.specs.Prelude.{ℕ, List, ◌++◌, codes, Option}
 use Rattle.std.specs.List.{flat_map}
 use Rattle.label_sets.specs.declared.label_set.LabelSet.{LabelSet}
 use Rattle.otlp_json.specs.Json.{json_integer}
-use Rattle.otlp_json.specs.Texts.{attributes_member, start_member}
+use Rattle.otlp_json.specs.Texts.{attributes_member, start_member, value_members}
 
 -- a text with a comma in front, as each but the first of a list has it
 unfoldable pub next_text : {A : Type 0} → (A → List ℕ) → A → List ℕ
@@ -29,3 +29,7 @@ each_behind_comma members = flat_map behind_comma members
 -- a point from its first member up to its time
 unfoldable pub point_front : LabelSet → Option ℕ → ℕ → List ℕ
 point_front labels start time = each_before_comma (attributes_member labels) ++ each_before_comma (start_member start) ++ codes "\"timeUnixNano\":" ++ json_integer time
+
+-- a point of any kind up to the members of its value
+unfoldable pub open_point : {A : Type 0} → (A → List (List ℕ)) → LabelSet → Option ℕ → ℕ → Option A → List ℕ
+open_point members labels start time value = codes "{" ++ point_front labels start time ++ each_behind_comma (value_members members value)

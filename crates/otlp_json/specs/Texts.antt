@@ -1,7 +1,9 @@
 -- The text of an export request, by recursion on its tree.
 -- OTLP 1.x, "JSON Protobuf Encoding" (ExportMetricsServiceRequest, ResourceMetrics, ScopeMetrics, Metric and its data points).
 -- The order of the members, and which are left out where they are empty, are the bridge's own.
-use Rattle.std.specs.Prelude.{ℕ, Bool, true, false, List, [], ◌∷◌, ◌++◌, map, codes, Option, Some, None}
+use Rattle.std.specs.Prelude.{ℕ, ◌-◌, Bool, true, false, List, [], ◌∷◌, ◌++◌, map, length, codes, Option, Some, None}
+use Rattle.std.specs.List.{repeat}
+use Rattle.std.specs.Fmt.{digits}
 use Rattle.exact_decimal.specs.declared.number.Number.{Number}
 use Rattle.exact_decimal.specs.Literals.{decimal_text, number_json}
 use Rattle.label_sets.specs.declared.label.Label.{Label}
@@ -10,6 +12,8 @@ use Rattle.otlp_tree.specs.declared.tree.Request.{Request}
 use Rattle.otlp_tree.specs.declared.tree.Attribute.{Attribute}
 use Rattle.otlp_tree.specs.declared.tree.AttributeValue.{AttributeValue}
 use Rattle.otlp_tree.specs.declared.tree.AttributeValue.TheVariants.{Str, Int}
+use Rattle.otlp_tree.specs.declared.tree.ResourceMetrics.{ResourceMetrics}
+use Rattle.otlp_tree.specs.declared.tree.Shot.{Shot}
 use Rattle.otlp_tree.specs.declared.tree.ScopeMetrics.{ScopeMetrics}
 use Rattle.otlp_tree.specs.declared.tree.Metric.{Metric}
 use Rattle.otlp_tree.specs.declared.tree.Shape.{Shape}
@@ -43,9 +47,13 @@ label_text l = key_value_text l.name (Str l.value)
 
 -- ---- points
 
--- the attributes of a point, left out where it has none
+-- labels as attributes under this key, left out where there are none
+abbrev pub labels_member : List ℕ → LabelSet → List (List ℕ)
+labels_member key labels = member_if (has_some labels) key (json_array (map label_text labels))
+
+-- the attributes of a point
 unfoldable pub attributes_member : LabelSet → List (List ℕ)
-attributes_member labels = member_if (has_some labels) (codes "attributes") (json_array (map label_text labels))
+attributes_member labels = labels_member (codes "attributes") labels
 
 -- the start of a point, left out where it has none
 unfoldable pub start_member : Option ℕ → List (List ℕ)
@@ -65,9 +73,35 @@ abbrev pub value_members : {A : Type 0} → (A → List (List ℕ)) → Option A
 value_members members None = no_value_member ∷ []
 value_members members (Some v) = members v
 
--- a point of any kind, by the members of its value
-unfoldable pub point_text : {A : Type 0} → (A → List (List ℕ)) → LabelSet → Option ℕ → ℕ → Option A → List ℕ
-point_text members labels start time value = json_object (point_head labels start time ++ value_members members value)
+-- a number in lower-case hexadecimal digits, with zeros in front up to so many places
+unfoldable pub hex_text : ℕ → ℕ → List ℕ
+hex_text places n = repeat (places - length (digits 16 false n)) (48 ∷ []) ++ digits 16 false n
+
+-- an id of so many hexadecimal digits, left out where there is none
+unfoldable pub id_member : List ℕ → ℕ → Option ℕ → List (List ℕ)
+id_member key places None = []
+id_member key places (Some n) = member key (codes "\"" ++ hex_text places n ++ codes "\"") ∷ []
+
+-- the attributes of an exemplar
+unfoldable pub filtered_member : LabelSet → List (List ℕ)
+filtered_member labels = labels_member (codes "filteredAttributes") labels
+
+-- an exemplar (Exemplar)
+unfoldable pub shot_text : Shot → List ℕ
+shot_text s = json_object (
+    filtered_member s.attributes
+    ++ member (codes "timeUnixNano") (json_integer s.time)
+    ∷ member (codes "asDouble") (number_json s.value)
+    ∷ id_member (codes "spanId") 16 s.span
+    ++ id_member (codes "traceId") 32 s.trace)
+
+-- the exemplars of a point, left out where it has none
+unfoldable pub exemplars_member : List Shot → List (List ℕ)
+exemplars_member shots = member_if (has_some shots) (codes "exemplars") (json_array (map shot_text shots))
+
+-- a point of any kind, by the members of its value, and its exemplars behind them
+unfoldable pub point_text : {A : Type 0} → (A → List (List ℕ)) → LabelSet → Option ℕ → ℕ → Option A → List Shot → List ℕ
+point_text members labels start time value shots = json_object (point_head labels start time ++ value_members members value ++ exemplars_member shots)
 
 -- the value of a number point
 unfoldable pub number_members : Number → List (List ℕ)
@@ -75,7 +109,7 @@ number_members n = member (codes "asDouble") (number_json n) ∷ []
 
 -- a number point (NumberDataPoint)
 unfoldable pub number_point_text : NumberPoint → List ℕ
-number_point_text p = point_text number_members p.labels p.start p.time p.value
+number_point_text p = point_text number_members p.labels p.start p.time p.value p.exemplars
 
 -- the sum of a histogram's observations, left out where it isn't known
 unfoldable pub known_sum_member : Option Number → List (List ℕ)
@@ -92,7 +126,7 @@ observation_members v =
 
 -- a histogram point (HistogramDataPoint)
 unfoldable pub histogram_point_text : HistogramPoint → List ℕ
-histogram_point_text p = point_text observation_members p.labels (Some p.start) p.time p.value
+histogram_point_text p = point_text observation_members p.labels (Some p.start) p.time p.value p.exemplars
 
 -- a quantile and its value (ValueAtQuantile)
 unfoldable pub quantile_text : Quantile → List ℕ
@@ -107,7 +141,7 @@ quantile_members v =
 
 -- a summary point (SummaryDataPoint)
 unfoldable pub summary_point_text : SummaryPoint → List ℕ
-summary_point_text p = point_text quantile_members p.labels (Some p.start) p.time p.value
+summary_point_text p = point_text quantile_members p.labels (Some p.start) p.time p.value []
 
 -- ---- metrics, scopes and the whole
 
@@ -163,15 +197,15 @@ metric_text m = json_object (
 -- a scope with its metrics (ScopeMetrics)
 unfoldable pub scope_text : ScopeMetrics → List ℕ
 scope_text s = json_object (
-    member (codes "scope") (json_object (member (codes "name") (json_string s.name) ∷ []))
+    member (codes "scope") (json_object (member (codes "name") (json_string s.name) ∷ text_member (codes "version") s.version))
     ∷ member (codes "metrics") (json_array (map metric_text s.metrics)) ∷ [])
 
 -- a resource with its scopes (ResourceMetrics)
-abbrev pub resource_text : List Attribute → List ScopeMetrics → List ℕ
-resource_text resource scopes = json_object (
-    member (codes "resource") (json_object (member (codes "attributes") (json_array (map attribute_text resource)) ∷ []))
-    ∷ member (codes "scopeMetrics") (json_array (map scope_text scopes)) ∷ [])
+unfoldable pub resource_text : ResourceMetrics → List ℕ
+resource_text part = json_object (
+    member (codes "resource") (json_object (member (codes "attributes") (json_array (map attribute_text part.resource)) ∷ []))
+    ∷ member (codes "scopeMetrics") (json_array (map scope_text part.scopes)) ∷ [])
 
--- an export request (ExportMetricsServiceRequest) of one resource
+-- an export request (ExportMetricsServiceRequest)
 unfoldable pub request_text : Request → List ℕ
-request_text r = json_object (member (codes "resourceMetrics") (json_array (resource_text r.resource r.scopes ∷ [])) ∷ [])
+request_text r = json_object (member (codes "resourceMetrics") (json_array (map resource_text r.parts)) ∷ [])

@@ -49,6 +49,7 @@ impl Json for Label {
 impl Json for LabelSet {
     ghost text = { λ labels. json_array (map label_text labels) };
 
+    #[inline(always)]
     fn emit<E: Emitter>(&self, out: &mut E) {
         emit_array(out, self.labels());
     }

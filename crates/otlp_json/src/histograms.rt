@@ -4,8 +4,9 @@ ghost use Rattle.std.specs.Prelude.{◌≡◌, fold};
 ghost use Rattle.otlp_json.specs.Pieces.{each_behind_comma};
 ghost use Rattle.otlp_json.specs.Texts.{histogram_point_text, known_sum_member, observation_members};
 
+use crate::exemplars::emit_exemplars;
 use crate::json::{Json, emit_member};
-use crate::points::{PointValue, emit_point};
+use crate::points::{PointValue, emit_open_point};
 use exact_decimal::Number;
 use otlp_tree::{HistogramPoint, HistogramValue};
 use text_emitter::Emitter;
@@ -35,8 +36,9 @@ impl PointValue for HistogramValue {
 impl Json for HistogramPoint {
     ghost text = { histogram_point_text };
 
-    #[tactic(auto, unfolding(crate::specs::Texts::histogram_point_text))]
     fn emit<E: Emitter>(&self, out: &mut E) {
-        emit_point(out, &self.labels, Some(self.start), self.time, &self.value);
+        emit_open_point(out, &self.labels, Some(self.start), self.time, &self.value);
+        emit_exemplars(out, &self.exemplars);
+        out.put(b"}");
     }
 }

@@ -11,6 +11,8 @@ ghost use Rattle.bridge_ports.specs.Writing.{WroteFront};
 ghost use Rattle.otlp_json.specs.Texts.{request_text};
 
 mod attributes;
+mod exemplars;
+mod hex;
 mod histograms;
 mod json;
 mod metrics;
@@ -44,8 +46,10 @@ pub fn length(request: &Request) -> u64
 ///
 /// ```rust
 /// let (resource, scopes) = (List::new(alloc), List::new(alloc));
+/// let part = ResourceMetrics { resource, scopes };
+/// let parts = List::from_vec(Vec::from_array(alloc, [part])?)?;
 /// let mut out = Vec::new(alloc);
-/// write(&Request { resource, scopes }, &mut out)?;
+/// write(&Request { parts }, &mut out)?;
 /// let text = r#"{"resourceMetrics":[{"resource":{"attributes":[]},"scopeMetrics":[]}]}"#;
 /// assert_eq!(rt; out.as_slice(), text.as_bytes());
 /// ```

@@ -1,12 +1,12 @@
-//! Metrics with their points, and scopes.
+//! Metrics with their points, scopes and resources.
 
-ghost use Rattle.std.specs.Prelude.{◌≡◌, fold};
-ghost use Rattle.otlp_json.specs.Pieces.{each_before_comma};
-ghost use Rattle.otlp_json.specs.Texts.{metric_text, scope_text, shape_member, sum_member, text_member, truth_text};
+ghost use Rattle.std.specs.Prelude.{◌≡◌, codes, fold};
+ghost use Rattle.otlp_json.specs.Pieces.{each_behind_comma, each_before_comma};
+ghost use Rattle.otlp_json.specs.Texts.{metric_text, resource_text, scope_text, shape_member, sum_member, text_member, truth_text};
 
-use crate::json::{Json, emit_between};
+use crate::json::{Json, emit_between, emit_member};
 use label_sets::{List, Text};
-use otlp_tree::{Metric, NumberPoint, ScopeMetrics, Shape};
+use otlp_tree::{Metric, NumberPoint, ResourceMetrics, ScopeMetrics, Shape};
 use text_emitter::Emitter;
 
 /// Emits a text as a member with the comma behind it, unless the text is empty.
@@ -80,15 +80,38 @@ impl Json for Metric {
     }
 }
 
+/// Emits the version of a scope behind a comma, unless it is empty.
+fn emit_version<E: Emitter>(out: &mut E, version: &Text)
+    ensures { out.new ≡ fold E.push out.old (each_behind_comma (text_member (codes "version") version.now)) }
+{
+    if version.as_bytes().is_empty() {
+        return;
+    }
+    emit_member(out, b",\"version\":", version);
+}
+
 impl Json for ScopeMetrics {
     ghost text = { scope_text };
 
-    #[tactic(auto, unfolding(crate::specs::Texts::scope_text))]
     fn emit<E: Emitter>(&self, out: &mut E) {
         out.put(b"{\"scope\":{\"name\":");
         self.name.emit(out);
+        emit_version(out, &self.version);
         out.put(b"},\"metrics\":");
         self.metrics.emit(out);
+        out.put(b"}");
+    }
+}
+
+impl Json for ResourceMetrics {
+    ghost text = { resource_text };
+
+    #[tactic(auto, unfolding(crate::specs::Texts::resource_text))]
+    fn emit<E: Emitter>(&self, out: &mut E) {
+        out.put(b"{\"resource\":{\"attributes\":");
+        self.resource.emit(out);
+        out.put(b"},\"scopeMetrics\":");
+        self.scopes.emit(out);
         out.put(b"}");
     }
 }

@@ -1,9 +1,10 @@
 //! Points of any kind, and those of numbers.
 
 ghost use Rattle.std.specs.Prelude.{◌≡◌, fold};
-ghost use Rattle.otlp_json.specs.Pieces.{each_behind_comma, each_before_comma, point_front};
-ghost use Rattle.otlp_json.specs.Texts.{attributes_member, number_members, number_point_text, point_text, start_member, value_members};
+ghost use Rattle.otlp_json.specs.Pieces.{each_behind_comma, each_before_comma, open_point, point_front};
+ghost use Rattle.otlp_json.specs.Texts.{attributes_member, number_members, number_point_text, start_member, value_members};
 
+use crate::exemplars::emit_exemplars;
 use crate::json::{Json, emit_member};
 use exact_decimal::Number;
 use label_sets::LabelSet;
@@ -68,20 +69,19 @@ fn emit_value<V: PointValue, E: Emitter>(out: &mut E, value: &Option<V>)
     }
 }
 
-/// Emits a point.
-pub(crate) fn emit_point<V: PointValue, E: Emitter>(
+/// Emits a point up to its value.
+pub(crate) fn emit_open_point<V: PointValue, E: Emitter>(
     out: &mut E,
     labels: &LabelSet,
     start: Option<u64>,
     time: u64,
     value: &Option<V>,
 )
-    ensures { out.new ≡ fold E.push out.old (point_text V.members labels.now start time value.now) }
+    ensures { out.new ≡ fold E.push out.old (open_point V.members labels.now start time value.now) }
 {
     out.put(b"{");
     emit_front(out, labels, start, time);
     emit_value(out, value);
-    out.put(b"}");
 }
 
 impl PointValue for Number {
@@ -96,8 +96,9 @@ impl PointValue for Number {
 impl Json for NumberPoint {
     ghost text = { number_point_text };
 
-    #[tactic(auto, unfolding(crate::specs::Texts::number_point_text))]
     fn emit<E: Emitter>(&self, out: &mut E) {
-        emit_point(out, &self.labels, self.start, self.time, &self.value);
+        emit_open_point(out, &self.labels, self.start, self.time, &self.value);
+        emit_exemplars(out, &self.exemplars);
+        out.put(b"}");
     }
 }

@@ -3,7 +3,7 @@
 ghost use Rattle.std.specs.Prelude.{◌≡◌, fold};
 ghost use Rattle.otlp_json.specs.Texts.{request_text};
 
-use crate::json::Json;
+use crate::json::emit_between;
 use otlp_tree::Request;
 use text_emitter::{Emit, Emitter};
 
@@ -16,10 +16,6 @@ impl Emit for RequestText<'_> {
 
     #[tactic(auto, unfolding(crate::specs::Texts::request_text))]
     fn emit<E: Emitter>(&self, out: &mut E) {
-        out.put(b"{\"resourceMetrics\":[{\"resource\":{\"attributes\":");
-        self.0.resource.emit(out);
-        out.put(b"},\"scopeMetrics\":");
-        self.0.scopes.emit(out);
-        out.put(b"}]}");
+        emit_between(out, b"{\"resourceMetrics\":", &self.0.parts, b"}");
     }
 }

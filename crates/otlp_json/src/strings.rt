@@ -1,10 +1,10 @@
 //! Strings with their escapes.
 
-ghost use Rattle.std.specs.Prelude.{◌≡◌, ◌+◌, ◌<◌, ◌≤◌, fold, length, false};
+ghost use Rattle.std.specs.Prelude.{◌≡◌, ◌+◌, ◌<◌, ◌≤◌, fold, length};
 ghost use Rattle.std.specs.List.{list_any, flat_map};
-ghost use Rattle.std.specs.Fmt.{digit_glyph};
 ghost use Rattle.otlp_json.specs.Json.{control_escape, is_escaped, json_byte, json_string};
 
+use crate::hex::hex_digit;
 use crate::json::Json;
 use label_sets::{Name, Text};
 use text_emitter::Emitter;
@@ -48,14 +48,6 @@ fn has_escapes(text: &[u8]) -> bool
         16..=31 => ends_have_escapes(text, 16, 16),
         len => ends_have_escapes(text, len - len % 16, 16),
     }
-}
-
-/// The hexadecimal digit of a number below 16, in lower case.
-fn hex_digit(n: u8) -> u8
-    requires { n < 16 }
-    ensures { result ≡ digit_glyph false n }
-{
-    if n < 10 { b'0' + n } else { b'a' + (n - 10) }
 }
 
 /// Emits the escape of a control character.

@@ -4,7 +4,7 @@ ghost use Rattle.std.specs.Prelude.{◌≡◌, fold};
 ghost use Rattle.otlp_json.specs.Texts.{quantile_members, quantile_text, summary_point_text};
 
 use crate::json::{Json, emit_member, emit_pair};
-use crate::points::{PointValue, emit_point};
+use crate::points::{PointValue, emit_open_point};
 use otlp_tree::{SummaryPoint, SummaryValue};
 use page_model::Quantile;
 use text_emitter::Emitter;
@@ -32,8 +32,8 @@ impl PointValue for SummaryValue {
 impl Json for SummaryPoint {
     ghost text = { summary_point_text };
 
-    #[tactic(auto, unfolding(crate::specs::Texts::summary_point_text))]
     fn emit<E: Emitter>(&self, out: &mut E) {
-        emit_point(out, &self.labels, Some(self.start), self.time, &self.value);
+        emit_open_point(out, &self.labels, Some(self.start), self.time, &self.value);
+        out.put(b"}");
     }
 }

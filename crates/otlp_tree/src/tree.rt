@@ -4,9 +4,16 @@ use histogram_layout::Layout;
 use label_sets::{LabelSet, List, Text};
 use page_model::Quantile;
 
-/// An export request of one resource (`ExportMetricsServiceRequest` with one `ResourceMetrics`).
+/// An export request (`ExportMetricsServiceRequest`).
 #[derive(Drop)]
 pub struct Request {
+    /// One for each resource: that of the target now, and behind it that of before, where series of it are gone.
+    pub parts: List<ResourceMetrics>,
+}
+
+/// The metrics of one resource (`ResourceMetrics`).
+#[derive(Drop)]
+pub struct ResourceMetrics {
     /// The attributes of the resource, in the order in which they are sent.
     pub resource: List<Attribute>,
     /// The metrics of the resource, by scope.
@@ -34,6 +41,8 @@ pub enum AttributeValue {
 pub struct ScopeMetrics {
     /// The scope's name (`InstrumentationScope`).
     pub name: Text,
+    /// The scope's version; empty where it isn't known.
+    pub version: Text,
     pub metrics: List<Metric>,
 }
 
@@ -76,6 +85,8 @@ pub struct NumberPoint {
     pub time: u64,
     /// The value; `None` where the series has none any more (the flag `NO_RECORDED_VALUE`).
     pub value: Option<Number>,
+    /// In the order of the page.
+    pub exemplars: List<Shot>,
 }
 
 /// The observations of one series up to one time (`HistogramDataPoint`).
@@ -89,6 +100,8 @@ pub struct HistogramPoint {
     pub time: u64,
     /// The observations; `None` where the series has none any more (the flag `NO_RECORDED_VALUE`).
     pub value: Option<HistogramValue>,
+    /// In the order of the page.
+    pub exemplars: List<Shot>,
 }
 
 /// Observations by the bounds between which they lie.
@@ -120,4 +133,18 @@ pub struct SummaryValue {
     pub sum: Number,
     /// In the order of the page (`ValueAtQuantile`).
     pub quantiles: List<Quantile>,
+}
+
+/// One observation that stands for others, as a point carries it (`Exemplar`).
+#[derive(Drop)]
+pub struct Shot {
+    /// The labels that are neither the trace nor the span (`filteredAttributes`).
+    pub attributes: LabelSet,
+    /// When it was observed, in nanoseconds since the Unix epoch.
+    pub time: u64,
+    pub value: Number,
+    /// Not 0.
+    pub trace: Option<u128>,
+    /// Not 0.
+    pub span: Option<u64>,
 }

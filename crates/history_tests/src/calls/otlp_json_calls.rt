@@ -2,11 +2,11 @@
 use bridge_ports::MemorySink;
 use exact_decimal::{Decimal, Number};
 use histogram_layout::Layout;
-use label_sets::{LabelSet, List, Memory, Text};
+use label_sets::{Label, LabelSet, List, Memory, Name, Text};
 use otlp_json::{length, print_line, write};
 use otlp_tree::{
     Attribute, AttributeValue, HistogramPoint, HistogramValue, Metric, NumberPoint, Request,
-    ScopeMetrics, Shape, SummaryPoint, SummaryValue,
+    ResourceMetrics, ScopeMetrics, Shape, Shot, SummaryPoint, SummaryValue,
 };
 use page_model::Quantile;
 use std::alloc::{AllocError, Global};
@@ -68,9 +68,31 @@ fn metric(alloc: Global, words: [&str; 3], shape: Shape) -> Result<Metric, Memor
     }
 }
 
+// A scope of this name, without a version.
 fn scope(alloc: Global, name: &str, metrics: List<Metric>) -> Result<ScopeMetrics, Memory> {
     let (metrics, name) = both(metrics, text(alloc, name))?;
-    Ok(ScopeMetrics { name, metrics })
+    Ok(ScopeMetrics {
+        name,
+        version: Text::empty(),
+        metrics,
+    })
+}
+
+// A request of one resource.
+fn of_one(
+    alloc: Global,
+    resource: List<Attribute>,
+    scopes: List<ScopeMetrics>,
+) -> Result<Request, Memory> {
+    let part = ResourceMetrics { resource, scopes };
+    Ok(Request {
+        parts: list(alloc, [part])?,
+    })
+}
+
+// A request of one scope, without attributes.
+fn of_scope(alloc: Global, scope: ScopeMetrics) -> Result<Request, Memory> {
+    of_one(alloc, List::new(alloc), list(alloc, [scope])?)
 }
 
 fn marker(alloc: Global, start: Option<u64>) -> NumberPoint {
@@ -79,6 +101,7 @@ fn marker(alloc: Global, start: Option<u64>) -> NumberPoint {
         start,
         time: 20,
         value: None,
+        exemplars: List::new(alloc),
     }
 }
 
@@ -113,7 +136,7 @@ fn scopes(alloc: Global) -> Result<List<ScopeMetrics>, Memory> {
 
 fn sample(alloc: Global) -> Result<Request, Memory> {
     let (resource, scopes) = both(resource(alloc)?, scopes(alloc))?;
-    Ok(Request { resource, scopes })
+    of_one(alloc, resource, scopes)
 }
 
 // The text as a model in another language writes it.
@@ -183,6 +206,7 @@ fn histogram(alloc: Global, value: Option<HistogramValue>) -> HistogramPoint {
         start: 1000,
         time: 1000,
         value,
+        exemplars: List::new(alloc),
     }
 }
 
@@ -267,11 +291,7 @@ fn observed_scope(alloc: Global) -> Result<ScopeMetrics, Memory> {
 }
 
 fn observed(alloc: Global) -> Result<Request, Memory> {
-    let scope = observed_scope(alloc)?;
-    Ok(Request {
-        resource: List::new(alloc),
-        scopes: list(alloc, [scope])?,
-    })
+    of_scope(alloc, observed_scope(alloc)?)
 }
 
 // The text by the table of the members, written out by hand.
@@ -293,8 +313,145 @@ fn writes_histograms_and_summaries(rt: HostRuntime) {
     assert!(rt; is_written == Ok([true, true]));
 }
 
-const LINE: &[u8] =
-    b"{\"resourceMetrics\":[{\"resource\":{\"attributes\":[]},\"scopeMetrics\":[]}]}\n";
+// A resource with attributes, and one without that has a scope.
+fn parts(alloc: Global) -> Result<Request, Memory> {
+    let scope = scope(alloc, "bridge", List::new(alloc))?;
+    let (scopes, resource) = both(list(alloc, [scope])?, resource(alloc))?;
+    let first = ResourceMetrics {
+        resource,
+        scopes: List::new(alloc),
+    };
+    let second = ResourceMetrics {
+        resource: List::new(alloc),
+        scopes,
+    };
+    Ok(Request {
+        parts: list(alloc, [first, second])?,
+    })
+}
+
+const PARTS: &str = concat!(
+    r#"{"resourceMetrics":[{"resource":{"attributes":[{"key":"service.name","value":{"stringValue":"j"}},"#,
+    r#"{"key":"server.port","value":{"intValue":"18446744073709551615"}}]},"scopeMetrics":[]},"#,
+    r#"{"resource":{"attributes":[]},"scopeMetrics":[{"scope":{"name":"bridge"},"metrics":[]}]}]}"#,
+);
+
+#[test]
+fn writes_two_parts(rt: HostRuntime) {
+    let is_written = is_made_and_written(rt.alloc(), parts(rt.alloc()), PARTS);
+    assert!(rt; is_written == Ok([true, true]));
+}
+
+// A scope with a version.
+fn versioned(alloc: Global) -> Result<Request, Memory> {
+    let (name, version) = both(text(alloc, "lib")?, text(alloc, "1.2\"3"))?;
+    let scope = ScopeMetrics {
+        name,
+        version,
+        metrics: List::new(alloc),
+    };
+    of_scope(alloc, scope)
+}
+
+const VERSIONED: &str = concat!(
+    r#"{"resourceMetrics":[{"resource":{"attributes":[]},"scopeMetrics":["#,
+    r#"{"scope":{"name":"lib","version":"1.2\"3"},"metrics":[]}]}]}"#,
+);
+
+#[test]
+fn writes_a_version(rt: HostRuntime) {
+    let is_written = is_made_and_written(rt.alloc(), versioned(rt.alloc()), VERSIONED);
+    assert!(rt; is_written == Ok([true, true]));
+}
+
+// The set of one label.
+fn label(alloc: Global, name: &str, value: &str) -> Result<LabelSet, Memory> {
+    let (value, name) = both(text(alloc, value)?, Name::from_str(alloc, name))?;
+    let labels = Vec::from_array(alloc, [Label { name, value }])?;
+    match LabelSet::build(alloc, labels, 1) {
+        Ok(set) => Ok(set),
+        Err(_) => Err(AllocError),
+    }
+}
+
+// An exemplar with a label and both ids.
+fn labelled(alloc: Global) -> Result<Shot, Memory> {
+    Ok(Shot {
+        attributes: label(alloc, "worker", "7")?,
+        time: 15,
+        value: number("0.67"),
+        trace: Some(0x0af7_6519_16cd_43dd_8448_eb21_1c80_319c),
+        span: Some(0x00f0_67aa_0ba9_02b7),
+    })
+}
+
+// An exemplar without a label, with this id of a span.
+fn bare(alloc: Global, span: Option<u64>) -> Shot {
+    Shot {
+        attributes: LabelSet::empty(alloc),
+        time: u64::MAX,
+        value: Number::NotANumber,
+        trace: None,
+        span,
+    }
+}
+
+// A counter with three exemplars.
+fn counter(alloc: Global) -> Result<Metric, Memory> {
+    let shots = [labelled(alloc)?, bare(alloc, Some(10)), bare(alloc, None)];
+    let point = NumberPoint {
+        labels: LabelSet::empty(alloc),
+        start: Some(10),
+        time: 20,
+        value: Some(number("17")),
+        exemplars: list(alloc, shots)?,
+    };
+    let shape = Shape::Sum {
+        points: list(alloc, [point])?,
+        monotonic: true,
+    };
+    metric(alloc, ["q", "", ""], shape)
+}
+
+// A histogram with an exemplar.
+fn observation(alloc: Global) -> Result<Metric, Memory> {
+    let (value, exemplars) = both(plain(alloc)?, list(alloc, [bare(alloc, None)]))?;
+    let point = HistogramPoint {
+        labels: LabelSet::empty(alloc),
+        start: 1000,
+        time: 1000,
+        value: Some(value),
+        exemplars,
+    };
+    let points = list(alloc, [point])?;
+    metric(alloc, ["h", "", ""], Shape::Histogram(points))
+}
+
+fn exemplified(alloc: Global) -> Result<Request, Memory> {
+    let (counter, observation) = both(counter(alloc)?, observation(alloc))?;
+    let metrics = list(alloc, [counter, observation])?;
+    of_scope(alloc, scope(alloc, "bridge", metrics)?)
+}
+
+const EXEMPLIFIED: &str = concat!(
+    r#"{"resourceMetrics":[{"resource":{"attributes":[]},"scopeMetrics":[{"scope":{"name":"bridge"},"metrics":["#,
+    r#"{"name":"q","sum":{"dataPoints":[{"startTimeUnixNano":"10","timeUnixNano":"20","asDouble":17,"exemplars":["#,
+    r#"{"filteredAttributes":[{"key":"worker","value":{"stringValue":"7"}}],"timeUnixNano":"15","asDouble":0.67,"#,
+    r#""spanId":"00f067aa0ba902b7","traceId":"0af7651916cd43dd8448eb211c80319c"},"#,
+    r#"{"timeUnixNano":"18446744073709551615","asDouble":"NaN","spanId":"000000000000000a"},"#,
+    r#"{"timeUnixNano":"18446744073709551615","asDouble":"NaN"}]}],"aggregationTemporality":2,"isMonotonic":true}},"#,
+    r#"{"name":"h","histogram":{"dataPoints":[{"startTimeUnixNano":"1000","timeUnixNano":"1000","count":"1","#,
+    r#""bucketCounts":["1"],"explicitBounds":[],"exemplars":["#,
+    r#"{"timeUnixNano":"18446744073709551615","asDouble":"NaN"}]}],"aggregationTemporality":2}}]}]}]}"#,
+);
+
+#[test]
+fn writes_exemplars(rt: HostRuntime) {
+    let is_written = is_made_and_written(rt.alloc(), exemplified(rt.alloc()), EXEMPLIFIED);
+    assert!(rt; is_written == Ok([true, true]));
+}
+
+const LINE: &[u8] = b"{\"resourceMetrics\":[]}\n";
 
 // Whether the line is printed as far as an output has room, and the call says whether that was all of it.
 fn is_printed(alloc: Global, request: &Request, room: usize) -> Result<bool, AllocError> {
@@ -305,13 +462,12 @@ fn is_printed(alloc: Global, request: &Request, room: usize) -> Result<bool, All
     Ok(is_held && printed == (LINE.len() <= room))
 }
 
-const ROOMS: &[usize] = &[0, 1, 30, 69, 70, 71, 1000];
+const ROOMS: &[usize] = &[0, 1, 10, 22, 23, 24, 1000];
 
 // Into how many of the outputs the request of nothing is printed as it should be.
 fn right_rooms(alloc: Global) -> usize {
     let request = Request {
-        resource: List::new(alloc),
-        scopes: List::new(alloc),
+        parts: List::new(alloc),
     };
     let mut right = 0usize;
     for room in ROOMS {
