@@ -2,7 +2,7 @@
 use Rattle.std.proofs.Common.{◌≡◌, ℕ, Bool, true, false, cond, not, ◌&&◌, List, [], ◌∷◌, ◌++◌, map, filter, find, Option, Some, None, is_some, refl, sym, ap, subst, ◌∙◌}
 use Rattle.std.specs.Prelude.{Result, Ok, Err, IfOk, is_none}
 use Rattle.std.specs.List.{list_any, IsDistinct, AllByRecursion}
-use Rattle.std.proofs.lemmas.Bool.{and_parts}
+use Rattle.std.proofs.lemmas.Bool.{and_parts, or_parts}
 use Rattle.std.proofs.lemmas.List.{append-nil, map-append}
 use Rattle.std.proofs.lemmas.List.Elements.{filter-append}
 use Rattle.label_sets.specs.declared.series_key.SeriesKey.{SeriesKey}
@@ -13,7 +13,9 @@ use Rattle.page_model.specs.Presence as presence
 use Rattle.page_model.specs.Presence.{all_readings, is_present}
 use Rattle.packed_keys.specs.Partings.{IsParted}
 use Rattle.packed_keys.proofs.Laws.{gone_of_parted}
+use Rattle.start_times.specs.Scrapes.{Scrape, last_page}
 use Rattle.start_times.specs.Starts.{Tracking, has_points, own_time}
+use Rattle.start_times.specs.Advancing.{lacks_some}
 use Rattle.staleness.specs.Vanished.{has_own_time, untimed_keys, is_lacking, is_gone, keys_gone}
 
 -- ---- keys without times of their own
@@ -73,6 +75,22 @@ kept_points t now (r ∷ rs) = by (is_gone t now r) refl (kept_points t now rs)
 
 pub gone_have_points : (t : Tracking) (before now : Page) → AllByRecursion (λ (key : SeriesKey). has_points key.kind ≡ true) (keys_gone t before now)
 gone_have_points t before now = kept_points t now (all_readings before)
+
+-- where nothing with points is missed, none is told
+none_passes : (t : Tracking) (now : Page) (rs : List Reading) → list_any (λ (r : Reading). has_points r.key.kind && not (is_present r.key now)) rs ≡ false → map (λ (r : Reading). r.key) (filter (is_gone t now) rs) ≡ []
+none_passes t now [] e = refl
+none_passes t now (r ∷ rs) e =
+    let parts = or_parts (has_points r.key.kind && not (is_present r.key now)) (list_any (λ (q : Reading). has_points q.key.kind && not (is_present q.key now)) rs) e in
+    let here : is_gone t now r ≡ false = without (has_points r.key.kind) (is_none (own_time t r)) (not (is_present r.key now)) parts.0 in
+    rw here (none_passes t now rs parts.1)
+  where
+    without : (a b c : Bool) → (a && c) ≡ false → (a && b && c) ≡ false
+    without true true c h = h
+    without true false c h = refl
+    without false b c h = refl
+
+pub none_missed : (t : Tracking) (past : List Scrape) (now : Page) → lacks_some past now ≡ false → keys_gone t (last_page past) now ≡ []
+none_missed t past now e = none_passes t now (all_readings (last_page past)) e
 
 -- ---- series that a page lacks
 

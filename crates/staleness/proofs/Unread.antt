@@ -1,5 +1,5 @@
 -- Marks tell which series are gone as their page does.
-use Rattle.std.proofs.Common.{◌≡◌, ℕ, Bool, true, false, not, ◌&&◌, List, [], ◌∷◌, map, filter, Option, Some, None, is_some, refl, sym, ap, ◌∙◌}
+use Rattle.std.proofs.Common.{◌≡◌, ℕ, Bool, true, false, not, ◌&&◌, List, [], ◌∷◌, map, filter, Option, is_some, refl, sym, ap, ◌∙◌}
 use Rattle.std.specs.Prelude.{Result, Ok, Err, IfOk, is_none}
 use Rattle.std.specs.List.{list_any}
 use Rattle.label_sets.specs.declared.series_key.SeriesKey.{SeriesKey}

@@ -1,17 +1,16 @@
 -- The rows that a page leaves stand for one scrape more.
-use Rattle.std.proofs.Common.{◌≡◌, ℕ, zero, suc, ◌+◌, ◌<◌, Bool, true, false, ◌||◌, List, [], ◌∷◌, ◌++◌, map, zip, take, get_or, length, replicate, filter, find, cond, append_assoc, Option, Some, None, is_some, option_map, option_and_then, refl, sym, ap, subst, ◌∙◌, arith}
+use Rattle.std.proofs.Common.{◌≡◌, ℕ, zero, suc, ◌+◌, ◌<◌, Bool, true, false, ◌||◌, List, [], ◌∷◌, ◌++◌, map, zip, take, get_or, length, filter, find, cond, append_assoc, Option, Some, None, is_some, option_map, option_and_then, refl, sym, ap, subst, ◌∙◌, arith}
 use Rattle.std.specs.Prelude.{slice_get, if◌then◌else◌}
 use Rattle.std.specs.Option.{option_to_list}
-use Rattle.std.specs.List.{flat_map, list_any, IsDistinct, AllByRecursion, filter_map, cons_option}
+use Rattle.std.specs.List.{list_any, IsDistinct, AllByRecursion, filter_map, cons_option}
 use Rattle.std.specs.Map.{lookup, keys_of}
 use Rattle.std.proofs.lemmas.List.{append-nil, map-append, take_more}
 use Rattle.std.proofs.lemmas.List.Elements.{filter_map-append}
 use Rattle.std.proofs.lemmas.Option.{same_Some, slice_get-map, slice_get_read, slice_get_within, get_or_from_slice_get}
-use Rattle.std.proofs.lemmas.Map.Made.{is_some-lookup, keys_of-zip}
+use Rattle.std.proofs.lemmas.Map.Made.{is_some-lookup}
 use Rattle.label_sets.specs.declared.series_key.SeriesKey.{SeriesKey}
 use Rattle.label_sets.specs.Keys.{key_eq}
 use Rattle.page_model.specs.declared.page.Reading.{Reading}
-use Rattle.page_model.specs.declared.page.Family.{Family}
 use Rattle.page_model.specs.declared.page.Page.{Page}
 use Rattle.page_model.specs.Presence.{all_readings, reading_at, is_present}
 use Rattle.start_times.specs.declared.row.Row.{Row}
@@ -20,11 +19,9 @@ use Rattle.start_times.specs.declared.sighting.Sighting.{Sighting}
 use Rattle.start_times.specs.Scrapes.{Scrape}
 use Rattle.start_times.specs.Starts.{Tracking, has_points, time_of, time_where, placed, reading_place}
 use Rattle.start_times.specs.Rows.{Tracked, Tracks, kept_row, placed_beside, row_now, older_row}
-use Rattle.start_times.specs.Sightings.{Saw, Sees, placed_in, sighted_entry, is_kept_reading, is_read, missed_entry}
+use Rattle.start_times.specs.Sightings.{Saw, placed_in, sighted_entry, is_kept_reading, is_read, missed_entry}
 use Rattle.start_times.specs.Advancing.{HasDistinctKeys, scrape_of}
 use Rattle.start_times.proofs.RowLaws.{reading_is_of, row_is_enough, row_of_sight, row_of_miss, none_is, some_is}
-use Rattle.start_times.proofs.Zips.{zip_length}
-use Rattle.start_times.proofs.Sights.{saw_nothing}
 use Rattle.start_times.proofs.Found.{key_equal, key_itself}
 
 -- ---- look-ups
@@ -75,7 +72,7 @@ look_unmade honor rows moment key (r ∷ rs) without = go (key_eq key r.key) ref
     go false p true q later = rw (q, p) later
 
 -- a series whose kind has points is read just where the page has it
-read_there : (key : SeriesKey) (rs : List Reading) → has_points key.kind ≡ true → is_read (filter is_kept_reading rs) key ≡ is_some (find (λ (r : Reading). key_eq key r.key) rs)
+pub read_there : (key : SeriesKey) (rs : List Reading) → has_points key.kind ≡ true → is_read (filter is_kept_reading rs) key ≡ is_some (find (λ (r : Reading). key_eq key r.key) rs)
 read_there key [] starting = refl
 read_there key (r ∷ rs) starting = go (key_eq key r.key) refl (has_points r.key.kind) refl (read_there key rs starting)
   where
@@ -291,10 +288,15 @@ one_listed None = refl
 one_listed (Some x) = refl
 
 -- there is a value at each place of a list
-some_at : {A : Type 0} (xs : List A) (at : ℕ) → at < length xs → (x : A) × (slice_get xs at ≡ Some x)
+pub some_at : {A : Type 0} (xs : List A) (at : ℕ) → at < length xs → (x : A) × (slice_get xs at ≡ Some x)
 some_at [] at lt = absurd (omega arith)
 some_at (x ∷ xs) zero lt = (x, refl)
 some_at (x ∷ xs) (suc at) lt = some_at xs at (omega arith)
+
+-- the mark of a row says whether its series is present
+pub mark_read : (keys : List SeriesKey) (found : List Bool) (now : SeriesKey → Bool) (at : ℕ) (key : SeriesKey) (mark : Bool) → slice_get keys at ≡ Some key → found ≡ map now keys → mark ≡ get_or found at false → mark ≡ now key
+mark_read keys found now at key mark key_at e mark_is =
+    mark_is ∙ (ap (λ (bs : List Bool). get_or bs at false) e ∙ get_or_from_slice_get (map now keys) at (now key) false (slice_get-map now keys at ∙ ap (option_map now) key_at))
 
 -- one row more, which was found or was missed
 pub row_passed : (keep : ℕ) (keys : List SeriesKey) (rows : List Row) (found : List Bool) (now : SeriesKey → Bool) (at : ℕ) (key : SeriesKey) (row : Row) (start before after : List (SeriesKey × Row)) (mark : Bool)
@@ -302,7 +304,7 @@ pub row_passed : (keep : ℕ) (keys : List SeriesKey) (rows : List Row) (found :
     → before ≡ start ++ filter_map (missed_entry keep now) (take at (zip keys rows)) → after ≡ before ++ (if mark then [] else option_to_list (missed_entry keep (λ _. false) (key, row)))
     → after ≡ start ++ filter_map (missed_entry keep now) (take (at + 1) (zip keys rows))
 row_passed keep keys rows found now at key row start before after mark key_at row_at e mark_is b a =
-    let marked : mark ≡ now key = mark_is ∙ (ap (λ (bs : List Bool). get_or bs at false) e ∙ get_or_from_slice_get (map now keys) at (now key) false (slice_get-map now keys at ∙ ap (option_map now) key_at)) in
+    let marked : mark ≡ now key = mark_read keys found now at key mark key_at e mark_is in
     let entry_at : slice_get (zip keys rows) at ≡ Some (key, row) = both_at keys rows at key row key_at row_at in
     let within : at < length (zip keys rows) = slice_get_within (zip keys rows) at (key, row) entry_at in
     let entry : get_or (zip keys rows) at (key, row) ≡ (key, row) = get_or_from_slice_get (zip keys rows) at (key, row) (key, row) entry_at in
@@ -336,21 +338,3 @@ row_marked keep keys rows found now at start before next mark in_keys in_rows e 
     let row = some_at rows at in_rows in
     row_passed keep keys rows found now at key.0 row.0 start before next mark key.1 row.1 e mark_is b
     (n ∙ (sym (append-nil before) ∙ ap (λ (m : Bool). before ++ (if m then [] else option_to_list (missed_entry keep (λ _. false) (key.0, row.0)))) (sym marked)))
-
--- ---- a whole page
-
--- what the steps give together
-pub page_advanced : (t : Tracking) (past : List Scrape) (keep : ℕ) (honor : Bool) (keys : List SeriesKey) (rows : List Row) (k : Tracked) (page : Page) (moment n : ℕ) (families : List Family) (first seen : Sighting) (found : List Bool)
-    (entries : List (SeriesKey × Row)) (after : Tracked) (starts : List (Option Placed)) → record { keep = keep; honor = honor; rows = zip keys rows } ≡ k → length keys ≡ length rows → families ≡ page.families → n ≡ length rows
-    → first.starts.items ≡ [] → first.entries ≡ [] → first.found.items ≡ replicate n false → Sees honor (zip keys rows) moment (flat_map (λ (f : Family). f.readings) families) first seen → found ≡ seen.found.items
-    → ((present : SeriesKey → Bool) → found ≡ map present keys → entries ≡ seen.entries ++ filter_map (missed_entry keep present) (zip keys rows)) → after.keep ≡ keep → after.honor ≡ honor → after.rows ≡ entries → starts ≡ seen.starts.items
-    → Tracks t k past → HasDistinctKeys page → (starts ≡ map (reading_place t past moment) (all_readings page)) × Tracks t after (scrape_of page moment ∷ past)
-page_advanced t past keep honor keys rows k page moment n families first seen found entries after starts view even families_is long none nobody unmarked sees found_is kept keep_is honor_is rows_is starts_is tracks distinct =
-    let own : Tracked = record { keep = keep; honor = honor; rows = zip keys rows } in
-    let stands : Tracks t own past = subst (λ (x : Tracked). Tracks t x past) (sym view) tracks in
-    let before : Saw honor (zip keys rows) moment [] first = saw_nothing honor (zip keys rows) moment n first (long ∙ sym (zip_length keys rows even)) none nobody unmarked in
-    let all : Sees honor (zip keys rows) moment (all_readings page) first seen = subst (λ (fs : List Family). Sees honor (zip keys rows) moment (flat_map (λ (f : Family). f.readings) fs) first seen) families_is sees in
-    let saw : Saw honor (zip keys rows) moment (all_readings page) seen = all stands.once [] before in
-    let present = is_read (filter is_kept_reading (all_readings page)) in
-    let marks : found ≡ map present keys = found_is ∙ (saw.found ∙ ap (map present) (keys_of-zip keys rows (sym even))) in
-    advanced t own after past page moment starts seen stands distinct saw starts_is keep_is honor_is (rows_is ∙ kept present marks)

@@ -52,7 +52,7 @@ still_there x k (y ∷ ys) apart h = go (key_eq x y) refl (key_eq k y) refl (sti
     go false p true q later = rw (p, q) refl
     go false p false q later = rw (p, q) (later (rw q at h))
 
-apart_from : (x k : SeriesKey) (xs : List SeriesKey) → AllByRecursion (λ y. key_eq x y ≡ false) xs → list_any (key_eq k) xs ≡ true → key_eq x k ≡ false
+pub apart_from : (x k : SeriesKey) (xs : List SeriesKey) → AllByRecursion (λ y. key_eq x y ≡ false) xs → list_any (key_eq k) xs ≡ true → key_eq x k ≡ false
 apart_from x k [] all h = absurd cc
 apart_from x k (y ∷ ys) all h = go (key_eq k y) refl (apart_from x k ys all.1)
   where

@@ -116,7 +116,7 @@ keys_apart : (key : SeriesKey) (ks : List Kept) → AllByRecursion (λ (k : Kept
 keys_apart key [] all = tt
 keys_apart key (k ∷ ks) all = (less_apart key k.key all.0, keys_apart key ks all.1)
 
-distinct_rows : (rows : List Kept) → IsStrictlySortedBy by_key rows → IsDistinct key_eq (keys_of (entries_of rows))
+pub distinct_rows : (rows : List Kept) → IsStrictlySortedBy by_key rows → IsDistinct key_eq (keys_of (entries_of rows))
 unfolding IsStrictlySortedBy IsDistinct
 distinct_rows [] sorted = tt
 distinct_rows (k ∷ rows) sorted = (keys_apart k.key rows sorted.0, distinct_rows rows sorted.1)
@@ -299,7 +299,7 @@ kept_there t past key some =
     let there : list_any (key_eq key) all ≡ true = subst (λ (ks : List SeriesKey). list_any (key_eq key) ks ≡ true) (seen_is (take (t.keep + 1) past)) (kept_seen t key past some) in
     any_sorted key (first_of_each key_eq all) ∙ firsts_have key all there
 
-row_of_past : (t : Tracking) (past : List Scrape) (key : SeriesKey) → row_in key (rows_of_past t past) ≡ kept_row t key past
+pub row_of_past : (t : Tracking) (past : List Scrape) (key : SeriesKey) → row_in key (rows_of_past t past) ≡ kept_row t key past
 unfolding rows_of_past
 row_of_past t past key = row_kept t past key (keys_seen t past) ∙ by (list_any (key_eq key) (keys_seen t past)) refl (kept_row t key past) refl
   where
@@ -308,7 +308,7 @@ row_of_past t past key = row_kept t past key (keys_seen t past) ∙ by (list_any
     by false p None e = refl
     by false p (Some row) e = absurd (let some : is_some (kept_row t key past) ≡ true = ap is_some e in let f : false ≡ true = sym p ∙ kept_there t past key some in cc)
 
-past_ascends : (t : Tracking) (past : List Scrape) → IsStrictlySortedBy by_key (rows_of_past t past)
+pub past_ascends : (t : Tracking) (past : List Scrape) → IsStrictlySortedBy by_key (rows_of_past t past)
 unfolding rows_of_past
 past_ascends t past = let all = flat_map (λ (s : Scrape). presence.keys_of s.page) (take (t.keep + 1) past) in kept_ascends t past (keys_seen t past) (sorted_ascends (first_of_each key_eq all) (firsts_distinct all))
 

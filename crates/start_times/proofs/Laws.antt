@@ -4,4 +4,4 @@ pub use Rattle.start_times.proofs.FewRows.{rows_are_few}
 pub use Rattle.start_times.proofs.Times.{start_is_not_later, moment_is, later_than_past, none_is_late}
 pub use Rattle.start_times.proofs.Stays.{start_stays, taken_behind_misses}
 pub use Rattle.start_times.proofs.PlainLaws.{same_start, same_place, same_start_there}
-pub use Rattle.start_times.proofs.KeptRows.{rows_track_again, rows_are_those_of_past}
+pub use Rattle.start_times.proofs.KeptRows.{row_in_entries, distinct_rows, rows_track_again, row_of_past, past_ascends, rows_are_those_of_past}

@@ -204,10 +204,6 @@ row_is_enough t past moment r points = rw (later_is t past moment r points, star
 -- ---- one scrape more
 
 -- where a scrape has a series, it was last taken there or before
-present : (t : Tracking) (now : Scrape) (past : List Scrape) (r : Reading) → reading_at r.key now.page ≡ Some r
-    → last_taken t r.key (now ∷ past) ≡ later_sight t (last_taken t r.key past) (here_of now past r)
-present t now past r is = let young : nat_le 0 t.keep ≡ true = le-leb 0 t.keep (omega arith) in rw (is, young) refl
-
 kept_present : (t : Tracking) (now : Scrape) (past : List Scrape) (r : Reading) → has_points r.key.kind ≡ true → reading_at r.key now.page ≡ Some r
     → kept_row t r.key (now ∷ past) ≡ option_map (row_of t 0) (later_sight t (last_taken t r.key past) (here_of now past r))
 unfolding kept_row

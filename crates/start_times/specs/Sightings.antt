@@ -1,6 +1,6 @@
 -- What one page makes of the rows, reading by reading.
 -- The bridge's own.
-use Rattle.std.specs.Prelude.{◌≡◌, ℕ, Bool, List, ◌++◌, map, zip, filter, filter_map, Option, Some, None, option_map, if◌then◌else◌}
+use Rattle.std.specs.Prelude.{◌≡◌, ℕ, ◌==◌, Bool, not, ◌&&◌, List, ◌++◌, map, zip, filter, filter_map, Option, Some, None, option_map, if◌then◌else◌}
 use Rattle.std.specs.List.{IsDistinct, list_any}
 use Rattle.std.specs.Map.{lookup, keys_of}
 use Rattle.label_sets.specs.declared.series_key.SeriesKey.{SeriesKey}
@@ -45,3 +45,11 @@ missed_entry keep is_present_now e = if is_present_now e.0 then None else option
 -- behind entries stand those that were missed, where the marks say which series are present
 abbrev pub KeepsMissed : ℕ → List SeriesKey → List Row → List Bool → List (SeriesKey × Row) → List (SeriesKey × Row) → Type 0
 KeepsMissed keep keys rows found before after = (present : SeriesKey → Bool) → found ≡ map present keys → after ≡ before ++ filter_map (missed_entry keep present) (zip keys rows)
+
+-- a series is not present, and is missed for the first time: its row is of age 0
+abbrev pub is_first_miss : (SeriesKey → Bool) → SeriesKey × Row → Bool
+is_first_miss is_present_now e = not (is_present_now e.0) && e.1.age == 0
+
+-- some series is missed for the first time, where the marks say which series are present
+abbrev pub TellsMisses : List SeriesKey → List Row → List Bool → Bool → Type 0
+TellsMisses keys rows found misses = (present : SeriesKey → Bool) → found ≡ map present keys → misses ≡ list_any (is_first_miss present) (zip keys rows)

@@ -65,10 +65,13 @@ pub enum Placed {
     At { time: u64, start: u64 },
 }
 
-/// What a page's readings give, in page order; none exactly for gauge histograms, which have no points.
+/// What a page's readings give, and whether the page lacks what the page before had.
 #[derive(Drop)]
 pub struct Starts {
+    /// What each reading gives, in page order; none exactly for gauge histograms, which have no points.
     pub list: List<Option<Placed>>,
+    /// Whether the page lacks a series with points that the page before had.
+    pub misses: bool,
 }
 
 /// The starts that are kept of series, in the order in which they were asked; none where no row is kept, or its

@@ -5,7 +5,7 @@ ghost use Rattle.std.specs.Option.{option_copied, option_to_list};
 ghost use Rattle.label_sets.specs.Keys.{key_eq};
 ghost use Rattle.page_model.specs.declared.page.Family.{Family as OneFamily};
 ghost use Rattle.start_times.specs.Rows.{kept_start, row_start as start_of_row};
-ghost use Rattle.start_times.specs.Sightings.{Sees, KeepsMissed, missed_entry};
+ghost use Rattle.start_times.specs.Sightings.{Sees, KeepsMissed, TellsMisses, missed_entry};
 
 use crate::entries::Entries;
 use crate::row::{Placed, Row, next_beside, older_row};
@@ -223,23 +223,27 @@ fn keep_missed(keep: u32, entries: &mut Entries, key: &SeriesKey, row: &Row) -> 
     Ok(())
 }
 
-/// Keeps the rows that were not found one scrape longer, where they may be kept.
+/// Keeps the rows that were not found one scrape longer, where they may be kept, and tells whether the scrape before
+/// had the series of one of them: such a row has age 0.
 pub(crate) fn keep_others(
     keep: u32,
     keys: &List<SeriesKey>,
     rows: &List<Row>,
     found: &[bool],
     entries: &mut Entries,
-) -> Result<(), Memory>
+) -> Result<bool, Memory>
     requires { length keys.now ≡ length rows.now }
-    ensures { OnOk result (KeepsMissed keep keys.now rows.now found.now entries.old entries.new) }
+    ensures kept { OnOk result (KeepsMissed keep keys.now rows.now found.now entries.old entries.new) }
+    ensures misses { IfOk result (λ misses. TellsMisses keys.now rows.now found.now misses) }
 {
     let keys = keys.as_slice();
     let rows = rows.as_slice();
+    let mut misses = false;
     for at in 0..rows.len() {
         if !is_marked(found, at) {
+            misses |= rows[at].age == 0;
             keep_missed(keep, entries, &keys[at], &rows[at])?;
         }
     }
-    Ok(())
+    Ok(misses)
 }

@@ -74,7 +74,8 @@ impl Tracker {
 
     /// What a page's readings give at this moment, and the rows behind it. A moment is in nanoseconds since the Unix
     /// epoch. A reading that is not later than the one of its series that was taken before it is late: it gives no
-    /// point, and leaves its row but for the age.
+    /// point, and leaves its row but for the age. Whether the page lacks a series of the page before is told by the rows
+    /// alone, which have age 0 for just the series with points of that page.
     ///
     /// # Errors
     ///
@@ -107,8 +108,8 @@ impl Tracker {
             alloc, self.honor, moment, &self.keys, &self.rows, &mut seen, families,
         )?;
         let found = seen.found.as_slice();
-        keep_others(self.keep, &self.keys, &self.rows, found, &mut seen.entries)?;
-        behind(self.keep, self.honor, seen)
+        let misses = keep_others(self.keep, &self.keys, &self.rows, found, &mut seen.entries)?;
+        behind(self.keep, self.honor, seen, misses)
     }
 
     /// How many rows there are.
@@ -169,14 +170,14 @@ impl Tracker {
     }
 }
 
-/// What was seen of a page, and the rows behind it.
-fn behind(keep: u32, honor: bool, seen: Sighting) -> Result<(Starts, Tracker), Memory>
-    ensures { IfOk result (λ r. (r.0.list ≡ seen.starts.items) × (r.1.keep ≡ keep) × (r.1.honor ≡ honor) × (r.1.rows ≡ seen.entries)) }
+/// What was seen of a page and what it misses, and the rows behind it.
+fn behind(keep: u32, honor: bool, seen: Sighting, misses: bool) -> Result<(Starts, Tracker), Memory>
+    ensures { IfOk result (λ r. (r.0.list ≡ seen.starts.items) × (r.1.keep ≡ keep) × (r.1.honor ≡ honor) × (r.1.rows ≡ seen.entries) × (r.0.misses ≡ misses)) }
 {
     let (keys, rows) = seen.entries.into_lists()?;
     let list = List::from_vec(seen.starts)?;
     Ok((
-        Starts { list },
+        Starts { list, misses },
         Tracker {
             keep,
             honor,
