@@ -12,10 +12,12 @@ mod labels;
 mod readings;
 mod samples;
 mod strings;
+mod suffixes;
 
 use families::FamiliesText;
 use label_sets::{List, Memory};
 use page_model::{Family, Page};
+pub use suffixes::open_suffixes;
 
 /// Puts the text of a page at the end of `out` (OpenMetrics 1.0, "Text Format").
 ///

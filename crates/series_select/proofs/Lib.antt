@@ -8,3 +8,6 @@ pub mod MatcherSteps
 pub mod ReadTexts
 pub mod Kept
 pub mod SelectedPages
+pub mod ListEnds
+pub mod SpelledTexts
+pub mod Laws

@@ -12,17 +12,17 @@ Pair = List ℕ × List ℕ
 
 -- ---- texts and their selectors
 
-spelled-more : (texts : List (List ℕ)) (ss : List Selector) (text : List ℕ) (s : Selector) → SpellEach texts ss → SpellsSelector text s → SpellEach (texts ++ text ∷ []) (ss ++ s ∷ [])
+pub spelled-more : (texts : List (List ℕ)) (ss : List Selector) (text : List ℕ) (s : Selector) → SpellEach texts ss → SpellsSelector text s → SpellEach (texts ++ text ∷ []) (ss ++ s ∷ [])
 spelled-more [] [] text s h k = (k, tt)
 spelled-more [] (x ∷ ss) text s h k = absurd h
 spelled-more (t ∷ texts) [] text s h k = absurd h
 spelled-more (t ∷ texts) (x ∷ ss) text s h k = (h.0, spelled-more texts ss text s h.1 k)
 
-spelled-length : (texts : List (List ℕ)) (ss : List Selector) → SpellEach texts ss → length ss ≡ length texts
-spelled-length [] [] h = refl
-spelled-length [] (x ∷ ss) h = absurd h
-spelled-length (t ∷ texts) [] h = absurd h
-spelled-length (t ∷ texts) (x ∷ ss) h = ap suc (spelled-length texts ss h.1)
+pub spelled_length : (texts : List (List ℕ)) (ss : List Selector) → SpellEach texts ss → length ss ≡ length texts
+spelled_length [] [] h = refl
+spelled_length [] (x ∷ ss) h = absurd h
+spelled_length (t ∷ texts) [] h = absurd h
+spelled_length (t ∷ texts) (x ∷ ss) h = ap suc (spelled_length texts ss h.1)
 
 -- ---- the values of pairs
 
@@ -59,7 +59,7 @@ module _ (texts : List (List ℕ)) (name value : List ℕ) (left more : List Pai
     text = text_of value;
     rest = selector_texts more;
     whole = next_text h.0;
-    count = h.1 ∙ ap (λ k. k + 1) (spelled-length read.done before read.spelled);
+    count = h.1 ∙ ap (λ k. k + 1) (spelled_length read.done before read.spelled);
     selectors = (before, read.spelled);
     other = subst IsNoSelector value_is h.2;
   }

@@ -11,8 +11,7 @@ use Rattle.page_model.specs.Presence.{has_readings}
 use Rattle.page_model.proofs.Laws.{some_filtered, whole_family, text_is_right}
 use Rattle.open_writing.specs.Writing.{page_with, sample_lines}
 use Rattle.open_writing.specs.OpenForms.{IsOpenForm, AreWritable}
-use Rattle.writing_laws.specs.WritingLaws.{ThinnerAreWritable}
-use Rattle.writing_laws.proofs.Laws.{read_pages, few_lines, writables_are_open_forms}
+use Rattle.writing_laws.proofs.Laws.{read_pages, few_lines, thinner, writables_are_open_forms}
 use Rattle.series_select.specs.declared.selector.Selector.{Selector}
 use Rattle.series_select.specs.Selection.{is_selected, thinned, selected_families, selected_page}
 
@@ -52,8 +51,8 @@ form_read page form = text_is_right (open_setting Written form.limit) form.text 
 form_writable : (page : Page) → IsOpenForm page → AreWritable page.families
 form_writable page form = record { formed = read_pages (open_setting Written form.limit) page (form_read page form); bare = form.bare; apart = form.apart; short_lines = form.short_lines }
 
-pub selected_form : ThinnerAreWritable → (list : List Selector) (page : Page) → IsOpenForm page → IsOpenForm (page_with (selected_families list page.families))
-selected_form thinner list page form =
+pub selected_form : (list : List Selector) (page : Page) → IsOpenForm page → IsOpenForm (page_with (selected_families list page.families))
+selected_form list page form =
     let left = selected_families list page.families in
     writables_are_open_forms left (thinner page.families left (form_writable page form) (selected_left list page.families page.families (all_left page.families)))
 

@@ -11,7 +11,7 @@ use Rattle.page_model.specs.declared.page.Family.{Family}
 use Rattle.page_model.specs.declared.page.Page.{Page}
 use Rattle.page_model.specs.Presence.{filled_families}
 use Rattle.open_writing.specs.FamilyKeys.{family_key, sample_names}
-use Rattle.open_writing.specs.Writing.{page_with}
+use Rattle.open_writing.specs.Writing.{page_with, written_text}
 use Rattle.series_select.specs.declared.selector.Selector.{Selector}
 use Rattle.series_select.specs.declared.selector.Matcher.{Matcher}
 
@@ -63,3 +63,7 @@ selected_families list families = filled_families (map (thinned list) families)
 unfoldable pub selected_page : List Selector → Page → Page
 selected_page [] page = page
 selected_page (s ∷ ss) page = page_with (selected_families (s ∷ ss) page.families)
+
+-- its text
+abbrev pub selected_text : List Selector → Page → List ℕ
+selected_text list page = written_text (selected_page list page)

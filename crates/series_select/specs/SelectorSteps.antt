@@ -1,6 +1,6 @@
 -- What the steps of the reader of a selector give: words of this crate's own functions.
 -- The bridge's own.
-use Rattle.std.specs.Prelude.{◌≡◌, ℕ, suc, Bool, List, ◌++◌, Option, Some, None, IsUtf8}
+use Rattle.std.specs.Prelude.{◌≡◌, ℕ, suc, Bool, List, ◌++◌, Option, Some, None, option_map, IsUtf8}
 use Rattle.std.specs.List.{list_any}
 use Rattle.label_sets.specs.Lists.{◌>>=◌}
 use Rattle.label_sets.specs.Escapes.{is_backslash, quote_escape, unescaped}
@@ -35,3 +35,13 @@ abbrev pub IsNextMatcher : List ℕ → List Matcher → List Matcher → AfterL
 IsNextMatcher bytes before after (End rest) = (more : ℕ) → behind_matchers before (matchers_at (suc more) bytes) ≡ Some (after, rest.now)
 IsNextMatcher bytes before after (More rest) = (more : ℕ) → behind_matchers before (matchers_at (suc more) bytes) ≡ behind_matchers after (matchers_at more rest.now)
 IsNextMatcher bytes before after Broken = (more : ℕ) → matchers_at (suc more) bytes ≡ None
+
+-- what stands behind the closing brace of the matchers at the front; the number bounds how many
+abbrev pub behind_list : ℕ → List ℕ → Option (List ℕ)
+behind_list most cs = option_map (λ (x : List Matcher × List ℕ). x.1) (matchers_at most cs)
+
+-- one step through a list of which no matcher is made: it ends, goes on behind a matcher, or is none
+abbrev pub IsNextEnd : List ℕ → AfterLabel → Type 0
+IsNextEnd bytes (End rest) = (more : ℕ) → behind_list (suc more) bytes ≡ Some rest.now
+IsNextEnd bytes (More rest) = (more : ℕ) → behind_list (suc more) bytes ≡ behind_list more rest.now
+IsNextEnd bytes Broken = (more : ℕ) → behind_list (suc more) bytes ≡ None

@@ -73,6 +73,10 @@ SpellsParts text (Some name) ms = SpellsNamed text name ms
 abbrev pub SpellsSelector : List ℕ → Selector → Type 0
 SpellsSelector text s = SpellsParts text s.name s.matchers
 
+-- the text is a selector
+abbrev pub IsSelector : List ℕ → Type 0
+IsSelector text = (s : Selector) × SpellsSelector text s
+
 -- the text is no selector
 abbrev pub IsNoSelector : List ℕ → Type 0
 IsNoSelector text = (s : Selector) → ¬ SpellsSelector text s

@@ -10,12 +10,16 @@ mod parsing;
 mod queries;
 mod selecting;
 mod selector;
+mod telling;
+mod writing;
 
 pub use fault::{QueryFault, SelectFault};
 pub use parsing::parse;
 pub use queries::query;
 pub use selecting::select;
 pub use selector::{Matcher, Selector};
+pub use telling::is_selector;
+pub use writing::write_selected;
 
 /// A text is at most one selector.
 pub fn one_selector()

@@ -13,21 +13,8 @@ ghost use Rattle.series_select.specs.SelectionSteps.{label_holds, labels_hold, n
 use crate::selector::{Matcher, Selector};
 use label_sets::{Kind, LabelSet};
 use line_scan::is_word;
+use open_writing::open_suffixes;
 use page_model::{Family, Reading, Suffix};
-
-/// The suffixes of the sample names that a kind allows on a page of OpenMetrics.
-fn suffixes(kind: Kind) -> &'static [Suffix]
-    ensures { map suffix_bytes result.now ≡ suffixes OpenMetrics kind }
-{
-    match kind {
-        Kind::Gauge | Kind::Unknown | Kind::StateSet => &[Suffix::Own],
-        Kind::Info => &[Suffix::Info],
-        Kind::Counter => &[Suffix::Total, Suffix::Created],
-        Kind::Histogram => &[Suffix::Bucket, Suffix::Count, Suffix::Sum, Suffix::Created],
-        Kind::GaugeHistogram => &[Suffix::Bucket, Suffix::GaugeCount, Suffix::GaugeSum],
-        Kind::Summary => &[Suffix::Own, Suffix::Count, Suffix::Sum, Suffix::Created],
-    }
-}
 
 /// Whether bytes are one of the suffixes.
 fn is_among(suffixes: &[Suffix], bytes: &[u8]) -> bool
@@ -48,7 +35,7 @@ fn is_ending(kind: Kind, bytes: &[u8]) -> bool
     if is_word(bytes, "") {
         return true;
     }
-    is_among(suffixes(kind), bytes)
+    is_among(open_suffixes(kind), bytes)
 }
 
 /// Whether the readings of a family can be asked for by this name.

@@ -40,7 +40,7 @@ pub(crate) struct MatcherParts<'a> {
 }
 
 /// The bytes without the blanks at the front.
-fn without_leading_blanks(bytes: &[u8]) -> &[u8]
+pub(crate) fn without_leading_blanks(bytes: &[u8]) -> &[u8]
     ensures { result.now ≡ without_leading_blanks bytes.now }
 {
     cut_chars::<Blank>(bytes).rest
@@ -77,7 +77,7 @@ fn is_text(bytes: &[u8]) -> bool
 }
 
 /// The matcher at the front.
-fn matcher_at(bytes: &[u8]) -> Option<MatcherParts<'_>>
+pub(crate) fn matcher_at(bytes: &[u8]) -> Option<MatcherParts<'_>>
     ensures { MatchOption result (matcher_at bytes.now ≡ None) (IsMatcherFound (matcher_at bytes.now)) }
 {
     let Some(name) = cut_name::<LabelChar>(bytes) else {

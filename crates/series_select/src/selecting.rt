@@ -12,11 +12,10 @@ use label_sets::{List, Memory};
 use open_writing::page_of_families;
 use page_model::{Family, Page, Reading};
 use std::alloc::{AllocError, Global};
-use writing_laws::thinner_pages;
 
 /// The most sample lines of a page from which readings are selected: what is written of it has at most twice as many,
 /// which 32 bits count.
-const MOST_SAMPLES: u32 = u32::MAX / 2;
+const MOST_COUNTED: u32 = u32::MAX / 2;
 
 /// Holds the selectors that may match readings of a family, by its names, in place of those held before.
 fn hold_named<'a>(
@@ -185,10 +184,9 @@ pub fn select(alloc: Global, page: &Page, list: &List<Selector>) -> Result<Page,
     if list.is_empty() {
         return page.copy();
     }
-    if page.samples() > MOST_SAMPLES {
+    if page.samples() > MOST_COUNTED {
         return Err(AllocError);
     }
-    thinner_pages();
     let families = families_left(alloc, list.as_slice(), page.families().as_slice())?;
     Ok(page_of_families(families))
 }

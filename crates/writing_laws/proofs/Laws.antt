@@ -6,4 +6,5 @@ pub use Rattle.writing_laws.proofs.ReadBack.{reads_back, writables_are_open_form
 pub use Rattle.writing_laws.proofs.ReadItems.{kind_in_open}
 pub use Rattle.writing_laws.proofs.ReadLabels.{written_own}
 pub use Rattle.writing_laws.proofs.ShortPages.{escaped_length}
+pub use Rattle.writing_laws.proofs.ThinnerPages.{thinner}
 pub use Rattle.writing_laws.proofs.ShortFamilies.{kind_length, writes_short_lines}

@@ -26,7 +26,7 @@ page_of_families-requires-clause-few c =
 pub page_of_families-requires-clause-right : goal.page_of_families-requires-clause-right
 page_of_families-requires-clause-right c =
     let left : c.in_ok-families.families ≡ selected_families c.args.list.now c.args.page.now.families = c.in_ok-families.ensures ∙ (λ i. selected_families (c.as_slice.ensures i) ((c.as_slice-2.ensures ∙ c.families.ensures.families) i)) in
-    subst (λ (fs : List Family). IsRightPage (page_with fs)) (sym left) (form_is_right (page_with (selected_families c.args.list.now c.args.page.now.families)) (selected_form c.thinner_pages.ensures.readings c.args.list.now c.args.page.now c.requires))
+    subst (λ (fs : List Family). IsRightPage (page_with fs)) (sym left) (form_is_right (page_with (selected_families c.args.list.now c.args.page.now.families)) (selected_form c.args.list.now c.args.page.now c.requires))
 
 pub returns-clause-page : goal.returns-clause-page
 returns-clause-page c =
@@ -36,4 +36,4 @@ returns-clause-page c =
 pub returns-clause-form : goal.returns-clause-form
 returns-clause-form c =
     let left : c.in_ok-families.families ≡ selected_families c.args.list.now c.args.page.now.families = c.in_ok-families.ensures ∙ (λ i. selected_families (c.as_slice.ensures i) ((c.as_slice-2.ensures ∙ c.families.ensures.families) i)) in
-    subst IsOpenForm (sym (c.page_of_families.ensures.page ∙ ap page_with left)) (selected_form c.thinner_pages.ensures.readings c.args.list.now c.args.page.now c.requires)
+    subst IsOpenForm (sym (c.page_of_families.ensures.page ∙ ap page_with left)) (selected_form c.args.list.now c.args.page.now c.requires)
