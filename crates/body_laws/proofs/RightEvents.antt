@@ -1,7 +1,6 @@
 -- The pages of the events that talks tell are right, so their trees mark the series that are gone.
 use Rattle.std.proofs.Common.{◌≡◌, ℕ, List, [], ◌∷◌, sym, subst}
 use Rattle.page_model.specs.declared.format.Format.{Format}
-use Rattle.page_model.specs.declared.page.Page.{Page}
 use Rattle.page_model.specs.declared.event.Event.{Event}
 use Rattle.page_model.specs.declared.event.Outcome.{Outcome}
 use Rattle.page_model.specs.declared.event.Outcome.TheVariants as outcomes

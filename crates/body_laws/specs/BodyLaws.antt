@@ -1,5 +1,5 @@
 -- Laws of the bodies that are posted for a target. Each is proved, and a call of the crate stands for it.
--- OTLP 1.x, "DataPointFlags" (no recorded value); OTLP/HTTP, "OTLP/HTTP Response".
+-- OTLP 1.x, "DataPointFlags" (no recorded value); OTLP/HTTP, "OTLP/HTTP Response"; "Prometheus and OpenMetrics Compatibility", "Resource Attributes" and "Instrumentation Scope".
 use Rattle.std.specs.Prelude.{◌≡◌, ◌↔◌, ℕ, List, [], ◌∷◌, map, ⊤}
 use Rattle.page_model.specs.declared.event.Event.{Event}
 use Rattle.bridge_ports.specs.declared.talk.Talk.{Talk}
@@ -15,7 +15,8 @@ use Rattle.point_laws.specs.MarkerLaws.{EventMarksTheGone}
 
 -- ---- series that are gone
 
--- the tree of each of these events marks the series that are gone: its points without a value are those of the series that the event before had, without times of their own, and this one lacks, each once
+-- the tree of each of these events marks the series that are gone: its points without a value are those of the series that the event before had, without times of their own, and this one lacks,
+-- each once, in the scope that it names; where the attributes of the target change, those of all series that the event before had, under the attributes that they had
 abbrev pub AllMarkTheGone : Followed → List Event → Type 0
 AllMarkTheGone f [] = ⊤
 AllMarkTheGone f (e ∷ earlier) = EventMarksTheGone f.target (tracking_of f) earlier e × AllMarkTheGone f earlier

@@ -5,7 +5,9 @@
 ghost use Rattle.body_laws.specs.BodyLaws.{BodiesMarkTheGone, TracksMarkTheGone, TriesComeOfTexts};
 
 /// What is posted for a target is, in order, the texts of trees whose points without a recorded value are those of the
-/// series that the scrape before had, without times of their own, and this one lacks, one for each.
+/// series that the scrape before had, without times of their own, and this one lacks, one for each, in the scope that it
+/// names. Where the attributes of the target change, they are those of all series of the scrape before, in a part of their
+/// own under the attributes that they had.
 ///
 /// So where two scrapes find the page `x 1` and then none, the second body has one such point, that of `x`.
 pub fn bodies_mark_the_gone()

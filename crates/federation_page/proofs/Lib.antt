@@ -16,3 +16,4 @@ pub mod RightGathered
 mod GatherCases
 pub mod FewGathered
 pub mod FilledShown
+pub mod Laws

@@ -19,6 +19,7 @@ use Rattle.otlp_tree.specs.declared.tree.Metric.{Metric}
 use Rattle.otlp_tree.specs.declared.tree.Shape.{Shape}
 use Rattle.otlp_tree.specs.declared.tree.Shape.TheVariants as shapes
 use Rattle.start_times.specs.Starts.{has_points}
+use Rattle.target_core.specs.Scopes.{point_labels}
 use Rattle.target_core.specs.Markers.{number_marker, histogram_marker, summary_marker, shape_with, is_of_metric, markers_of, metric_with, with_markers, markers_left, no_points, marker_metric, marker_metrics}
 use Rattle.target_core.specs.Events.{marker_with}
 use Rattle.target_core.specs.Laws.{is_same_metric}
@@ -100,11 +101,11 @@ pub record IsIn (name unit : List ℕ) (sort : Option Shape) (key : SeriesKey) :
   pub sort_is : sort ≡ no_points key.kind
 
 module _ (name unit : List ℕ) (sort : Option Shape) (moment : ℕ) where
-  own_point : (key : SeriesKey) → IsIn name unit sort key → unvalued_point name unit sort key.labels moment ≡ gone_point moment key
-  own_point key own = λ i. unvalued_point (own.name_is i) (own.unit_is i) (own.sort_is i) key.labels moment
+  own_point : (key : SeriesKey) → IsIn name unit sort key → unvalued_point name unit sort (point_labels key.labels) moment ≡ gone_point moment key
+  own_point key own = λ i. unvalued_point (own.name_is i) (own.unit_is i) (own.sort_is i) (point_labels key.labels) moment
 
   -- markers that have become points of a metric
-  marked : {M Y : Type 0} (make : SeriesKey → M) (become : M → Y) (unvalued : Y → Option UnvaluedPoint) → ((key : SeriesKey) → unvalued (become (make key)) ≡ Some (unvalued_point name unit sort key.labels moment))
+  marked : {M Y : Type 0} (make : SeriesKey → M) (become : M → Y) (unvalued : Y → Option UnvaluedPoint) → ((key : SeriesKey) → unvalued (become (make key)) ≡ Some (unvalued_point name unit sort (point_labels key.labels) moment))
       → (keys : List SeriesKey) → AllByRecursion (IsIn name unit sort) keys → filter_map unvalued (map become (map make keys)) ≡ map (gone_point moment) keys
   marked make become unvalued each [] own = refl
   marked make become unvalued each (key ∷ keys) own =

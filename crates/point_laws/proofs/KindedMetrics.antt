@@ -2,9 +2,8 @@
 use Rattle.std.proofs.Common.{◌≡◌, ℕ, true, false, not, ◌&&◌, List, [], ◌∷◌, ◌++◌, map, filter, filter_map, codes, Option, Some, None, option_map, refl, sym, ap, subst, ◌∙◌}
 use Rattle.std.specs.List.{IsDistinct, AllByRecursion, list_any, cons_option}
 use Rattle.std.specs.Str.{bytes_eq}
-use Rattle.std.proofs.lemmas.Bool.{or_right, or_parts, not-true}
+use Rattle.std.proofs.lemmas.Bool.{or_parts, not-true}
 use Rattle.std.proofs.lemmas.List.{map-append}
-use Rattle.std.proofs.lemmas.List.Folds.{list_any-append}
 use Rattle.std.proofs.lemmas.Simd.{map-map}
 use Rattle.label_sets.specs.declared.kind.Kind.{Kind}
 use Rattle.label_sets.specs.declared.kind.Kind.TheVariants.{Gauge}
@@ -144,20 +143,12 @@ module _ (start : SeriesKey → Option ℕ) (moment : ℕ) (keys : List SeriesKe
 
 -- ---- the metrics of the target
 
-in_target_series : (p : Kind × Metric) (front middle : List SeriesKey) → list_any (is_in p) target_series ≡ true → list_any (is_in p) (front ++ (middle ++ target_series)) ≡ true
-in_target_series p front middle h =
-    list_any-append (is_in p) front (middle ++ target_series) ∙ or_right (list_any (is_in p) front) (list_any (is_in p) (middle ++ target_series))
-    (list_any-append (is_in p) middle target_series ∙ or_right (list_any (is_in p) middle) (list_any (is_in p) target_series) h)
-
-pub target_distinct : (front middle : List SeriesKey) (moment up samples : ℕ) → AreDistinctMetrics (front ++ (middle ++ target_series)) (target_metrics moment up samples)
+pub target_distinct : (moment up samples : ℕ) → AreDistinctMetrics target_series (target_metrics moment up samples)
 unfolding IsDistinct target_metrics target_gauge no_points
-target_distinct front middle moment up samples =
-    let first : Kind × Metric = (Gauge, target_gauge (codes "up") moment up) in
-    let second : Kind × Metric = (Gauge, target_gauge (codes "scrape_samples_scraped") moment samples) in
-    record {
-      kinded = first ∷ second ∷ [];
-      metrics_are = refl;
-      sorts = (refl, (refl, tt));
-      belong = (in_target_series first front middle refl, (in_target_series second front middle refl, tt));
-      distinct = ((refl, tt), (tt, tt));
-    }
+target_distinct moment up samples = record {
+  kinded = (Gauge, target_gauge (codes "up") moment up) ∷ (Gauge, target_gauge (codes "scrape_samples_scraped") moment samples) ∷ [];
+  metrics_are = refl;
+  sorts = (refl, (refl, tt));
+  belong = (refl, (refl, tt));
+  distinct = ((refl, tt), (tt, tt));
+}

@@ -51,7 +51,7 @@ module _ (name unit : List ℕ) (sort : Option Shape) where
   unfolding number_point
   valued_number p = by (plain_number p.value)
     where
-      by : (o : Option Number) → IfSome (option_map (λ number. record { labels = p.labels; start = p.start; time = p.time; value = Some number }) o) (λ (n : NumberPoint). unvalued_number name unit sort n ≡ None)
+      by : (o : Option Number) → IfSome (option_map (λ number. record { labels = p.labels; start = p.start; time = p.time; value = Some number; exemplars = p.shots }) o) (λ (n : NumberPoint). unvalued_number name unit sort n ≡ None)
       by None = tt
       by (Some n) = refl
 
@@ -59,7 +59,7 @@ module _ (name unit : List ℕ) (sort : Option Shape) where
   unfolding histogram_point
   valued_histogram p = by (histogram_in p.value)
     where
-      by : (o : Option HistogramValue) → IfSome (option_map (λ histogram. record { labels = p.labels; start = start_or_time p; time = p.time; value = Some histogram }) o) (λ (h : HistogramPoint). unvalued_histogram name unit sort h ≡ None)
+      by : (o : Option HistogramValue) → IfSome (option_map (λ histogram. record { labels = p.labels; start = start_or_time p; time = p.time; value = Some histogram; exemplars = p.shots }) o) (λ (h : HistogramPoint). unvalued_histogram name unit sort h ≡ None)
       by None = tt
       by (Some n) = refl
 

@@ -29,6 +29,17 @@ pub filter_map-map : {A B C : Type 0} (f : A → B) (h : B → Option C) (xs : L
 filter_map-map f h [] = refl
 filter_map-map f h (x ∷ xs) = ap (cons_option (h (f x))) (filter_map-map f h xs)
 
+-- what passes two tests passes them in either order
+pub filter-swap : {A : Type 0} (p q : A → Bool) (xs : List A) → filter p (filter q xs) ≡ filter q (filter p xs)
+filter-swap p q [] = refl
+filter-swap p q (x ∷ xs) = go (p x) refl (q x) refl (filter-swap p q xs)
+  where
+    go : (b : Bool) → p x ≡ b → (c : Bool) → q x ≡ c → filter p (filter q xs) ≡ filter q (filter p xs) → filter p (filter q (x ∷ xs)) ≡ filter q (filter p (x ∷ xs))
+    go true e true f ih = rw (e, f, e) (ap (λ ys. x ∷ ys) ih)
+    go true e false f ih = rw (e, f) ih
+    go false e true f ih = rw (e, f, e) ih
+    go false e false f ih = rw (e, f) ih
+
 -- where all pass a test, none is taken away by it, and nothing is left by its contrary
 pub all-pass : {A : Type 0} (p : A → Bool) (xs : List A) → AllByRecursion (λ x. p x ≡ true) xs → filter p xs ≡ xs
 all-pass p [] h = refl
@@ -64,6 +75,11 @@ pub each-among : {A : Type 0} (e : A → A → Bool) → ((a : A) → e a a ≡ 
 each-among e itself [] = tt
 each-among e itself (x ∷ xs) =
     (or_left (e x x) (list_any (λ y. e y x) xs) (itself x), all-weaker (λ k. list_any (λ y. e y k) xs ≡ true) (λ k. (e x k || list_any (λ y. e y k) xs) ≡ true) (λ k h. or_right (e x k) (list_any (λ y. e y k) xs) h) xs (each-among e itself xs))
+
+-- what holds of each image holds of the list of them
+pub all-images : {A B : Type 0} (P : B → Type 0) (f : A → B) → ((a : A) → P (f a)) → (xs : List A) → AllByRecursion P (map f xs)
+all-images P f each [] = tt
+all-images P f each (x ∷ xs) = (each x, all-images P f each xs)
 
 -- ---- the first of each
 

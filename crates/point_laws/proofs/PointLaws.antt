@@ -1,5 +1,5 @@
 -- Each reading of a right page that is not late becomes a point, but for those of gauge histograms.
-use Rattle.std.proofs.Common.{◌≡◌, ℕ, suc, Bool, true, false, cond, List, [], ◌∷◌, length, filter, filter_map, Option, Some, None, option_map, is_some, refl, ap, subst, ◌∙◌, IfSome, All, arith}
+use Rattle.std.proofs.Common.{◌≡◌, ℕ, suc, Bool, true, false, cond, List, [], ◌∷◌, length, filter, filter_map, Option, Some, None, option_map, is_some, refl, ap, ◌∙◌, IfSome}
 use Rattle.std.specs.List.{cons_option, AllByRecursion}
 use Rattle.std.specs.Option.{option_map_or}
 use Rattle.std.proofs.lemmas.List.Elements.{All-from_recursion, recursion_from_All}
@@ -14,7 +14,6 @@ use Rattle.page_model.specs.declared.page.Family.{Family}
 use Rattle.page_model.specs.declared.page.Page.{Page}
 use Rattle.page_model.specs.declared.page.Value.{Value}
 use Rattle.page_model.specs.declared.page.Value.TheVariants as values
-use Rattle.page_model.specs.declared.event.Event.{Event}
 use Rattle.page_model.specs.Pages.{IsRightPage}
 use Rattle.family_rules.proofs.Laws.{IsPlain, IsQuantiles, HasRisingBuckets, HaveValuesOf, HaveKindValues, right_values}
 use Rattle.open_writing.specs.Forms.{IsFormedReading, IsFormedFamily, AreFormed}
@@ -24,15 +23,15 @@ use Rattle.otlp_tree.specs.declared.tree.Shape.{Shape}
 use Rattle.otlp_tree.specs.declared.tree.Shape.TheVariants as shapes
 use Rattle.start_times.specs.declared.row.Placed.{Placed}
 use Rattle.start_times.specs.declared.row.Placed.TheVariants.{Late, At}
-use Rattle.start_times.specs.Scrapes.{Scrape, last_moment, moment_after, scrape_after, scrapes_of}
+use Rattle.start_times.specs.Scrapes.{Scrape}
 use Rattle.start_times.specs.Starts.{Tracking, has_points, is_taken, placed, reading_place, cumulative_layout}
 use Rattle.start_times.specs.Laws.{RiseTo}
 use Rattle.start_times.proofs.Laws.{none_is_late}
 use Rattle.target_core.proofs.Laws.{rising_cumulative}
 use Rattle.target_core.specs.Points.{Point, point_at, point_in, point_of, plain_number, histogram_in, summary_in, number_point, histogram_point, summary_point}
-use Rattle.target_core.specs.Trees.{some_of, shape_of, metric_of}
+use Rattle.target_core.specs.Trees.{some_of, shape_of, metric_of, has_point}
 use Rattle.point_laws.proofs.Parts.{all-pass}
-use Rattle.point_laws.specs.PageLaws.{points_in, points_of_family, points_due, EachPlaceHasAPoint, EachTakenHasAPoint, EachReadingHasAPoint}
+use Rattle.point_laws.specs.PageLaws.{points_in, points_of_family, points_due, due_of_all, due_of_passing, HavePoints}
 
 -- ---- the point of a value
 
@@ -97,10 +96,6 @@ shape_count {P} {Y} h shape counts ps = go (filter_map h ps) refl
     go (y ∷ ys) e = rw e (counts (y ∷ ys))
 
 module _ (place : Reading → Option Placed) where
-  -- the reading has a point at its place
-  abbrev has_point : Reading → Bool
-  has_point r = is_some (point_of place r)
-
   -- the points of readings have this form
   each_formed : {Y : Type 0} (h : Point → Option Y) (V : Value → Type 0) → ((time start : ℕ) (r : Reading) → V r.value → is_some (h (point_at time start r)) ≡ true)
       → (rs : List Reading) → AllByRecursion (λ (r : Reading). V r.value) rs → AllByRecursion (λ (r : Reading). IfSome (point_of place r) (λ (p : Point). is_some (h p) ≡ true)) rs
@@ -113,10 +108,10 @@ module _ (place : Reading → Option Placed) where
       by (Some (At time start)) = has time start r v.0
 
   formed_points : {Y : Type 0} (h : Point → Option Y) (V : Value → Type 0) (shape : List Y → Shape) → ((ys : List Y) → points_in (shape ys) ≡ length ys) → ((time start : ℕ) (r : Reading) → V r.value → is_some (h (point_at time start r)) ≡ true)
-      → (rs : List Reading) → AllByRecursion (λ (r : Reading). V r.value) rs → option_map_or points_in (option_map shape (some_of h (filter_map (point_of place) rs))) 0 ≡ length (filter has_point rs)
+      → (rs : List Reading) → AllByRecursion (λ (r : Reading). V r.value) rs → option_map_or points_in (option_map shape (some_of h (filter_map (point_of place) rs))) 0 ≡ length (filter (has_point place) rs)
   formed_points h V shape counts has rs v = shape_count h shape counts (filter_map (point_of place) rs) ∙ all_formed (point_of place) h rs (each_formed h V has rs v)
 
-  kind_points : (kind : Kind) (rs : List Reading) → HaveValuesOf kind rs → option_map_or points_in (shape_of kind (filter_map (point_of place) rs)) 0 ≡ points_due kind (length (filter has_point rs))
+  kind_points : (kind : Kind) (rs : List Reading) → HaveValuesOf kind rs → option_map_or points_in (shape_of kind (filter_map (point_of place) rs)) 0 ≡ points_due kind (length (filter (has_point place) rs))
   unfolding shape_of
   kind_points Counter rs have = formed_points number_point IsPlain (λ ps. shapes.Sum ps true) (λ ps. refl) number_has rs have
   kind_points Gauge rs have = formed_points number_point IsPlain shapes.Gauge (λ ps. refl) number_has rs have
@@ -132,7 +127,7 @@ module _ (place : Reading → Option Placed) where
   none_due _ = refl
 
   -- the metric of readings has each of their points
-  metric_points : (kind : Kind) (help : List ℕ) (rs : List Reading) → HaveValuesOf kind rs → option_map_or (λ (m : Metric). points_in m.shape) (metric_of place kind help rs) 0 ≡ points_due kind (length (filter has_point rs))
+  pub metric_points : (kind : Kind) (help : List ℕ) (rs : List Reading) → HaveValuesOf kind rs → option_map_or (λ (m : Metric). points_in m.shape) (metric_of place kind help rs) 0 ≡ points_due kind (length (filter (has_point place) rs))
   metric_points kind help [] have = none_due kind
   metric_points kind help (r ∷ rs) have = by (shape_of kind (filter_map (point_of place) (r ∷ rs))) ∙ kind_points kind (r ∷ rs) have
     where
@@ -142,14 +137,14 @@ module _ (place : Reading → Option Placed) where
 
   -- ---- the points of a page
 
-  families_points : (fs : List Family) → HaveKindValues fs → AllByRecursion (λ (f : Family). points_of_family place f ≡ points_due f.kind (length (filter has_point f.readings))) fs
+  families_points : (fs : List Family) → HaveKindValues fs → AllByRecursion (λ (f : Family). points_of_family place f ≡ points_due f.kind (length (filter (has_point place) f.readings))) fs
   families_points [] have = tt
   families_points (f ∷ fs) have = (metric_points f.kind f.help f.readings have.0, families_points fs have.1)
 
 -- each reading of a right page has the point that its place gives
-pub places_lose_nothing : (page : Page) → IsRightPage page → EachPlaceHasAPoint page
-places_lose_nothing page right = λ place.
-    All-from_recursion (λ (f : Family). points_of_family place f ≡ points_due f.kind (length (filter (has_point place) f.readings))) page.families (families_points place page.families (right_values page right))
+pub places_have_points : (place : Reading → Option Placed) (page : Page) → IsRightPage page → HavePoints place (due_of_passing (has_point place)) page
+places_have_points place page right =
+    All-from_recursion (λ (f : Family). points_of_family place f ≡ due_of_passing (has_point place) f) page.families (families_points place page.families (right_values page right))
 
 -- ---- readings that are taken
 
@@ -203,38 +198,18 @@ module _ (t : Tracking) (past : List Scrape) (moment : ℕ) where
     all_taken (g ∷ fs) have formed = (metric_points (reading_place t past moment) g.kind g.help g.readings have.0 ∙ family_taken g.kind g.readings (own_kinds g formed.0), all_taken fs have.1 formed.1)
 
 -- each reading of a right page that is taken has a point
-pub taken_lose_nothing : (page : Page) → IsRightPage page → EachTakenHasAPoint page
-taken_lose_nothing page right = λ t past moment.
+pub taken_have_points : (t : Tracking) (past : List Scrape) (moment : ℕ) (page : Page) → IsRightPage page → HavePoints (reading_place t past moment) (due_of_passing (taken t past moment)) page
+taken_have_points t past moment page right =
     let formed : AreFormed right.0.format right.0.treatment page.families = read_pages right.0 page right.1 in
-    All-from_recursion (λ (f : Family). points_of_family (reading_place t past moment) f ≡ points_due f.kind (length (filter (taken t past moment) f.readings))) page.families
+    All-from_recursion (λ (f : Family). points_of_family (reading_place t past moment) f ≡ due_of_passing (taken t past moment) f) page.families
     (all_taken t past moment right.0.format right.0.treatment page.families (right_values page right) (recursion_from_All (IsFormedFamily right.0.format right.0.treatment) page.families formed.each))
 
 -- ---- where times of the page don't count
-
--- the moments of events rise to that of the next one
-rising : (earlier : List Event) (at : ℕ) → RiseTo (moment_after (last_moment (scrapes_of earlier)) at) (scrapes_of earlier)
-unfolding scrape_after
-rising [] at = tt
-rising (e ∷ earlier) at = (omega arith, rising earlier e.reading)
 
 all_pass : (t : Tracking) (past : List Scrape) (moment : ℕ) (rs : List Reading) → t.honor ≡ false → RiseTo moment past → AllByRecursion (λ (r : Reading). is_taken t moment r past ≡ true) rs
 all_pass t past moment [] off rise = tt
 all_pass t past moment (r ∷ rs) off rise = (none_is_late t moment r past off rise, all_pass t past moment rs off rise)
 
-whole_families : (t : Tracking) (past : List Scrape) (moment : ℕ) (fs : List Family) → t.honor ≡ false → RiseTo moment past
-    → AllByRecursion (λ (f : Family). points_of_family (reading_place t past moment) f ≡ points_due f.kind (length (filter (taken t past moment) f.readings))) fs
-    → AllByRecursion (λ (f : Family). points_of_family (reading_place t past moment) f ≡ points_due f.kind (length f.readings)) fs
-whole_families t past moment [] off rise have = tt
-whole_families t past moment (f ∷ fs) off rise have = (
-  have.0 ∙ ap (λ (rs : List Reading). points_due f.kind (length rs)) (all-pass (taken t past moment) f.readings (all_pass t past moment f.readings off rise)),
-  whole_families t past moment fs off rise have.1,
-)
-
--- each reading of a right page has a point
-pub right_pages_lose_nothing : (page : Page) → IsRightPage page → EachReadingHasAPoint page
-right_pages_lose_nothing page right = λ t earlier at off.
-    let past : List Scrape = scrapes_of earlier in
-    let moment : ℕ = moment_after (last_moment past) at in
-    All-from_recursion (λ (f : Family). points_of_family (reading_place t past moment) f ≡ points_due f.kind (length f.readings)) page.families
-    (whole_families t past moment page.families off (rising earlier at)
-    (recursion_from_All (λ (f : Family). points_of_family (reading_place t past moment) f ≡ points_due f.kind (length (filter (taken t past moment) f.readings))) page.families (taken_lose_nothing page right t past moment)))
+-- no reading is late, so all are due
+pub due_for_all : (t : Tracking) (past : List Scrape) (moment : ℕ) (f : Family) → t.honor ≡ false → RiseTo moment past → due_of_passing (taken t past moment) f ≡ due_of_all f
+due_for_all t past moment f off rise = ap (λ (rs : List Reading). points_due f.kind (length rs)) (all-pass (taken t past moment) f.readings (all_pass t past moment f.readings off rise))

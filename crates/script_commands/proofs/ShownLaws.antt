@@ -22,10 +22,11 @@ use Rattle.bridge_ports.specs.Targets.{Scraped, IsTextUpTo, have_same_names}
 use Rattle.bridge_ports.specs.declared.talk.MemoryReply.{MemoryReply}
 use Rattle.http_talk.specs.Replies.{scraped_setting, IsPageOutcome, HasOutcome}
 use Rattle.start_times.specs.Scrapes.{scrape_after}
+use Rattle.target_core.specs.Thinned.{without_exemplars}
 use Rattle.target_core.specs.Events.{latest_shown}
 use Rattle.target_core.specs.States.{Following}
 use Rattle.series_table.specs.Records.{IsScrapedWithin}
-use Rattle.series_table.proofs.Laws.{filled_within}
+use Rattle.series_table.proofs.Laws.{shown_within}
 use Rattle.federation_page.specs.Gathering.{is_one_target, IsTargetName, IsShowable, AreShowable, federated_text}
 use Rattle.replay_script.specs.declared.header.Header.{Header}
 use Rattle.replay_script.specs.declared.script.ScriptTarget.{ScriptTarget}
@@ -80,11 +81,11 @@ reply_within : (h : Header) (r : MemoryReply) (o : Outcome) → HasOutcome h.lim
 reply_within h r o has = outcome_holds (λ x. IsScrapedWithin h.limit (page_of_outcome x)) h r o (λ cause. nothing_within h.limit) (body_within h.limit) has
 
 -- and what a target shows behind its events
-shown_within : (h : Header) (replies : List MemoryReply) (target : Scraped) (events : List Event) → AreEvents h replies events
+latest_within : (h : Header) (replies : List MemoryReply) (target : Scraped) (events : List Event) → AreEvents h replies events
     → IsScrapedWithin h.limit (latest_shown target events).page
-unfolding latest_shown scrape_after
-shown_within h replies target [] are = nothing_within h.limit
-shown_within h replies target (e ∷ earlier) are = filled_within h.limit (page_of_outcome e.outcome) (reply_within h are.0.reply e.outcome are.0.is.comes_to)
+unfolding latest_shown without_exemplars scrape_after
+latest_within h replies target [] are = nothing_within h.limit
+latest_within h replies target (e ∷ earlier) are = shown_within h.limit (page_of_outcome e.outcome) (reply_within h are.0.reply e.outcome are.0.is.comes_to)
 
 -- what is shown is of this job and instance
 record IsNamedAs (target : Scraped) (s : Shown) : Type 0 where
@@ -104,7 +105,7 @@ target_name most name t = record { text = is_utf8-from_IsUtf8 name (IsUtf8-had n
 -- what a target of a right script shows
 may_show : (h : Header) (t : ScriptTarget) (s : Shown) → IsRightHeader h → IsRightTarget h t → IsLastShown h t s → IsShowable s
 may_show h t s header right is =
-    let page : IsScrapedWithin h.limit s.page = subst (λ (x : Shown). IsScrapedWithin h.limit x.page) (sym is.shows) (shown_within h t.scrapes t.target is.events is.are) in
+    let page : IsScrapedWithin h.limit s.page = subst (λ (x : Shown). IsScrapedWithin h.limit x.page) (sym is.shows) (latest_within h t.scrapes t.target is.events is.are) in
     let named = last_named h t s is in
     record {
       job = subst (IsTargetName 256) (sym named.job) (target_name 256 t.target.job right.scraped.job);

@@ -1,3 +1,3 @@
 -- What other crates may use of this crate's proofs.
 pub use Rattle.series_table.proofs.Moved.{track-without_second}
-pub use Rattle.series_table.proofs.Shows.{filled_within}
+pub use Rattle.series_table.proofs.Shows.{shown_within}

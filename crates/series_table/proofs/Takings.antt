@@ -1,5 +1,5 @@
 -- What a scrape and the step behind it make.
-use Rattle.std.proofs.Common.{◌≡◌, ℕ, inr, ◌∷◌, length, Option, Some, None, ap, ◌∙◌}
+use Rattle.std.proofs.Common.{◌≡◌, ℕ, inl, inr, ◌∷◌, length, Option, Some, None, ap, ◌∙◌}
 use Rattle.page_model.specs.declared.event.Event.{Event}
 use Rattle.page_model.specs.Presence.{page_of_outcome}
 use Rattle.bridge_ports.specs.declared.talk.Address.{Address}
@@ -34,7 +34,7 @@ takes aim old new before after event taken scrape steps failed =
       scrape = scrape;
       page = page;
       failed = failed;
-      steps = λ t earlier stands. steps aim.target t earlier stands (keys_differ aim.settings.limit (page_of_outcome event.outcome) page);
+      steps = λ t earlier stands. steps aim.target t earlier (inl stands) (keys_differ aim.settings.limit (page_of_outcome event.outcome) page);
     }
 
 -- that was one event

@@ -7,13 +7,13 @@ use Rattle.page_model.specs.declared.event.Event.{Event}
 use Rattle.otlp_sender.specs.declared.posted.Posted.{Posted}
 use Rattle.otlp_tree.specs.declared.tree.Request.{Request}
 use Rattle.otlp_tree.specs.declared.tree.Metric.{Metric}
-use Rattle.otlp_tree.specs.declared.tree.ScopeMetrics.{ScopeMetrics}
+use Rattle.otlp_tree.specs.declared.tree.ResourceMetrics.{ResourceMetrics}
 use Rattle.target_core.specs.Events.{request_after, requests_of}
 use Rattle.series_table.specs.declared.counts.Counts.{Counts}
 use Rattle.series_table.specs.declared.point_counts.PointCounts.{PointCounts}
 use Rattle.series_table.specs.Talking.{Followed}
 use Rattle.series_table.specs.Emission.{tracking_of}
-use Rattle.series_table.specs.Counting.{over_metrics, valued_in, unvalued_in, as_count, has_failed, was_accepted, was_refused, was_given_up, raised_if, with_visit, visit_counts}
+use Rattle.series_table.specs.Counting.{over_scopes, over_metrics, valued_in, unvalued_in, as_count, has_failed, was_accepted, was_refused, was_given_up, raised_if, with_visit, visit_counts}
 use Rattle.series_table.specs.Making.{point_counts}
 
 up_by_one : (b : Bool) (n : ℕ) → n < 1000000 → raised_if b n ≡ cond b 1 0 + n
@@ -59,11 +59,11 @@ same_tally a b failed failed_is x y p u v w = λ i. with_visit (u i) (v i) (w i)
 pub visits_rise : (counts : Counts) → counts.visits < 1000000 → as_count (counts.visits + 1) ≡ counts.visits + 1
 visits_rise counts few = omega (arith, few)
 
--- the points of a tree are those of its scopes
-pub of_scopes : (r : PointCounts) (scopes : List ScopeMetrics) (tree : Request) → scopes ≡ tree.scopes
-    → r.valued ≡ as_count (sum_by (λ (s : ScopeMetrics). sum_by valued_in s.metrics) scopes) → r.unvalued ≡ as_count (sum_by (λ (s : ScopeMetrics). sum_by unvalued_in s.metrics) scopes)
+-- the points of a tree are those of its parts
+pub of_parts : (r : PointCounts) (parts : List ResourceMetrics) (tree : Request) → parts ≡ tree.parts
+    → r.valued ≡ as_count (sum_by (λ (part : ResourceMetrics). over_scopes valued_in part.scopes) parts) → r.unvalued ≡ as_count (sum_by (λ (part : ResourceMetrics). over_scopes unvalued_in part.scopes) parts)
     → r ≡ point_counts tree
-of_scopes r scopes tree same valued unvalued =
-    let v : r.valued ≡ as_count (over_metrics valued_in tree) = valued ∙ ap (λ (xs : List ScopeMetrics). as_count (sum_by (λ (s : ScopeMetrics). sum_by valued_in s.metrics) xs)) same in
-    let u : r.unvalued ≡ as_count (over_metrics unvalued_in tree) = unvalued ∙ ap (λ (xs : List ScopeMetrics). as_count (sum_by (λ (s : ScopeMetrics). sum_by unvalued_in s.metrics) xs)) same in
+of_parts r parts tree same valued unvalued =
+    let v : r.valued ≡ as_count (over_metrics valued_in tree) = valued ∙ ap (λ (xs : List ResourceMetrics). as_count (sum_by (λ (part : ResourceMetrics). over_scopes valued_in part.scopes) xs)) same in
+    let u : r.unvalued ≡ as_count (over_metrics unvalued_in tree) = unvalued ∙ ap (λ (xs : List ResourceMetrics). as_count (sum_by (λ (part : ResourceMetrics). over_scopes unvalued_in part.scopes) xs)) same in
     λ i. record { valued = v i; unvalued = u i }

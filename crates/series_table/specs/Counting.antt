@@ -6,6 +6,7 @@ use Rattle.page_model.specs.declared.event.Event.{Event}
 use Rattle.page_model.specs.declared.event.Outcome.{Outcome}
 use Rattle.page_model.specs.declared.event.Outcome.TheVariants as outcomes
 use Rattle.otlp_tree.specs.declared.tree.Request.{Request}
+use Rattle.otlp_tree.specs.declared.tree.ResourceMetrics.{ResourceMetrics}
 use Rattle.otlp_tree.specs.declared.tree.ScopeMetrics.{ScopeMetrics}
 use Rattle.otlp_tree.specs.declared.tree.Metric.{Metric}
 use Rattle.otlp_tree.specs.declared.tree.Shape.{Shape}
@@ -43,9 +44,13 @@ valued_in m = valued_points m.shape
 abbrev pub unvalued_in : Metric → ℕ
 unvalued_in m = unvalued_points m.shape
 
--- a number of each metric of a request, added up
+-- a number of each metric of scopes, added up
+abbrev pub over_scopes : (Metric → ℕ) → List ScopeMetrics → ℕ
+over_scopes h scopes = sum_by (λ (s : ScopeMetrics). sum_by h s.metrics) scopes
+
+-- a number of each metric of a request, in all its parts, added up
 abbrev pub over_metrics : (Metric → ℕ) → Request → ℕ
-over_metrics h r = sum_by (λ (s : ScopeMetrics). sum_by h s.metrics) r.scopes
+over_metrics h r = sum_by (λ (part : ResourceMetrics). over_scopes h part.scopes) r.parts
 
 -- a number, or the last value of a count where it is greater
 abbrev pub as_count : ℕ → ℕ

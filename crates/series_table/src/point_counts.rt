@@ -1,11 +1,14 @@
 //! The points of a tree, counted.
 ghost use Rattle.std.specs.Prelude.{◌≡◌, ◌+◌, Bool, not, is_some, count_by};
 ghost use Rattle.std.specs.List.{sum_by};
-ghost use Rattle.series_table.specs.Counting.{valued_points, unvalued_points, valued_in, unvalued_in, as_count};
+ghost use Rattle.series_table.specs.Counting.{valued_points, unvalued_points, valued_in, unvalued_in, over_scopes, as_count};
 ghost use Rattle.series_table.specs.Making.{point_counts};
-ghost use Rattle.otlp_tree.specs.declared.tree.ScopeMetrics.{ScopeMetrics as AnyScope};
+ghost use Rattle.otlp_tree.specs.declared.tree.ResourceMetrics.{ResourceMetrics as AnyPart};
 
-use otlp_tree::{HistogramPoint, Metric, NumberPoint, Request, ScopeMetrics, Shape, SummaryPoint};
+use otlp_tree::{
+    HistogramPoint, Metric, NumberPoint, Request, ResourceMetrics, ScopeMetrics, Shape,
+    SummaryPoint,
+};
 
 /// How many points have a value, and how many have none. A count stands still at 2^64 - 1.
 #[derive(Clone, Copy)]
@@ -104,8 +107,8 @@ fn of_metrics(metrics: &[Metric]) -> PointCounts
 }
 
 fn of_scopes(scopes: &[ScopeMetrics]) -> PointCounts
-    ensures valued { result.valued ≡ as_count (sum_by (λ (s : AnyScope). sum_by valued_in s.metrics) scopes.now) }
-    ensures unvalued { result.unvalued ≡ as_count (sum_by (λ (s : AnyScope). sum_by unvalued_in s.metrics) scopes.now) }
+    ensures valued { result.valued ≡ as_count (over_scopes valued_in scopes.now) }
+    ensures unvalued { result.unvalued ≡ as_count (over_scopes unvalued_in scopes.now) }
 {
     let mut counts = NO_POINTS;
     for scope in scopes {
@@ -114,9 +117,20 @@ fn of_scopes(scopes: &[ScopeMetrics]) -> PointCounts
     counts
 }
 
-/// The points of a tree.
+fn of_parts(parts: &[ResourceMetrics]) -> PointCounts
+    ensures valued { result.valued ≡ as_count (sum_by (λ (part : AnyPart). over_scopes valued_in part.scopes) parts.now) }
+    ensures unvalued { result.unvalued ≡ as_count (sum_by (λ (part : AnyPart). over_scopes unvalued_in part.scopes) parts.now) }
+{
+    let mut counts = NO_POINTS;
+    for part in parts {
+        counts = counts.and(of_scopes(part.scopes.as_slice()));
+    }
+    counts
+}
+
+/// The points of a tree, of all its parts.
 pub(crate) fn of_tree(tree: &Request) -> PointCounts
     ensures { result ≡ point_counts tree.now }
 {
-    of_scopes(tree.scopes.as_slice())
+    of_parts(tree.parts.as_slice())
 }

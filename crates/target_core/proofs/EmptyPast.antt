@@ -1,10 +1,11 @@
 -- Without earlier events an event has the tree of a target without a past.
-use Rattle.std.proofs.Common.{◌≡◌, ℕ, Bool, cond, [], Some, None, ap, ◌∙◌}
+use Rattle.std.proofs.Common.{◌≡◌, ℕ, Bool, true, false, cond, [], ◌∷◌, Some, None, refl, ap, ◌∙◌}
 use Rattle.page_model.specs.declared.page.Reading.{Reading}
 use Rattle.start_times.specs.declared.row.Placed.TheVariants.{At}
-use Rattle.start_times.specs.Scrapes.{scrape_after}
+use Rattle.start_times.specs.Scrapes.{moment_after, scrape_after}
 use Rattle.start_times.specs.Starts.{Tracking, has_points, time_of, placed, reading_place}
 use Rattle.start_times.proofs.Laws.{start_without_past}
+use Rattle.target_core.specs.Stretches.{resource_attributes, goes_on, stretch_scrape}
 use Rattle.target_core.specs.Trees.{request_with}
 use Rattle.target_core.specs.Events.{first_place, event_request, request_after}
 use Rattle.target_core.specs.Laws.{EmptyPast}
@@ -15,5 +16,12 @@ unfolding reading_place placed first_place
 first t moment r = ap (λ n. cond (has_points r.key.kind) (Some (At (time_of t moment r) n)) None) (start_without_past t moment r)
 
 pub empty_past : EmptyPast
-unfolding request_after event_request scrape_after
-empty_past target t e same = λ i. request_with target (λ r. (first t (scrape_after [] e).moment r ∙ ap (λ (honor : Bool). first_place honor (scrape_after [] e).moment r) same) i) [] (scrape_after [] e).moment e.outcome
+unfolding request_after event_request stretch_scrape scrape_after
+empty_past target t e same = go (goes_on [] e) refl
+  where
+    moment : ℕ
+    moment = moment_after None e.reading
+
+    go : (b : Bool) → goes_on [] e ≡ b → request_after target t [] e ≡ event_request target moment e.outcome
+    go true h = rw h (λ i. request_with target (resource_attributes (e ∷ [])) (λ r. (first t moment r ∙ ap (λ (honor : Bool). first_place honor moment r) same) i) [] moment e.outcome [])
+    go false h = rw h (λ i. request_with target (resource_attributes (e ∷ [])) (λ r. (first t moment r ∙ ap (λ (honor : Bool). first_place honor moment r) same) i) [] moment e.outcome [])

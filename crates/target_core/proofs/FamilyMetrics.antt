@@ -1,7 +1,7 @@
 -- The metrics of families with the places of their readings and with markers.
 use Rattle.std.proofs.Common.{◌≡◌, ℕ, suc, ◌+◌, ◌<◌, Bool, true, List, [], ◌∷◌, ◌++◌, map, filter_map, take, drop, length, get_or, Option, Some, None, option_map, refl, sym, ap, subst, ◌∙◌, add-one}
 use Rattle.std.specs.Prelude.{slice_get, is_some}
-use Rattle.std.specs.List.{flat_map, cons_option}
+use Rattle.std.specs.List.{cons_option}
 use Rattle.std.specs.Option.{option_map_or}
 use Rattle.std.proofs.Math.Seq.{drop-cons}
 use Rattle.std.proofs.lemmas.List.{append-nil, map-append, length-map, take_at, drop_at}
@@ -9,16 +9,15 @@ use Rattle.std.proofs.lemmas.List.Elements.{filter_map-append}
 use Rattle.label_sets.specs.declared.kind.Kind.{Kind}
 use Rattle.page_model.specs.declared.page.Reading.{Reading}
 use Rattle.page_model.specs.declared.page.Family.{Family}
-use Rattle.page_model.specs.declared.page.Page.{Page}
 use Rattle.otlp_tree.specs.declared.tree.Metric.{Metric}
 use Rattle.otlp_tree.specs.declared.tree.Shape.{Shape}
 use Rattle.start_times.specs.declared.row.Placed.{Placed}
 use Rattle.target_core.specs.declared.markers.Marker.{Marker}
 use Rattle.target_core.specs.Points.{point_in, point_of, points_with}
-use Rattle.target_core.specs.Markers.{shape_with, metric_with, markers_of, markers_left, marker_metrics, with_markers}
+use Rattle.target_core.specs.Markers.{shape_with, metric_with, markers_of, with_markers}
 use Rattle.target_core.specs.MarkerGroups.{GroupedMarkers, marker_groups, no_group, placed_at, alone_metric, identity_bytes, IsPlaceOf}
 use Rattle.target_core.specs.Trees.{shape_of, metric_of, family_metric, kind_metric, event_metrics}
-use Rattle.target_core.specs.PlacedMarkers.{IsPlacedMetric, ArePlacedMetrics}
+use Rattle.target_core.specs.PlacedMarkers.{family_readings, families_page, IsPlacedMetric, ArePlacedMetrics}
 use Rattle.target_core.proofs.Placing.{one_more}
 use Rattle.target_core.proofs.Grouped.{found_markers, found_placed, absent_markers, absent_placed, alone_metrics}
 
@@ -28,7 +27,7 @@ beside place [] = refl
 beside place (r ∷ rs) = ap (cons_option (point_in (place r) r)) (beside place rs)
 
 -- a shape with a name, where there is one
-abbrev named : List ℕ → List ℕ → List ℕ → Option Shape → Option Metric
+abbrev pub named : List ℕ → List ℕ → List ℕ → Option Shape → Option Metric
 named name help unit shape = option_map (λ (s : Shape). record { name = name; description = help; unit = unit; shape = s }) shape
 
 with_named : (ms : List Marker) (name help unit : List ℕ) (o : Option Shape) → named name help unit (option_map (shape_with ms) o) ≡ option_map (metric_with ms) (named name help unit o)
@@ -128,21 +127,18 @@ placed_here place f slice first name unit ms before at old groups after markers 
 
 -- ---- the metrics of families, one after the other
 
-abbrev pub readings_in : List Family → List Reading
-readings_in fs = flat_map (λ (f : Family). f.readings) fs
-
 -- what stands where some families were passed: their metrics, the places of the readings that are left, and the groups
 pub record ArePassed (place : Reading → Option Placed) (ms : List Marker) (passed left : List Family) (metrics : List Metric) (places : List (Option Placed)) (groups : List GroupedMarkers) : Type 0 where
   pub metrics_are : metrics ≡ map (λ (p : Kind × Metric). with_markers ms p.0 p.1) (filter_map (kind_metric place) passed)
-  pub places_are : places ≡ map place (readings_in left)
+  pub places_are : places ≡ map place (family_readings left)
   pub groups_are : groups ≡ marker_groups (filter_map (kind_metric place) passed) ms
 
 -- the places of the next family, and those behind it
-own_places : (place : Reading → Option Placed) (f : Family) (fs : List Family) (places : List (Option Placed)) → places ≡ map place (readings_in (f ∷ fs)) → take (length f.readings) places ≡ map place f.readings
-own_places place f fs places is = ap (take (length f.readings)) (is ∙ map-append place f.readings (readings_in fs)) ∙ take_at (map place f.readings) (map place (readings_in fs)) (length f.readings) (length-map f.readings place)
+pub own_places : (place : Reading → Option Placed) (f : Family) (fs : List Family) (places : List (Option Placed)) → places ≡ map place (family_readings (f ∷ fs)) → take (length f.readings) places ≡ map place f.readings
+own_places place f fs places is = ap (take (length f.readings)) (is ∙ map-append place f.readings (family_readings fs)) ∙ take_at (map place f.readings) (map place (family_readings fs)) (length f.readings) (length-map f.readings place)
 
-later_places : (place : Reading → Option Placed) (f : Family) (fs : List Family) (places : List (Option Placed)) → places ≡ map place (readings_in (f ∷ fs)) → drop (length f.readings) places ≡ map place (readings_in fs)
-later_places place f fs places is = ap (drop (length f.readings)) (is ∙ map-append place f.readings (readings_in fs)) ∙ drop_at (map place f.readings) (map place (readings_in fs)) (length f.readings) (length-map f.readings place)
+pub later_places : (place : Reading → Option Placed) (f : Family) (fs : List Family) (places : List (Option Placed)) → places ≡ map place (family_readings (f ∷ fs)) → drop (length f.readings) places ≡ map place (family_readings fs)
+later_places place f fs places is = ap (drop (length f.readings)) (is ∙ map-append place f.readings (family_readings fs)) ∙ drop_at (map place f.readings) (map place (family_readings fs)) (length f.readings) (length-map f.readings place)
 
 metric_behind : (place : Reading → Option Placed) (ms : List Marker) (passed : List Family) (f : Family) (metrics : List Metric) (metric : Option Metric)
     → metrics ≡ map (λ (p : Kind × Metric). with_markers ms p.0 p.1) (filter_map (kind_metric place) passed) → metric ≡ option_map (λ (m : Metric). with_markers ms f.kind m) (family_metric place f)
@@ -169,7 +165,7 @@ family_passed place ms passed later f metrics more places rest groups after metr
 }
 
 -- the families behind the front, where one of them is read
-next_family : (fs : List Family) (i : ℕ) (f : Family) → i < length fs → f ≡ get_or fs i f → drop i fs ≡ f ∷ drop (i + 1) fs
+pub next_family : (fs : List Family) (i : ℕ) (f : Family) → i < length fs → f ≡ get_or fs i f → drop i fs ≡ f ∷ drop (i + 1) fs
 next_family fs i f within read = drop-cons fs i f within ∙ ap (λ x. x ∷ drop (suc i) fs) (sym read) ∙ ap (λ n. f ∷ drop n fs) (sym (add-one i))
 
 pub page_step : (place : Reading → Option Placed) (ms : List Marker) (fs : List Family) (i : ℕ) (f : Family) (metrics more : List Metric) (places own rest : List (Option Placed)) (groups after : List GroupedMarkers) (metric : Option Metric) (count : ℕ)
@@ -191,9 +187,8 @@ all_passed place ms fs i metrics places groups all are = record {
   groups_are = are.groups_are ∙ ap (λ l. marker_groups (filter_map (kind_metric place) l) ms) all;
 }
 
--- the metrics of an event: those of the page, and those of markers alone
-pub event_metrics_are : (place : Reading → Option Placed) (ms : List Marker) (page : Page) (fs : List Family) (metrics all : List Metric) (groups seen : List GroupedMarkers)
-    → fs ≡ page.families → ArePlacedMetrics place fs ms metrics groups → seen ≡ groups → all ≡ metrics ++ filter_map alone_metric seen → all ≡ event_metrics place ms page
-event_metrics_are place ms page fs metrics all groups seen same are told is =
+-- the metrics of an event: those of the families, and those of markers alone
+pub event_metrics_are : (place : Reading → Option Placed) (ms : List Marker) (fs : List Family) (metrics all : List Metric) (groups seen : List GroupedMarkers)
+    → ArePlacedMetrics place fs ms metrics groups → seen ≡ groups → all ≡ metrics ++ filter_map alone_metric seen → all ≡ event_metrics place ms (families_page fs)
+event_metrics_are place ms fs metrics all groups seen are told is =
     is ∙ (λ i. are.metrics_are i ++ filter_map alone_metric ((told ∙ are.groups_are) i)) ∙ ap (λ l. map (λ (p : Kind × Metric). with_markers ms p.0 p.1) (filter_map (kind_metric place) fs) ++ l) (alone_metrics (filter_map (kind_metric place) fs) ms)
-    ∙ ap (λ l. map (λ (p : Kind × Metric). with_markers ms p.0 p.1) (filter_map (kind_metric place) l) ++ marker_metrics (markers_left (filter_map (kind_metric place) l) ms)) same

@@ -45,16 +45,6 @@ identities_of : (placed : SeriesKey → Bool) (ms fs : List Marker) → map grou
 identities_of placed ms [] = refl
 identities_of placed ms (f ∷ fs) = ap (λ l. identity f ∷ l) (identities_of placed ms fs)
 
-any_map : (k : List ℕ) (fs : List Marker) → list_any (bytes_eq k) (map identity fs) ≡ list_any (λ f. bytes_eq k (identity f)) fs
-any_map k [] = refl
-any_map k (f ∷ fs) = ap (λ b. bytes_eq k (identity f) || b) (any_map k fs)
-
-any_first : (k : List ℕ) (ms : List Marker) → list_any (bytes_eq k) (map identity (firsts ms)) ≡ list_any (λ m. bytes_eq k (identity m)) ms
-any_first k ms = any_map k (firsts ms) ∙ grouping.any_firsts identity k ms
-
-any_turned : (m : Marker) (ms : List Marker) → list_any (λ x. bytes_eq (identity x) (identity m)) ms ≡ list_any (λ x. bytes_eq (identity m) (identity x)) ms
-any_turned m ms = λ i. list_any (λ x. nat_list_eq_equiv.symm (identity x) (identity m) i) ms
-
 -- ---- one marker more
 
 own_more : (f m : Marker) (ms : List Marker) → own f (ms ++ m ∷ []) ≡ own f ms ++ cond (bytes_eq (identity f) (identity m)) (m ∷ []) []
@@ -71,7 +61,7 @@ group_grown placed ms m x e = ap (λ l. record { first = x.key; markers = l; pla
 known_more : (ms : List Marker) (m : Marker) (at : ℕ) (d : GroupedMarkers) → slice_get (map identity (firsts ms)) at ≡ Some (identity m)
     → byte_groups (is_in []) (ms ++ m ∷ []) ≡ set (byte_groups (is_in []) ms) at (with_marker m (get_or (byte_groups (is_in []) ms) at d))
 known_more ms m at d e =
-    let there : list_any (λ x. bytes_eq (identity x) (identity m)) ms ≡ true = any_turned m ms ∙ sym (any_first (identity m) ms) ∙ among (map identity (firsts ms)) (identity m) at e in
+    let there : list_any (λ x. bytes_eq (identity x) (identity m)) ms ≡ true = grouping.any_turned identity m ms ∙ sym (grouping.any_first identity (identity m) ms) ∙ among (map identity (firsts ms)) (identity m) at e in
     ap (map (byte_group (is_in []) (ms ++ m ∷ []))) (grouping.firsts-snoc identity ms m ∙ ap (λ b. cond b (firsts ms) (firsts ms ++ m ∷ [])) there)
     ∙ grouping.one_changed identity (byte_group (is_in []) ms) (byte_group (is_in []) (ms ++ m ∷ [])) (with_marker m) (identity m)
     (group_kept (is_in []) ms m) (firsts ms) at d (group_grown (is_in []) ms m) (grouping.firsts_distinct identity ms) e
@@ -81,10 +71,10 @@ new_more : (ms : List Marker) (m : Marker) → list_any (bytes_eq (identity m)) 
 new_more ms m e =
     let f = byte_group (is_in []) ms in
     let g = byte_group (is_in []) (ms ++ m ∷ []) in
-    let none : list_any (λ x. bytes_eq (identity m) (identity x)) ms ≡ false = sym (any_first (identity m) ms) ∙ e in
+    let none : list_any (λ x. bytes_eq (identity m) (identity x)) ms ≡ false = sym (grouping.any_first identity (identity m) ms) ∙ e in
     let own_is : own m (ms ++ m ∷ []) ≡ m ∷ [] = own_more m m ms ∙ ap (λ b. own m ms ++ cond b (m ∷ []) []) ((bytes_decides (identity m) (identity m)).1 refl)
     ∙ ap (λ l. l ++ m ∷ []) (grouping.own_none identity (identity m) ms none) in
-    ap (map g) (grouping.firsts-snoc identity ms m ∙ ap (λ b. cond b (firsts ms) (firsts ms ++ m ∷ [])) (any_turned m ms ∙ none))
+    ap (map g) (grouping.firsts-snoc identity ms m ∙ ap (λ b. cond b (firsts ms) (firsts ms ++ m ∷ [])) (grouping.any_turned identity m ms ∙ none))
     ∙ map-append g (firsts ms) (m ∷ [])
     ∙ ap (λ l. l ++ g m ∷ []) (grouping.none_changed identity f g (with_marker m) (identity m) (group_kept (is_in []) ms m) (firsts ms) e)
     ∙ ap (λ l. map f (firsts ms) ++ record { first = m.key; markers = l; placed = false } ∷ []) own_is
@@ -151,7 +141,7 @@ module _ (before : List (Kind × Metric)) (kind : Kind) (metric : Metric) (ms : 
 
     pub absent_markers : list_any (bytes_eq (identity_bytes metric.name kind metric.unit)) (map group_identity groups) ≡ false → [] ≡ markers_of kind metric ms
     unfolding bytes
-    absent_markers e = sym (grouping.own_none identity bytes ms (sym (any_first bytes ms) ∙ sym (ap (list_any (bytes_eq bytes)) names) ∙ e)) ∙ own_by_bytes
+    absent_markers e = sym (grouping.own_none identity bytes ms (sym (grouping.any_first identity bytes ms) ∙ sym (ap (list_any (bytes_eq bytes)) names) ∙ e)) ∙ own_by_bytes
 
     pub absent_placed : list_any (bytes_eq (identity_bytes metric.name kind metric.unit)) (map group_identity groups) ≡ false → groups ≡ marker_groups (before ++ (kind, metric) ∷ []) ms
     unfolding bytes after

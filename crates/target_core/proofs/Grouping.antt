@@ -3,11 +3,11 @@ use Rattle.std.proofs.Common.{◌≡◌, ℕ, zero, suc, Bool, true, false, cond
 use Rattle.std.specs.Prelude.{slice_get}
 use Rattle.std.specs.List.{IsDistinct, AllByRecursion, list_any}
 use Rattle.std.specs.Str.{bytes_eq}
-use Rattle.std.specs.Cmp.Lexicographic.{bytes_decides}
+use Rattle.std.specs.Cmp.Lexicographic.{bytes_decides, nat_list_eq_equiv}
 use Rattle.std.proofs.lemmas.List.{append-nil}
 use Rattle.std.proofs.lemmas.List.Elements.{filter-append}
 use Rattle.label_sets.specs.Lists.{first_of_each}
-use Rattle.label_sets.proofs.Laws.{distinct_kept, bytes_eq-swap}
+use Rattle.label_sets.proofs.Laws.{any-map, distinct_kept, bytes_eq-swap}
 
 module _ {A : Type 0} (id : A → List ℕ) where
   -- two values have one key
@@ -55,6 +55,13 @@ module _ {A : Type 0} (id : A → List ℕ) where
           → (b || list_any (λ z. bytes_eq k (id z)) (filter (λ z. not (same x z)) (firsts xs))) ≡ (b || list_any (λ z. bytes_eq k (id z)) xs)
       by true e ih = refl
       by false e ih = any_without k x (firsts xs) e ∙ ih
+
+  -- a key is among those of the firsts where it is among those of all
+  pub any_first : (k : List ℕ) (xs : List A) → list_any (bytes_eq k) (map id (firsts xs)) ≡ list_any (λ x. bytes_eq k (id x)) xs
+  any_first k xs = any-map (bytes_eq k) id (firsts xs) ∙ any_firsts k xs
+
+  pub any_turned : (y : A) (xs : List A) → list_any (λ x. same x y) xs ≡ list_any (λ x. bytes_eq (id y) (id x)) xs
+  any_turned y xs = λ i. list_any (λ x. nat_list_eq_equiv.symm (id x) (id y) i) xs
 
   -- where no value has the key, no values are its own
   pub own_none : (k : List ℕ) (xs : List A) → list_any (λ z. bytes_eq k (id z)) xs ≡ false → filter (λ z. bytes_eq k (id z)) xs ≡ []

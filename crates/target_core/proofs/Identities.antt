@@ -40,7 +40,7 @@ told (b ∷ name) (c ∷ other) k l unit measure e =
     record { name_is = ap (λ x. x ∷ name) first ∙ ap (λ xs. c ∷ xs) t.name_is; kind_is = t.kind_is; unit_is = t.unit_is }
 
 -- names, kinds and units are equal just where their bytes are
-by_bytes : (name other : List ℕ) (k l : Kind) (unit measure : List ℕ) → (bytes_eq name other && kind_eq k l && bytes_eq unit measure) ≡ bytes_eq (identity_bytes name k unit) (identity_bytes other l measure)
+pub by_bytes : (name other : List ℕ) (k l : Kind) (unit measure : List ℕ) → (bytes_eq name other && kind_eq k l && bytes_eq unit measure) ≡ bytes_eq (identity_bytes name k unit) (identity_bytes other l measure)
 unfolding identity_bytes marked
 by_bytes name other k l unit measure = same_tests (bytes_eq name other && kind_eq k l && bytes_eq unit measure) (bytes_eq (identity_bytes name k unit) (identity_bytes other l measure))
     (λ e. let all = and_parts (bytes_eq name other && kind_eq k l) (bytes_eq unit measure) e in

@@ -1,5 +1,5 @@
 -- What a function gives of the values of a list, one after the other.
-use Rattle.std.proofs.Common.{rules, ◌≡◌, ℕ, ◌+◌, ◌<◌, ap, sym, ◌∙◌, List, [], ◌∷◌, ◌++◌, Option, Some, None, option_and_then, length, take, get_or, map, add-one, ◌⊎◌, inl, inr}
+use Rattle.std.proofs.Common.{rules, ◌≡◌, ℕ, ◌+◌, ◌<◌, ap, sym, ◌∙◌, List, [], ◌∷◌, ◌++◌, Option, Some, None, option_and_then, length, take, get_or, add-one, ◌⊎◌, inl, inr}
 use Rattle.std.specs.List.{filter_map, cons_option, zip}
 use Rattle.std.proofs.Math.Seq.{take-suc}
 use Rattle.std.proofs.lemmas.List.{append-nil, append_assoc}

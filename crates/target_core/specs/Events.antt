@@ -8,17 +8,17 @@ use Rattle.page_model.specs.declared.event.Outcome.{Outcome}
 use Rattle.page_model.specs.declared.event.Event.{Event}
 use Rattle.page_model.specs.declared.event.Shown.{Shown}
 use Rattle.page_model.specs.Presence.{filled_page}
-use Rattle.start_times.specs.declared.row.Row.{Row}
 use Rattle.start_times.specs.declared.row.Placed.{Placed}
 use Rattle.start_times.specs.declared.row.Placed.TheVariants.{At}
-use Rattle.start_times.specs.Scrapes.{Scrape, last_moment, last_page, scrape_after, scrapes_of}
+use Rattle.start_times.specs.Scrapes.{Scrape, last_moment, last_page, scrapes_of}
 use Rattle.start_times.specs.Starts.{Tracking, has_points, time_where, created_at, reading_place, start_there}
-use Rattle.start_times.specs.Rows.{kept_start}
 use Rattle.staleness.specs.Vanished.{keys_gone}
 use Rattle.otlp_tree.specs.declared.tree.Request.{Request}
 use Rattle.bridge_ports.specs.Targets.{Scraped}
 use Rattle.target_core.specs.declared.markers.Marker.{Marker}
-use Rattle.target_core.specs.Trees.{request_with}
+use Rattle.target_core.specs.Thinned.{without_exemplars}
+use Rattle.target_core.specs.Stretches.{attributes_after, resource_attributes, goes_on, moment_of, stretch_scrape, stretch_of, closing_scrape}
+use Rattle.target_core.specs.Trees.{gone_part, request_with}
 
 -- the marker of a series that is gone, with the start that it had, but none after the marker's time
 unfoldable pub marker_with : (SeriesKey → Option ℕ) → ℕ → SeriesKey → Marker
@@ -28,29 +28,40 @@ marker_with start moment key = record { key = key; start = option_map (min momen
 abbrev pub markers_at : Tracking → List Scrape → Scrape → List Marker
 markers_at t past now = map (marker_with (start_there t past) now.moment) (keys_gone t (last_page past) now.page)
 
--- the markers of the series that the page before has and the page now lacks, with the starts that these rows keep
-abbrev pub kept_markers : Tracking → List (SeriesKey × Row) → ℕ → Page → Page → List Marker
-kept_markers t rows moment before now = map (marker_with (kept_start rows) moment) (keys_gone t before now)
+-- the tree of an event that leaves the attributes of its target as they were: its page and its markers are read behind the scrapes since these last changed
+abbrev pub request_within : Scraped → Tracking → List Event → Event → Request
+request_within target t earlier e =
+    let past = stretch_of earlier in
+    let now = stretch_scrape earlier e in
+    request_with target (resource_attributes (e ∷ earlier)) (reading_place t past now.moment) (markers_at t past now) now.moment e.outcome []
+
+-- the tree of an event that changes them: its page has no past, and all series of the scrape before are gone, under the attributes before
+abbrev pub request_at_change : Scraped → Tracking → List Event → Event → Request
+request_at_change target t earlier e =
+    let moment = moment_of earlier e in
+    request_with target (resource_attributes (e ∷ earlier)) (reading_place t [] moment) [] moment e.outcome
+    (gone_part target (resource_attributes earlier) (markers_at t (stretch_of earlier) (closing_scrape earlier e)))
 
 -- the tree of an event behind these earlier events
 unfoldable pub request_after : Scraped → Tracking → List Event → Event → Request
-request_after target t earlier e =
-    let past = scrapes_of earlier in
-    let now = scrape_after past e in
-    request_with target (reading_place t past now.moment) (markers_at t past now) now.moment e.outcome
+request_after target t earlier e = if goes_on earlier e then request_within target t earlier e else request_at_change target t earlier e
 
 -- the trees of all these events, the last first
 abbrev pub requests_of : Scraped → Tracking → List Event → List Request
 requests_of target t [] = []
 requests_of target t (e ∷ earlier) = request_after target t earlier e ∷ requests_of target t earlier
 
--- what a target shows behind these events: the page of the last one without the families that have no reading, and its moment
+-- a page as it is shown: without its exemplars, and without the families that have no reading
+abbrev pub shown_page : Page → Page
+shown_page page = filled_page (without_exemplars page)
+
+-- what a target shows behind these events: the page of the last one, and its moment
 unfoldable pub latest_shown : Scraped → List Event → Shown
 latest_shown target events = record {
   job = target.job;
   instance = target.instance;
   moment = last_moment (scrapes_of events);
-  page = filled_page (last_page (scrapes_of events));
+  page = shown_page (last_page (scrapes_of events));
 }
 
 -- ---- the first event
@@ -63,4 +74,4 @@ first_place honor moment r =
 
 -- the tree of the event of a target without a past, at this moment
 unfoldable pub event_request : Scraped → ℕ → Outcome → Request
-event_request target moment outcome = request_with target (first_place target.honor moment) [] moment outcome
+event_request target moment outcome = request_with target (attributes_after [] outcome) (first_place target.honor moment) [] moment outcome []

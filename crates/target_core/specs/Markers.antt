@@ -15,20 +15,21 @@ use Rattle.otlp_tree.specs.declared.tree.NumberPoint.{NumberPoint}
 use Rattle.otlp_tree.specs.declared.tree.HistogramPoint.{HistogramPoint}
 use Rattle.otlp_tree.specs.declared.tree.SummaryPoint.{SummaryPoint}
 use Rattle.target_core.specs.declared.markers.Marker.{Marker}
+use Rattle.target_core.specs.Scopes.{point_labels}
 
 -- ---- points without a recorded value
 
 -- of a gauge or a sum
 unfoldable pub number_marker : Marker → NumberPoint
-number_marker m = record { labels = m.key.labels; start = m.start; time = m.time; value = None }
+number_marker m = record { labels = point_labels m.key.labels; start = m.start; time = m.time; value = None; exemplars = [] }
 
 -- of a histogram
 unfoldable pub histogram_marker : Marker → HistogramPoint
-histogram_marker m = record { labels = m.key.labels; start = unwrap_or m.start m.time; time = m.time; value = None }
+histogram_marker m = record { labels = point_labels m.key.labels; start = unwrap_or m.start m.time; time = m.time; value = None; exemplars = [] }
 
 -- of a summary
 unfoldable pub summary_marker : Marker → SummaryPoint
-summary_marker m = record { labels = m.key.labels; start = unwrap_or m.start m.time; time = m.time; value = None }
+summary_marker m = record { labels = point_labels m.key.labels; start = unwrap_or m.start m.time; time = m.time; value = None }
 
 -- points with those of markers behind them
 abbrev pub shape_with : List Marker → Shape → Shape

@@ -6,7 +6,6 @@ use Rattle.label_sets.specs.declared.kind.Kind.{Kind}
 use Rattle.page_model.specs.declared.page.Reading.{Reading}
 use Rattle.page_model.specs.declared.page.Family.{Family}
 use Rattle.page_model.specs.declared.page.Page.{Page}
-use Rattle.page_model.specs.Presence.{all_readings}
 use Rattle.otlp_tree.specs.declared.tree.Metric.{Metric}
 use Rattle.start_times.specs.declared.row.Placed.{Placed}
 use Rattle.target_core.specs.declared.markers.Marker.{Marker}
@@ -14,9 +13,13 @@ use Rattle.target_core.specs.Markers.{with_markers}
 use Rattle.target_core.specs.MarkerGroups.{GroupedMarkers, marker_groups}
 use Rattle.target_core.specs.Trees.{family_metric, kind_metric}
 
--- this holds of the places and the markers that the past gives, where these are the places of all readings of a page, and these the groups of the markers
-abbrev pub WherePastGives : Page → List (Option Placed) → List GroupedMarkers → ((Reading → Option Placed) → List Marker → Type 0) → Type 0
-WherePastGives page places groups P = (place : Reading → Option Placed) (ms : List Marker) → places ≡ map place (all_readings page) → groups ≡ marker_groups [] ms → P place ms
+-- the readings of families, in order
+abbrev pub family_readings : List Family → List Reading
+family_readings fs = flat_map (λ (f : Family). f.readings) fs
+
+-- a page of these families
+abbrev pub families_page : List Family → Page
+families_page fs = record { families = fs; samples = 0 }
 
 -- ---- one family
 
@@ -40,4 +43,4 @@ pub record ArePlacedMetrics (place : Reading → Option Placed) (fs : List Famil
 -- with these places of their readings and these groups families come to these metrics and the groups behind them
 abbrev pub PlacesMetrics : List Family → List (Option Placed) → List GroupedMarkers → List Metric → List GroupedMarkers → Type 0
 PlacesMetrics fs places groups metrics after = (place : Reading → Option Placed) (ms : List Marker)
-    → places ≡ map place (flat_map (λ (f : Family). f.readings) fs) → groups ≡ marker_groups [] ms → ArePlacedMetrics place fs ms metrics after
+    → places ≡ map place (family_readings fs) → groups ≡ marker_groups [] ms → ArePlacedMetrics place fs ms metrics after

@@ -1,13 +1,16 @@
 //! The points of readings and of markers, in the forms of their kinds.
 ghost use Rattle.std.specs.Prelude.{◌≡◌, Option, IfOk};
 ghost use Rattle.target_core.specs.Points as spec;
-ghost use Rattle.target_core.specs.Points.{MayBeLaidOut};
+ghost use Rattle.target_core.specs.Points.{MayBeLaidOut, MayBeScoped};
+ghost use Rattle.target_core.specs.Scopes as scopes;
 ghost use Rattle.target_core.specs.Markers as markers;
 
 use crate::markers::Marker;
+use crate::scopes::point_labels;
+use crate::shots::shots;
 use exact_decimal::Number;
 use histogram_layout::layout;
-use label_sets::{Kind, Memory};
+use label_sets::{Kind, LabelSet, List, Memory};
 use otlp_tree::{HistogramPoint, HistogramValue, NumberPoint, SummaryPoint, SummaryValue};
 use page_model::{Reading, Value};
 use start_times::has_start;
@@ -15,25 +18,29 @@ use std::alloc::Global;
 
 /// A form of points, in which a reading has one where its value is of that kind, and each marker has one.
 pub(crate) trait PointForm: Sized {
-    ghost use Rattle.target_core.specs.Points.{Point, point_at, MayBeLaidOut};
+    ghost use Rattle.target_core.specs.Points.{Point, point_at, MayBeLaidOut, MayBeScoped};
     ghost use Rattle.target_core.specs.declared.markers.Marker.{Marker as Gone};
 
     ghost form_of: { Point → Option Self };
 
     ghost marked_by: { Gone → Self };
 
-    /// The point of a reading that is taken at a time, in this form, where it has one. Its labels and lists are shared.
+    /// The point of a reading that is taken at a time, in this form, where it has one. Its labels and lists are shared,
+    /// but for labels that name a scope and exemplars; `scoped` says whether labels may name one.
     fn from_reading(
         alloc: Global,
+        scoped: bool,
         time: u64,
         start: u64,
         reading: &Reading,
     ) -> Result<Option<Self>, Memory>
-        requires { MayBeLaidOut reading.now.value }
+        requires layout { MayBeLaidOut reading.now.value }
+        requires scope { MayBeScoped scoped reading.now.key.labels }
         ensures { IfOk result (λ form. form ≡ form_of (point_at time start reading.now)) };
 
-    /// The point of a marker in this form: it has no value. Its labels are shared.
-    fn from_marker(marker: &Marker) -> Result<Self, Memory>
+    /// The point of a marker in this form: it has no value and no exemplars. Its labels are shared, but for those that
+    /// name a scope.
+    fn from_marker(alloc: Global, marker: &Marker) -> Result<Self, Memory>
         ensures { IfOk result (λ form. form ≡ marked_by marker.now) };
 }
 
@@ -42,6 +49,18 @@ fn start_for(kind: Kind, start: u64) -> Option<u64>
     ensures { result ≡ spec.start_for kind start }
 {
     if has_start(kind) { Some(start) } else { None }
+}
+
+/// The labels of the points of a series, where `scoped` says whether its labels may name a scope.
+fn reading_labels(alloc: Global, scoped: bool, labels: &LabelSet) -> Result<LabelSet, Memory>
+    requires scope { MayBeScoped scoped labels.now }
+    ensures { IfOk result (λ left. left ≡ scopes.point_labels labels.now) }
+{
+    if scoped {
+        point_labels(alloc, labels)
+    } else {
+        labels.copy()
+    }
 }
 
 /// The number of a value that is one.
@@ -62,7 +81,8 @@ impl PointForm for NumberPoint {
 
     #[tactic(auto, unfolding(crate::specs::Points::number_point, crate::specs::Points::point_at))]
     fn from_reading(
-        _alloc: Global,
+        alloc: Global,
+        scoped: bool,
         time: u64,
         start: u64,
         reading: &Reading,
@@ -70,21 +90,25 @@ impl PointForm for NumberPoint {
         let Some(number) = plain_number(&reading.value) else {
             return Ok(None);
         };
+        let labels = reading_labels(alloc, scoped, &reading.key.labels)?;
+        let exemplars = shots(alloc, time, reading.exemplars.as_slice())?;
         Ok(Some(NumberPoint {
-            labels: reading.key.labels.copy()?,
+            labels,
             start: start_for(reading.key.kind, start),
             time,
             value: Some(number),
+            exemplars,
         }))
     }
 
     #[tactic(auto, unfolding(crate::specs::Markers::number_marker))]
-    fn from_marker(marker: &Marker) -> Result<Self, Memory> {
+    fn from_marker(alloc: Global, marker: &Marker) -> Result<Self, Memory> {
         Ok(NumberPoint {
-            labels: marker.key.labels.copy()?,
+            labels: point_labels(alloc, &marker.key.labels)?,
             start: marker.start,
             time: marker.time,
             value: None,
+            exemplars: List::new(alloc),
         })
     }
 }
@@ -92,7 +116,7 @@ impl PointForm for NumberPoint {
 /// The histogram of a value that has buckets.
 #[tactic(auto, unfolding(crate::specs::Points::histogram_in, start_times::specs::Starts::cumulative_layout))]
 fn histogram_in(alloc: Global, value: &Value) -> Result<Option<HistogramValue>, Memory>
-    requires { MayBeLaidOut value.now }
+    requires layout { MayBeLaidOut value.now }
     ensures { IfOk result (λ histogram. histogram ≡ spec.histogram_in value.now) }
 {
     let Value::Buckets { buckets, sum } = value else {
@@ -110,6 +134,7 @@ impl PointForm for HistogramPoint {
     #[tactic(auto, unfolding(crate::specs::Points::histogram_point, crate::specs::Points::point_at))]
     fn from_reading(
         alloc: Global,
+        scoped: bool,
         time: u64,
         start: u64,
         reading: &Reading,
@@ -117,21 +142,25 @@ impl PointForm for HistogramPoint {
         let Some(histogram) = histogram_in(alloc, &reading.value)? else {
             return Ok(None);
         };
+        let labels = reading_labels(alloc, scoped, &reading.key.labels)?;
+        let exemplars = shots(alloc, time, reading.exemplars.as_slice())?;
         Ok(Some(HistogramPoint {
-            labels: reading.key.labels.copy()?,
+            labels,
             start: start_for(reading.key.kind, start).unwrap_or(time),
             time,
             value: Some(histogram),
+            exemplars,
         }))
     }
 
     #[tactic(auto, unfolding(crate::specs::Markers::histogram_marker))]
-    fn from_marker(marker: &Marker) -> Result<Self, Memory> {
+    fn from_marker(alloc: Global, marker: &Marker) -> Result<Self, Memory> {
         Ok(HistogramPoint {
-            labels: marker.key.labels.copy()?,
+            labels: point_labels(alloc, &marker.key.labels)?,
             start: marker.start.unwrap_or(marker.time),
             time: marker.time,
             value: None,
+            exemplars: List::new(alloc),
         })
     }
 }
@@ -159,7 +188,8 @@ impl PointForm for SummaryPoint {
 
     #[tactic(auto, unfolding(crate::specs::Points::summary_point, crate::specs::Points::point_at))]
     fn from_reading(
-        _alloc: Global,
+        alloc: Global,
+        scoped: bool,
         time: u64,
         start: u64,
         reading: &Reading,
@@ -168,7 +198,7 @@ impl PointForm for SummaryPoint {
             return Ok(None);
         };
         Ok(Some(SummaryPoint {
-            labels: reading.key.labels.copy()?,
+            labels: reading_labels(alloc, scoped, &reading.key.labels)?,
             start: start_for(reading.key.kind, start).unwrap_or(time),
             time,
             value: Some(summary),
@@ -176,9 +206,9 @@ impl PointForm for SummaryPoint {
     }
 
     #[tactic(auto, unfolding(crate::specs::Markers::summary_marker))]
-    fn from_marker(marker: &Marker) -> Result<Self, Memory> {
+    fn from_marker(alloc: Global, marker: &Marker) -> Result<Self, Memory> {
         Ok(SummaryPoint {
-            labels: marker.key.labels.copy()?,
+            labels: point_labels(alloc, &marker.key.labels)?,
             start: marker.start.unwrap_or(marker.time),
             time: marker.time,
             value: None,

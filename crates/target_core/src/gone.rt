@@ -1,10 +1,9 @@
 //! The markers of series that are gone.
-ghost use Rattle.std.specs.Prelude.{◌≡◌, ℕ, [], Option, None, map, min, option_map, get_or, IfOk};
+ghost use Rattle.std.specs.Prelude.{◌≡◌, ℕ, Option, None, map, min, option_map, get_or, IfOk};
 ghost use Rattle.label_sets.specs.declared.series_key.SeriesKey.{SeriesKey as AnyKey};
 ghost use Rattle.target_core.specs.Events.{marker_with};
-ghost use Rattle.target_core.specs.MarkerGroups.{marker_groups};
 
-use crate::markers::{Marker, MarkerGroups};
+use crate::markers::Marker;
 use label_sets::{Memory, SeriesKey};
 use std::alloc::Global;
 
@@ -28,24 +27,24 @@ fn start_by(starts: &[Option<u64>], place: usize, moment: u64) -> Option<u64>
     }
 }
 
-/// The markers of series that are gone, with their starts, by their metrics. No marker has a start after its time.
-pub(crate) fn gather(
+/// The markers of series that are gone, with their starts. No marker has a start after its time.
+pub(crate) fn markers_of(
     alloc: Global,
     gone: &[SeriesKey],
     starts: &[Option<u64>],
     moment: u64,
-) -> Result<MarkerGroups, Memory>
+) -> Result<Vec<Marker>, Memory>
     ensures { (start : AnyKey → Option ℕ) → starts.now ≡ map start gone.now
-        → IfOk result (λ groups. groups ≡ marker_groups [] (map (marker_with start moment) gone.now)) }
+        → IfOk result (λ markers. markers.items ≡ map (marker_with start moment) gone.now) }
 {
-    let mut groups = MarkerGroups::new(alloc);
+    let mut markers = Vec::with_capacity(alloc, gone.len())?;
     for (place, key) in gone.iter().enumerate() {
         let marker = Marker {
             key: key.copy()?,
             start: start_by(starts, place, moment),
             time: moment,
         };
-        groups.add(alloc, marker)?;
+        markers.push(marker)?;
     }
-    Ok(groups)
+    Ok(markers)
 }

@@ -1,14 +1,12 @@
 //! Series that are gone, by the metrics that they belong to.
-ghost use Rattle.std.specs.Prelude.{◌≡◌, ◌<◌, ◌++◌, ◌∷◌, [], List, length, IfOk, OnOk, OnErr, IfSome, get_or, false};
+ghost use Rattle.std.specs.Prelude.{◌≡◌, ◌<◌, ◌++◌, ◌∷◌, [], List, length, IfOk, OnOk, OnErr, IfSome, get_or};
 ghost use Rattle.std.specs.Option.{option_map_or};
-ghost use Rattle.std.specs.List.{list_any};
-ghost use Rattle.std.specs.Str.{bytes_eq};
 ghost use Rattle.target_core.specs.declared.markers.Marker.{Marker as AnyMarker};
 ghost use Rattle.target_core.specs.MarkerGroups.{marker_groups, identity_bytes, no_group, first_group, with_marker, placed_group, placed_at, IsPlaceOf};
 
+use crate::keyed::{pack, push_keyed};
 use byte_table::ByteTable;
 use label_sets::{Kind, Memory, SeriesKey};
-use packed_keys::kind_byte;
 use std::alloc::Global;
 use std::marker::Model;
 
@@ -93,41 +91,6 @@ impl MarkerGroup {
     }
 }
 
-/// Packs name, kind and unit of a metric in a room, in place of what it had.
-#[tactic(auto, unfolding(crate::specs::MarkerGroups::identity_bytes))]
-fn pack(room: &mut Vec<u8>, name: &[u8], kind: Kind, unit: &[u8]) -> Result<(), Memory>
-    ensures { OnOk result (room.new.items ≡ identity_bytes name.now kind unit.now) }
-{
-    room.clear();
-    for byte in name {
-        room.push(1)?;
-        room.push(*byte)?;
-    }
-    room.push(0)?;
-    room.push(kind_byte(kind))?;
-    room.extend_from_slice(unit)?;
-    Ok(())
-}
-
-/// Puts a group behind the others, whose metric has no other.
-fn push_group(
-    identities: &mut ByteTable,
-    groups: &mut Vec<MarkerGroup>,
-    identity: &[u8],
-    group: MarkerGroup,
-) -> Result<(), Memory>
-    requires { list_any (bytes_eq identity.now) identities.old ≡ false }
-    ensures identities { OnOk result (identities.new ≡ identities.old ++ identity.now ∷ []) }
-    ensures groups { OnOk result (groups.new.items ≡ groups.old.items ++ group ∷ []) }
-    ensures err { OnErr result ((identities.new ≡ identities.old) × (groups.new.items ≡ groups.old.items)) }
-{
-    // So that nothing can fail behind the identity.
-    groups.reserve(1)?;
-    identities.insert(identity)?;
-    groups.push(group).unwrap();
-    Ok(())
-}
-
 /// Markers by their metrics, in the order of their first markers. A metric is found by its bytes.
 #[derive(Drop)]
 pub(crate) struct MarkerGroups {
@@ -151,7 +114,7 @@ impl Model for MarkerGroups {
 
 impl MarkerGroups {
     /// No markers. It takes no memory.
-    pub(crate) fn new(alloc: Global) -> MarkerGroups
+    fn new(alloc: Global) -> MarkerGroups
         ensures { result ≡ [] }
     {
         MarkerGroups {
@@ -159,6 +122,17 @@ impl MarkerGroups {
             groups: Vec::new(alloc),
             packed: Vec::new(alloc),
         }
+    }
+
+    /// These markers by their metrics.
+    pub(crate) fn of(alloc: Global, markers: Vec<Marker>) -> Result<MarkerGroups, Memory>
+        ensures { IfOk result (λ groups. groups ≡ marker_groups [] markers.items) }
+    {
+        let mut groups = MarkerGroups::new(alloc);
+        for marker in markers {
+            groups.add(alloc, marker)?;
+        }
+        Ok(groups)
     }
 
     /// The groups in order.
@@ -186,7 +160,7 @@ impl MarkerGroups {
     }
 
     /// Puts a marker behind those of its metric.
-    pub(crate) fn add(&mut self, alloc: Global, marker: Marker) -> Result<(), Memory>
+    fn add(&mut self, alloc: Global, marker: Marker) -> Result<(), Memory>
         ensures { OnOk result ((ms : List AnyMarker) → self.old ≡ marker_groups [] ms → self.new ≡ marker_groups [] (ms ++ marker ∷ [])) }
     {
         let key = &marker.key;
@@ -200,7 +174,7 @@ impl MarkerGroups {
             Some(place) => self.groups[place].add(marker)?,
             None => {
                 let group = MarkerGroup::of(alloc, marker)?;
-                push_group(
+                push_keyed(
                     &mut self.identities,
                     &mut self.groups,
                     self.packed.as_slice(),

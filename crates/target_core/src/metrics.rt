@@ -3,7 +3,7 @@ ghost use Rattle.std.specs.Prelude.{◌≡◌, ◌++◌, Option, map, filter_map
 ghost use Rattle.page_model.specs.declared.page.Reading.{Reading as AnyReading};
 ghost use Rattle.start_times.specs.declared.row.Placed.{Placed as AnyPlaced};
 ghost use Rattle.target_core.specs.Points as spec;
-ghost use Rattle.target_core.specs.Points.{MayBeLaidOut, MayAllBeLaidOut};
+ghost use Rattle.target_core.specs.Points.{MayBeLaidOut, MayAllBeLaidOut, MayBeScoped, MayAllBeScoped};
 ghost use Rattle.target_core.specs.Markers as marks;
 ghost use Rattle.target_core.specs.MarkerGroups as grouped;
 ghost use Rattle.target_core.specs.Trees as trees;
@@ -19,10 +19,12 @@ use std::alloc::Global;
 /// The point of a reading at its place in this form, where it has one.
 fn placed_point<F: PointForm + Drop>(
     alloc: Global,
+    scoped: bool,
     place: Option<Placed>,
     reading: &Reading,
 ) -> Result<Option<F>, Memory>
-    requires { MayBeLaidOut reading.now.value }
+    requires layout { MayBeLaidOut reading.now.value }
+    requires scope { MayBeScoped scoped reading.now.key.labels }
     ensures { IfOk result (λ point. point ≡ option_and_then F.form_of (spec.point_in place reading.now)) }
 {
     let Some(place) = place else {
@@ -30,22 +32,24 @@ fn placed_point<F: PointForm + Drop>(
     };
     match place {
         Placed::Late => Ok(None),
-        Placed::At { time, start } => F::from_reading(alloc, time, start, reading),
+        Placed::At { time, start } => F::from_reading(alloc, scoped, time, start, reading),
     }
 }
 
 /// The points of readings with these places, where they have this form.
 fn all_points<F: PointForm + Drop>(
     alloc: Global,
+    scoped: bool,
     readings: &[Reading],
     places: &[Option<Placed>],
 ) -> Result<Vec<F>, Memory>
-    requires { MayAllBeLaidOut readings.now }
+    requires layout { MayAllBeLaidOut readings.now }
+    requires scope { MayAllBeScoped scoped readings.now }
     ensures { IfOk result (λ points. points.items ≡ filter_map F.form_of (spec.points_with readings.now places.now)) }
 {
     let mut points = Vec::with_capacity(alloc, readings.len())?;
     for (reading, place) in readings.iter().zip(places) {
-        if let Some(point) = placed_point(alloc, *place, reading)? {
+        if let Some(point) = placed_point(alloc, scoped, *place, reading)? {
             points.push(point)?;
         }
     }
@@ -53,11 +57,15 @@ fn all_points<F: PointForm + Drop>(
 }
 
 /// Puts the points of markers behind others.
-fn push_markers<F: PointForm + Drop>(points: &mut Vec<F>, markers: &[Marker]) -> Result<(), Memory>
+fn push_markers<F: PointForm + Drop>(
+    alloc: Global,
+    points: &mut Vec<F>,
+    markers: &[Marker],
+) -> Result<(), Memory>
     ensures { OnOk result (points.new.items ≡ points.old.items ++ map F.marked_by markers.now) }
 {
     for marker in markers {
-        let point = F::from_marker(marker)?;
+        let point = F::from_marker(alloc, marker)?;
         points.push(point)?;
     }
     Ok(())
@@ -66,19 +74,21 @@ fn push_markers<F: PointForm + Drop>(points: &mut Vec<F>, markers: &[Marker]) ->
 /// The points of readings with these places, and behind them those of markers, where a reading has one.
 fn points<F: PointForm + Drop>(
     alloc: Global,
+    scoped: bool,
     readings: &[Reading],
     places: &[Option<Placed>],
     markers: &[Marker],
 ) -> Result<Option<List<F>>, Memory>
-    requires { MayAllBeLaidOut readings.now }
+    requires layout { MayAllBeLaidOut readings.now }
+    requires scope { MayAllBeScoped scoped readings.now }
     ensures { IfOk result (λ points. points ≡ option_map (λ ps. ps ++ map F.marked_by markers.now)
         (trees.some_of F.form_of (spec.points_with readings.now places.now))) }
 {
-    let mut points = all_points(alloc, readings, places)?;
+    let mut points = all_points(alloc, scoped, readings, places)?;
     if points.is_empty() {
         return Ok(None);
     }
-    push_markers(&mut points, markers)?;
+    push_markers(alloc, &mut points, markers)?;
     let points = List::from_vec(points)?;
     Ok(Some(points))
 }
@@ -87,32 +97,36 @@ fn points<F: PointForm + Drop>(
 #[tactic(auto, unfolding(crate::specs::Trees::shape_of))]
 fn shape(
     alloc: Global,
+    scoped: bool,
     kind: Kind,
     readings: &[Reading],
     places: &[Option<Placed>],
     markers: &[Marker],
 ) -> Result<Option<Shape>, Memory>
-    requires { MayAllBeLaidOut readings.now }
+    requires layout { MayAllBeLaidOut readings.now }
+    requires scope { MayAllBeScoped scoped readings.now }
     ensures { IfOk result (λ shape. shape ≡ option_map (marks.shape_with markers.now)
         (trees.shape_of kind (spec.points_with readings.now places.now))) }
 {
     Ok(match kind {
         Kind::Counter => {
-            points(alloc, readings, places, markers)?.map(|points| Shape::Sum {
+            points(alloc, scoped, readings, places, markers)?.map(|points| Shape::Sum {
                 points,
                 monotonic: true,
             })
         }
         Kind::Info | Kind::StateSet => {
-            points(alloc, readings, places, markers)?.map(|points| Shape::Sum {
+            points(alloc, scoped, readings, places, markers)?.map(|points| Shape::Sum {
                 points,
                 monotonic: false,
             })
         }
-        Kind::Histogram => { points(alloc, readings, places, markers)?.map(Shape::Histogram) }
-        Kind::Summary => points(alloc, readings, places, markers)?.map(Shape::Summary),
+        Kind::Histogram => {
+            points(alloc, scoped, readings, places, markers)?.map(Shape::Histogram)
+        }
+        Kind::Summary => points(alloc, scoped, readings, places, markers)?.map(Shape::Summary),
         Kind::Gauge | Kind::Unknown => {
-            points(alloc, readings, places, markers)?.map(Shape::Gauge)
+            points(alloc, scoped, readings, places, markers)?.map(Shape::Gauge)
         }
         Kind::GaugeHistogram => None,
     })
@@ -146,11 +160,13 @@ fn named(first: &SeriesKey, description: Text, shape: Shape) -> Result<Metric, M
 #[tactic(auto, unfolding(crate::specs::Markers::metric_with))]
 pub(crate) fn family_metric(
     alloc: Global,
+    scoped: bool,
     family: &Family,
     places: &[Option<Placed>],
     markers: &[Marker],
 ) -> Result<Option<Metric>, Memory>
-    requires { MayAllBeLaidOut family.now.readings }
+    requires layout { MayAllBeLaidOut family.now.readings }
+    requires scope { MayAllBeScoped scoped family.now.readings }
     ensures { (place : AnyReading → Option AnyPlaced) → places.now ≡ map place family.now.readings
         → IfOk result (λ metric. metric ≡ trees.family_metric_with markers.now place family.now) }
 {
@@ -158,7 +174,7 @@ pub(crate) fn family_metric(
     let Some(first) = readings.first() else {
         return Ok(None);
     };
-    let Some(shape) = shape(alloc, family.kind, readings, places, markers)? else {
+    let Some(shape) = shape(alloc, scoped, family.kind, readings, places, markers)? else {
         return Ok(None);
     };
     let description = family.help.copy()?;
@@ -171,7 +187,7 @@ fn marker_points<F: PointForm + Drop>(alloc: Global, markers: &[Marker]) -> Resu
     ensures { IfOk result (λ points. points ≡ map F.marked_by markers.now) }
 {
     let mut points = Vec::with_capacity(alloc, markers.len())?;
-    push_markers(&mut points, markers)?;
+    push_markers(alloc, &mut points, markers)?;
     let points = List::from_vec(points)?;
     Ok(points)
 }

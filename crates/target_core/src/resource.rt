@@ -4,7 +4,7 @@ ghost use Rattle.target_core.specs.Trees as trees;
 ghost use Rattle.otlp_tree.specs.declared.tree.AttributeValue.TheVariants.{Str, Int};
 
 use bridge_ports::Target;
-use label_sets::{Memory, Text};
+use label_sets::{Label, LabelSet, Memory, Text};
 use otlp_tree::{Attribute, AttributeValue};
 use std::alloc::Global;
 
@@ -25,6 +25,18 @@ fn number_attribute(alloc: Global, key: &str, value: u64) -> Result<Attribute, M
     Ok(Attribute {
         key: Text::from_str(alloc, key)?,
         value: AttributeValue::Int(value),
+    })
+}
+
+/// A label as an attribute; its texts are shared.
+fn label_attribute(label: &Label) -> Result<Attribute, Memory>
+    ensures { IfOk result (λ a. a ≡ record { key = label.now.name; value = Str label.now.value }) }
+{
+    let key = label.name.copy()?.into_text();
+    let value = label.value.copy()?;
+    Ok(Attribute {
+        key,
+        value: AttributeValue::Str(value),
     })
 }
 
@@ -54,13 +66,27 @@ fn push_number(
     Ok(())
 }
 
-/// The attributes of the target that was scraped.
+/// Puts labels, as attributes, behind the others.
+fn push_labels(attributes: &mut Vec<Attribute>, labels: &LabelSet) -> Result<(), Memory>
+    ensures { OnOk result (attributes.new.items ≡ attributes.old.items ++ trees.label_attributes labels.now) }
+{
+    for label in labels.labels() {
+        attributes.push(label_attribute(label)?)?;
+    }
+    Ok(())
+}
+
+/// The attributes of the target that was scraped, and behind them those that its pages give it.
 #[tactic(auto, unfolding(crate::specs::Trees::resource_of))]
-pub(crate) fn resource(alloc: Global, target: &Target) -> Result<Vec<Attribute>, Memory>
-    ensures { IfOk result (λ attributes. attributes.items ≡ trees.resource_of target.now) }
+pub(crate) fn resource(
+    alloc: Global,
+    target: &Target,
+    attributes: &LabelSet,
+) -> Result<Vec<Attribute>, Memory>
+    ensures { IfOk result (λ all. all.items ≡ trees.resource_of target.now attributes.now) }
 {
     let address = target.address();
-    let mut all = Vec::with_capacity(alloc, 5)?;
+    let mut all = Vec::with_capacity(alloc, attributes.len().saturating_add(5))?;
     push_text(alloc, &mut all, "service.name", target.job().copy()?)?;
     push_text(
         alloc,
@@ -71,11 +97,8 @@ pub(crate) fn resource(alloc: Global, target: &Target) -> Result<Vec<Attribute>,
     let host = Text::from_utf8(alloc, address.host.as_slice())?;
     push_text(alloc, &mut all, "server.address", host)?;
     push_number(alloc, &mut all, "server.port", u64::from(address.port))?;
-    push_text(
-        alloc,
-        &mut all,
-        "url.scheme",
-        Text::from_str(alloc, "http")?,
-    )?;
+    let scheme = Text::from_str(alloc, "http")?;
+    push_text(alloc, &mut all, "url.scheme", scheme)?;
+    push_labels(&mut all, attributes)?;
     Ok(all)
 }

@@ -1,5 +1,6 @@
 //! Laws of the trees of a history: each call ensures one and does nothing.
-ghost use Rattle.target_core.specs.Laws.{EmptyPast, MomentsRise, OneMetricOfThePage, OneMetricAlone, MarkedOnce, MarkerStartIsBefore};
+ghost use Rattle.target_core.specs.Laws.{EmptyPast, MomentsRise, OneMetricOfThePage, OneMetricAlone, OneScopeOfMarker, OneScopeOfReading, OneScopeAlone, MarkedOnce, MarkerStartIsBefore, OnePartAlone};
+ghost use Rattle.target_core.specs.Keeping.{PartsAreTheirs};
 
 /// Without earlier events an event has the tree of a target without a past.
 pub fn empty_past()
@@ -21,4 +22,25 @@ pub fn markers_have_one_place()
 pub fn gone_are_marked_once()
     ensures once { MarkedOnce }
     ensures start { MarkerStartIsBefore }
+{}
+
+/// Each marker, and each reading with a point, is in one of the scopes.
+pub fn each_has_one_scope()
+    ensures marker { OneScopeOfMarker }
+    ensures reading { OneScopeOfReading }
+{}
+
+/// Where neither a reading nor a marker names a scope, all metrics are in the bridge's own.
+pub fn one_scope_alone()
+    ensures { OneScopeAlone }
+{}
+
+/// Without target info an event has one part, read behind all scrapes of its target.
+pub fn one_part_without_target_info()
+    ensures { OnePartAlone }
+{}
+
+/// The parts of a history are parts of it.
+pub fn parts_are_theirs()
+    ensures { PartsAreTheirs }
 {}

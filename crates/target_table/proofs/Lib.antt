@@ -13,3 +13,4 @@ mod Cases
 mod OneOutcome
 mod Showable
 mod Paged
+mod ShownGathered

@@ -7,7 +7,7 @@ use Rattle.std.proofs.lemmas.Option.{none-some, same_Some}
 use Rattle.page_model.specs.declared.event.Shown.{Shown}
 use Rattle.series_table.specs.Talking.{Talking}
 use Rattle.series_table.specs.Records.{Kept}
-use Rattle.target_table.specs.Machine.{OneTarget, visits_of, may_go, first_place, least, turn_of, changed_at, taken_by, put_back, MayPut}
+use Rattle.target_table.specs.Machine.{OneTarget, visits_of, may_go, place_where, smallest, turn_of, changed_at, taken_by, put_back, MayPut}
 use Rattle.target_table.specs.Tables.{Leased, visits_in, may_leave, next_place, MayBePut, seen_after}
 use Rattle.series_table.specs.Moving.{without_second}
 use Rattle.target_table.specs.Mirrors.{TrackMirrors, SlotMirrors, Mirrors, TakeIsAStep, PutIsAStep}
@@ -51,7 +51,7 @@ same-test false false x y n e f = refl
 same-test true false x y n e f = absurd cc
 same-test false true x y n e f = absurd cc
 
-same-place : (rounds n : ℕ) (slots : List (Option Kept)) (state : List OneTarget) → Alike rounds slots state → first_place (λ x. may_leave rounds x && visits_in x == n) slots ≡ first_place (λ x. may_go rounds x && visits_of x == n) state
+same-place : (rounds n : ℕ) (slots : List (Option Kept)) (state : List OneTarget) → Alike rounds slots state → place_where (λ x. may_leave rounds x && visits_in x == n) slots ≡ place_where (λ x. may_go rounds x && visits_of x == n) state
 unfolding Alike
 same-place rounds n [] [] h = refl
 same-place rounds n (slot ∷ slots) (o ∷ state) h =
@@ -63,7 +63,7 @@ same-turn : (rounds : ℕ) (slots : List (Option Kept)) (seen : List Shown) (sta
 unfolding turn_of
 same-turn rounds slots seen state h =
     let a = alike rounds slots seen state h in
-    (λ i. option_and_then (λ n. same-place rounds n slots state a i) (least (same-visits rounds slots state a i)))
+    (λ i. option_and_then (λ n. same-place rounds n slots state a i) (smallest (same-visits rounds slots state a i)))
 
 -- ---- one place changes
 

@@ -10,7 +10,7 @@ use Rattle.target_table.specs.Runs.{Run, IsRightRun, most_of_run}
 use Rattle.series_table.specs.Records.{Kept, IsShownOf, MayShow}
 use Rattle.series_table.specs.Moving.{without_second}
 use Rattle.series_table.proofs.Laws.{track-without_second}
-use Rattle.target_table.specs.Machine.{changed_at, turn_of, first_place, fewest}
+use Rattle.target_table.specs.Machine.{changed_at, turn_of, place_where, fewest}
 use Rattle.series_table.specs.Tracks.{IsTrackAt}
 use Rattle.target_table.specs.Tables.{Held, Leased, holders, may_leave, visits_in, next_place, IsTrackHome, IsSlot, AreSlots, AreNumbers, IsTable, IsLease, MayBePut, seen_after, TakesTarget, PutsTarget}
 use Rattle.target_table.proofs.Places.{equal_numbers, unequal_numbers, same_number, below}
@@ -138,11 +138,11 @@ within (y ∷ ys) (suc i) x e = let r = within ys i x e in omega arith
 
 -- ---- whose turn it is
 
-first-passes : {A : Type 0} (test : A → Bool) (xs : List A) (i : ℕ) (x : A) → first_place test xs ≡ Some i → slice_get xs i ≡ Some x → test x ≡ true
+first-passes : {A : Type 0} (test : A → Bool) (xs : List A) (i : ℕ) (x : A) → place_where test xs ≡ Some i → slice_get xs i ≡ Some x → test x ≡ true
 first-passes test [] i x e at = absurd (none-some i e)
-first-passes {A} test (y ∷ ys) i x e at = go (test y) refl (first_place test ys) refl (λ j f g. first-passes test ys j x f g)
+first-passes {A} test (y ∷ ys) i x e at = go (test y) refl (place_where test ys) refl (λ j f g. first-passes test ys j x f g)
   where
-    go : (b : Bool) → test y ≡ b → (o : Option ℕ) → first_place test ys ≡ o → ((j : ℕ) → first_place test ys ≡ Some j → slice_get ys j ≡ Some x → test x ≡ true) → test x ≡ true
+    go : (b : Bool) → test y ≡ b → (o : Option ℕ) → place_where test ys ≡ o → ((j : ℕ) → place_where test ys ≡ Some j → slice_get ys j ≡ Some x → test x ≡ true) → test x ≡ true
     go true p o q later =
         let zero_is : 0 ≡ i = same_Some 0 i (rw p at e) in
         let there : slice_get (y ∷ ys) 0 ≡ Some x = subst (λ n. slice_get (y ∷ ys) n ≡ Some x) (sym zero_is) at in
@@ -179,11 +179,11 @@ turn_is_taken w run h place k table turn there =
     record { followed = slot.0; target = slot.2; track = home.at; left = below k.counts.visits run.rounds may.1; no_second = home.no_second }
 
 -- a turn falls on a place of the list
-first-within : {A : Type 0} (test : A → Bool) (xs : List A) (i : ℕ) → first_place test xs ≡ Some i → i < length xs
+first-within : {A : Type 0} (test : A → Bool) (xs : List A) (i : ℕ) → place_where test xs ≡ Some i → i < length xs
 first-within test [] i e = absurd (none-some i e)
-first-within {A} test (y ∷ ys) i e = go (test y) refl (first_place test ys) refl (λ j f. first-within test ys j f)
+first-within {A} test (y ∷ ys) i e = go (test y) refl (place_where test ys) refl (λ j f. first-within test ys j f)
   where
-    go : (b : Bool) → test y ≡ b → (o : Option ℕ) → first_place test ys ≡ o → ((j : ℕ) → first_place test ys ≡ Some j → j < length ys) → i < length (y ∷ ys)
+    go : (b : Bool) → test y ≡ b → (o : Option ℕ) → place_where test ys ≡ o → ((j : ℕ) → place_where test ys ≡ Some j → j < length ys) → i < length (y ∷ ys)
     go true p o q later = let zero_is : 0 ≡ i = same_Some 0 i (rw p at e) in omega arith
     go false p None q later = absurd (none-some i (rw (p, q) at e))
     go false p (Some j) q later = let next : j + 1 ≡ i = same_Some (j + 1) i (rw (p, q) at e) in let l = later j q in omega arith

@@ -5,7 +5,7 @@ use Rattle.std.proofs.lemmas.Bool.Decides.{nat_tests}
 use Rattle.std.proofs.lemmas.Option.{none-some}
 use Rattle.series_table.specs.Records.{Kept}
 use Rattle.target_table.specs.declared.turn.Next.{Next}
-use Rattle.target_table.specs.Machine.{turn_of, fewest, first_place}
+use Rattle.target_table.specs.Machine.{turn_of, fewest, place_where}
 use Rattle.target_table.specs.Tables.{may_leave, visits_in, next_place}
 use Rattle.target_table.specs.Search.{visits_due, nearer, IsNextDue}
 use Rattle.target_table.proofs.Places.{same_number}
@@ -52,11 +52,11 @@ fewest_first visits test x xs m passes some fails = rw (passes, some, at_most (v
 pub fewest_behind : {A : Type 0} (visits : A → ℕ) (test : A → Bool) (x : A) (xs : List A) (m : ℕ) → test x ≡ true → fewest visits test xs ≡ Some m → nat_lt m (visits x) ≡ true → fewest visits test (x ∷ xs) ≡ Some m
 fewest_behind visits test x xs m passes some less = rw (passes, some, above (visits x) m less) refl
 
-turn_at : {A : Type 0} (visits : A → ℕ) (test : A → Bool) (ys : List A) (m : ℕ) → fewest visits test ys ≡ Some m → turn_of visits test ys ≡ first_place (λ z. test z && visits z == m) ys
+turn_at : {A : Type 0} (visits : A → ℕ) (test : A → Bool) (ys : List A) (m : ℕ) → fewest visits test ys ≡ Some m → turn_of visits test ys ≡ place_where (λ z. test z && visits z == m) ys
 unfolding turn_of
-turn_at visits test ys m e = ap (option_and_then (λ n. first_place (λ z. test z && visits z == n) ys)) e
+turn_at visits test ys m e = ap (option_and_then (λ n. place_where (λ z. test z && visits z == n) ys)) e
 
-place_behind : {A : Type 0} (test : A → Bool) (x : A) (xs : List A) → test x ≡ false → first_place test (x ∷ xs) ≡ option_and_then (λ n. Some (n + 1)) (first_place test xs)
+place_behind : {A : Type 0} (test : A → Bool) (x : A) (xs : List A) → test x ≡ false → place_where test (x ∷ xs) ≡ option_and_then (λ n. Some (n + 1)) (place_where test xs)
 place_behind test x xs fails = rw fails refl
 
 has_more : {A : Type 0} (visits : A → ℕ) (test : A → Bool) (x : A) (m : ℕ) → nat_lt m (visits x) ≡ true → (test x && visits x == m) ≡ false

@@ -1,8 +1,10 @@
 -- Laws of the table of targets. Each is proved, and a call of the crate stands for it.
 -- The bridge's own.
-use Rattle.std.specs.Prelude.{◌≡◌, ℕ, ◌≤◌, List, [], ◌∷◌, ◌++◌, Some, None}
+use Rattle.std.specs.Prelude.{◌≡◌, ℕ, ◌≤◌, List, [], ◌∷◌, ◌++◌, map, Some, None}
 use Rattle.std.specs.List.{slice_get}
-use Rattle.target_core.specs.Events.{latest_shown}
+use Rattle.page_model.specs.declared.event.Shown.{Shown}
+use Rattle.target_core.specs.Events.{shown_page, latest_shown}
+use Rattle.federation_page.specs.Gathering.{federated_page}
 use Rattle.series_table.specs.Talking.{Talking, Followed}
 use Rattle.target_table.specs.Runs.{Run}
 use Rattle.target_table.specs.Machine.{OneTarget, TableStep, TableRun, visits_of, state_after, pages_seen, own_steps, alone}
@@ -47,3 +49,13 @@ PagesAreOwn w = (run : Run) (steps : List TableStep) (place : ℕ) (f : Followed
 abbrev pub SeenUntilPut : Type 0
 SeenUntilPut = (run : Run) (later earlier : List TableStep) (place : ℕ) → NonePutsBack place later
     → slice_get (pages_seen (state_after run (later ++ earlier))) place ≡ slice_get (pages_seen (state_after run earlier)) place
+
+-- ---- what pages show
+
+-- the same, with its page as it is shown
+abbrev pub with_shown_page : Shown → Shown
+with_shown_page s = record { job = s.job; instance = s.instance; moment = s.moment; page = shown_page s.page }
+
+-- what is not shown of a page, its exemplars and the families that have no reading, is nothing on the federation page
+abbrev pub ShownGatherTheSame : Type 0
+ShownGatherTheSame = (shown : List Shown) → federated_page (map with_shown_page shown) ≡ federated_page shown

@@ -45,14 +45,14 @@ abbrev pub may_go : ℕ → OneTarget → Bool
 may_go rounds o = is_none o.out && not o.halted && nat_lt (visits_of o) rounds
 
 -- the place of the first of the elements that pass the test
-abbrev pub first_place : {A : Type 0} → (A → Bool) → List A → Option ℕ
-first_place test [] = None
-first_place test (x ∷ xs) = if test x then Some 0 else option_and_then (λ n. Some (n + 1)) (first_place test xs)
+abbrev pub place_where : {A : Type 0} → (A → Bool) → List A → Option ℕ
+place_where test [] = None
+place_where test (x ∷ xs) = if test x then Some 0 else option_and_then (λ n. Some (n + 1)) (place_where test xs)
 
--- the least of numbers, where there is one
-abbrev pub least : List ℕ → Option ℕ
-least [] = None
-least (n ∷ ns) = Some (below n (least ns))
+-- the smallest of numbers, where there is one
+abbrev pub smallest : List ℕ → Option ℕ
+smallest [] = None
+smallest (n ∷ ns) = Some (below n (smallest ns))
   where
     below : ℕ → Option ℕ → ℕ
     below n None = n
@@ -60,11 +60,11 @@ least (n ∷ ns) = Some (below n (least ns))
 
 -- the fewest visits of those that pass the test
 abbrev pub fewest : {A : Type 0} → (A → ℕ) → (A → Bool) → List A → Option ℕ
-fewest visits test xs = least (map visits (filter test xs))
+fewest visits test xs = smallest (map visits (filter test xs))
 
 -- the place of the one whose turn it is: the first of those that may go and have the fewest visits
 unfoldable pub turn_of : {A : Type 0} → (A → ℕ) → (A → Bool) → List A → Option ℕ
-turn_of visits test xs = option_and_then (λ n. first_place (λ x. test x && visits x == n) xs) (fewest visits test xs)
+turn_of visits test xs = option_and_then (λ n. place_where (λ x. test x && visits x == n) xs) (fewest visits test xs)
 
 -- ---- steps
 

@@ -1,6 +1,6 @@
 //! Laws of the table's machine, each as the contract of a function that does nothing.
 ghost use Rattle.series_table.specs.HttpTalks.{talking};
-ghost use Rattle.target_table.specs.Laws.{Isolation, SameOwnSteps, PagesAreOwn, SeenUntilPut, BodiesInEveryRun};
+ghost use Rattle.target_table.specs.Laws.{Isolation, SameOwnSteps, PagesAreOwn, SeenUntilPut, BodiesInEveryRun, ShownGatherTheSame};
 ghost use Rattle.target_table.specs.Mirrors.{HasOneOutcome, TakeIsAStep, VisitIsAStep, PutIsAStep, PageIsAStep};
 
 /// In every run of the table, the talks, posts, visits and shown page of each target are those of its own steps, which
@@ -30,4 +30,10 @@ pub fn calls_are_steps()
 /// A talk comes to one outcome.
 pub fn one_outcome()
     ensures { HasOneOutcome talking }
+{}
+
+/// What a target shows is its page without exemplars, and without the families that have no reading. Neither is anything
+/// on the federation page: that of the whole pages is the same.
+pub fn shown_gathered()
+    ensures { ShownGatherTheSame }
 {}

@@ -37,9 +37,8 @@ pub struct RunEnd {
 /// What the visits of tracks came to, beside a door.
 struct Visited<W: Wire, E> {
     tracks: Vec<Track<W>>,
-    ends: Vec<TargetEnd>,
+    end: RunEnd,
     door: Option<E>,
-    served: u32,
 }
 
 /// Visits the targets of these tracks beside a door, and tells how each ended. Without memory the tracks and the door
@@ -56,8 +55,8 @@ fn visit_all<R: Threads + Wait + Sync, W: Wire, K: Conn, E: Door<Conn = K>>(
     requires targets { map (λ (k : Kept). k.followed.target) tracks.items ≡ config.now.targets }
     requires fresh { IfSome door (λ d. IsUnopened (E.door d)) }
     ensures over { IfOk result (λ made. IsRunOver talking (run_of config.now.rounds tracks.items) made.tracks.items) }
-    ensures ends { IfOk result (λ made. made.ends.items ≡ map track_end made.tracks.items) }
-    ensures served { IfOk result (λ made. ServesAt config.now.pages (option_map E.door door) (option_map E.door made.door) made.served) }
+    ensures ends { IfOk result (λ made. made.end.targets.items ≡ map track_end made.tracks.items) }
+    ensures served { IfOk result (λ made. ServesAt config.now.pages (option_map E.door door) (option_map E.door made.door) made.end.served) }
     ensures back { IfErr result (λ back. back.0.items ≡ tracks.items) }
     ensures door { IfErr result (λ back. back.1 ≡ door) }
 {
@@ -74,12 +73,11 @@ fn visit_all<R: Threads + Wait + Sync, W: Wire, K: Conn, E: Door<Conn = K>>(
                 served,
             } = ended;
             renew_ends(&mut ends, tracks.as_slice());
-            Ok(Visited {
-                tracks,
-                ends,
-                door,
+            let end = RunEnd {
+                targets: ends,
                 served,
-            })
+            };
+            Ok(Visited { tracks, end, door })
         }
         Err(RunFault::Memory(tracks, door)) => Err((tracks, door)),
     }
@@ -118,17 +116,8 @@ fn run_beside<R: Threads + Wait + Sync, K: Conn, E: Door<Conn = K>, W: World<Doo
     };
     match visit_all(rt, alloc, config, tracks, door) {
         Ok(visited) => {
-            let Visited {
-                tracks,
-                ends,
-                door,
-                served,
-            } = visited;
+            let Visited { tracks, end, door } = visited;
             bring_home(world, tracks);
-            let end = RunEnd {
-                targets: ends,
-                served,
-            };
             Beside { end: Ok(end), door }
         }
         Err((tracks, door)) => {

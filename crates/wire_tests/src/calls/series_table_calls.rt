@@ -149,10 +149,9 @@ fn a_body_is_tried_while_it_may_be_taken(rt: HostRuntime) {
     }
 }
 
-/// What two visits count, of which the second finds no page: visits, those that failed, points, markers, and bodies that
-/// were accepted.
-fn two_counted(alloc: Global) -> Result<[u64; 5], AllocError> {
-    let scrape = wire(alloc, false, &[GOOD, (REFUSED_PAGE, End::Ended)], &[])?;
+/// What two visits with these replies count: visits, those that failed, points, markers, and bodies that were accepted.
+fn two_counted(alloc: Global, pages: &[Planned<'_>]) -> Result<[u64; 5], AllocError> {
+    let scrape = wire(alloc, false, pages, &[])?;
     let post = wire(alloc, true, &[OK, OK], &[]);
     let seen = visits(alloc, scrape, post, 2)?.counts;
     Ok([
@@ -166,7 +165,17 @@ fn two_counted(alloc: Global) -> Result<[u64; 5], AllocError> {
 
 #[test]
 fn scrapes_and_points_are_counted(rt: HostRuntime) {
-    assert!(rt; two_counted(rt.alloc()) == Ok([2, 1, 5, 1, 2]));
+    let failing = [GOOD, (REFUSED_PAGE, End::Ended)];
+    assert!(rt; two_counted(rt.alloc(), &failing) == Ok([2, 1, 5, 1, 2]));
+}
+
+// The target is described anew, so the series of the first visit is gone, which the second part of the second body tells.
+#[test]
+fn points_of_both_parts_are_counted(rt: HostRuntime) {
+    const BEFORE: &[u8] = b"HTTP/1.1 200 OK\r\n\r\ntarget_info{env=\"a\"} 1\nx 1\n";
+    const NOW: &[u8] = b"HTTP/1.1 200 OK\r\n\r\ntarget_info{env=\"b\"} 1\nx 1\n";
+    let pages = [(BEFORE, End::Ended), (NOW, End::Ended)];
+    assert!(rt; two_counted(rt.alloc(), &pages) == Ok([2, 0, 6, 1, 2]));
 }
 
 /// Three visits, where the call of `ready` of this number answers want of memory.

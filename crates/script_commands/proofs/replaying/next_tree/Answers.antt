@@ -1,4 +1,4 @@
-use Rattle.std.proofs.Common.{[]}
+use Rattle.std.proofs.Common.{[], inl}
 use Rattle.std.proofs.lemmas.Result.{IfOk-weaker}
 use Rattle.plain_words.proofs.Laws.{in_range}
 use Rattle.script_commands.specs.Replays.{script_tracking}
@@ -16,4 +16,4 @@ returns c = λ target earlier stands.
     let event = reply_event c.args.header.now c.args.reply.now _ c.in_ok-outcome.outcome c.as_slice.ensures (c.in_ok-outcome.ensures c.args.reply.now.at []) in
     let keys = outcome_keys c.args.header.now c.args.reply.now c.in_ok-outcome.outcome event.comes_to in
     made_tree c.args.header.now target c.args.reply.now earlier c.step.new.self c.step.result (record { reading = c.args.reply.now.at; outcome = c.in_ok-outcome.outcome }) event
-    (IfOk-weaker c.step.result _ _ (λ request steps. steps target (script_tracking c.args.header.now target) earlier stands keys) c.step.ensures.ok)
+    (IfOk-weaker c.step.result _ _ (λ request steps. steps target (script_tracking c.args.header.now target) earlier (inl stands) keys) c.step.ensures.ok)

@@ -10,4 +10,4 @@ returns-clause-state c =
 
 pub returns-clause-shown : goal.returns-clause-shown
 returns-clause-shown c =
-    c.in_ok-shown.ensures c.in_ok-copy.field-0 (record { keep = c.args.keep; honor = c.in_ok-copy.field-0.honor }) [] c.in_ok-state.ensures ∙ ap (λ (target : Scraped). latest_shown target []) c.in_ok-copy.ensures
+    c.in_ok-shown.ensures.latest c.in_ok-copy.field-0 (record { keep = c.args.keep; honor = c.in_ok-copy.field-0.honor }) [] c.in_ok-state.ensures ∙ ap (λ (target : Scraped). latest_shown target []) c.in_ok-copy.ensures

@@ -13,7 +13,7 @@ returns-in_ok-add-in-Some c = λ ms is.
     added_here c.self.inside.groups.items c.self.inside.identities ms c.args.marker c.in-Some.place c.index_mut.result.now c.add.new.self _
     (c.as_slice.ensures.value ∙ c.in_ok-pack.ensures ∙ (λ i. identity_bytes (c.as_bytes.ensures i) c.args.marker.key.kind (c.as_bytes-2.ensures i))) c.in-Some.ensures c.self.invariant (c.self.view_is ∙ is) c.index_mut.ensures.value c.in_ok-add-in-Some.ensures.added
 
-pub returns-in_ok-push_group-in-None : goal.returns-in_ok-push_group-in-None
-returns-in_ok-push_group-in-None c = λ ms is.
-    first_here c.self.inside.groups.items c.push_group.new.groups.items c.self.inside.identities ms c.args.marker _ _
-    (c.as_slice.ensures.value ∙ c.in_ok-pack.ensures ∙ (λ i. identity_bytes (c.as_bytes.ensures i) c.args.marker.key.kind (c.as_bytes-2.ensures i))) c.in-None.ensures c.self.invariant (c.self.view_is ∙ is) c.in_ok-group-in-None.ensures c.in_ok-push_group-in-None.ensures.groups
+pub returns-in_ok-push_keyed-in-None : goal.returns-in_ok-push_keyed-in-None
+returns-in_ok-push_keyed-in-None c = λ ms is.
+    first_here c.self.inside.groups.items c.push_keyed.new.values.items c.self.inside.identities ms c.args.marker _ _
+    (c.as_slice.ensures.value ∙ c.in_ok-pack.ensures ∙ (λ i. identity_bytes (c.as_bytes.ensures i) c.args.marker.key.kind (c.as_bytes-2.ensures i))) c.in-None.ensures c.self.invariant (c.self.view_is ∙ is) c.in_ok-group-in-None.ensures c.in_ok-push_keyed-in-None.ensures.values

@@ -1,8 +1,29 @@
-use Rattle.std.proofs.Common.{◌∙◌, refl}
-use Rattle.target_core.proofs.Stepping.{later_steps}
+use Rattle.std.proofs.Common.{false, ap, sym, ◌∙◌}
+use Rattle.std.proofs.lemmas.Result.{IfOk-weaker}
+use Rattle.label_sets.specs.Labels.{label_sets_eq}
+use Rattle.start_times.specs.Rows.{Tracked}
+use Rattle.otlp_tree.specs.declared.tree.Request.{Request}
+use Rattle.target_core.specs.States.{Following, Steps}
+use Rattle.target_core.specs.Stepping.{ReadsWithin, ReadsAnew, next_state}
+use Rattle.target_core.proofs.Stepping.{within_steps, anew_steps}
 use Rattle.target_core.proofs.state.TargetState.later_tree.Goals as goal
 
+pub returns-then-same_labels : goal.returns-then-same_labels
+returns-then-same_labels c = λ e outcome is sees.
+    let s = c.args.self.now in
+    let seen = c.args.seen.now in
+    let moment = c.args.moment in
+    let k = c.in_ok-tracker.tracker in
+    let same = sym (c.same_labels.ensures ∙ ap (λ (x : Following). label_sets_eq x.resource seen.resource) c.self.view_is) ∙ c.if-same_labels.true in
+    IfOk-weaker c.tree_within.result (λ (r : Request × Tracked). ReadsWithin s k moment seen.up seen.series r.0 r.1) (λ (r : Request × Tracked). Steps s e r.0 (next_state s seen.resource r.1 false seen.last moment))
+    (λ r reads. within_steps s e outcome moment seen.up seen.resource seen.series seen.last k r.1 r.0 is sees c.in_ok-tracker.ensures same reads) c.tree_within.ensures
+
 pub returns : goal.returns
-returns c = λ e comes.
-    later_steps c.args.self.now _ e c.args.before c.args.moment c.args.up c.args.page.now c.in_ok-tree.tree c.in_ok-tracker.tracker c.in_ok-starts.next c.in_ok-starts.starts
-    c.requires comes c.in_ok-tracker.ensures c.in_ok-starts.ensures (λ t place honor own distinct. c.in_ok-tree.ensures t place honor (c.as_slice-places.ensures ∙ own) distinct) refl
+returns c = λ e outcome is sees.
+    let s = c.args.self.now in
+    let seen = c.args.seen.now in
+    let moment = c.args.moment in
+    let k = c.in_ok-tracker.tracker in
+    let other = sym (c.same_labels.ensures ∙ ap (λ (x : Following). label_sets_eq x.resource seen.resource) c.self.view_is) ∙ c.if-same_labels.false in
+    IfOk-weaker c.tree_anew.result (λ (r : Request × Tracked). ReadsAnew s k.rows moment seen.up seen.resource seen.series r.0 r.1) (λ (r : Request × Tracked). Steps s e r.0 (next_state s seen.resource r.1 false seen.last moment))
+    (λ r reads. anew_steps s e outcome moment seen.up seen.resource seen.series seen.last k r.1 r.0 is sees c.in_ok-tracker.ensures other reads) c.tree_anew.ensures

@@ -1,0 +1,93 @@
+-- How the code steps: what a state sees of an event, which series a page lacks beside it, and what the trees of a stretch and of a change come to.
+-- The bridge's own.
+use Rattle.std.specs.Prelude.{◌≡◌, ℕ, Bool, List, [], ◌∷◌, map, Option, Some, None, if◌then◌else◌}
+use Rattle.std.specs.List.{IsDistinct}
+use Rattle.std.specs.Map.{keys_of as row_keys}
+use Rattle.label_sets.specs.declared.label_set.LabelSet.{LabelSet}
+use Rattle.label_sets.specs.declared.series_key.SeriesKey.{SeriesKey}
+use Rattle.label_sets.specs.Keys.{key_eq}
+use Rattle.page_model.specs.declared.page.Page.{Page}
+use Rattle.page_model.specs.declared.event.Outcome.{Outcome}
+use Rattle.page_model.specs.declared.event.Event.{Event}
+use Rattle.page_model.specs.Presence.{empty_page, page_of_outcome}
+use Rattle.start_times.specs.declared.row.Row.{Row}
+use Rattle.start_times.specs.Scrapes.{Scrape, moment_after}
+use Rattle.start_times.specs.Starts.{Tracking, reading_place}
+use Rattle.start_times.specs.Rows.{Tracked, Tracks, kept_start}
+use Rattle.start_times.specs.Advancing.{HasDistinctKeys, lacks_some, scrape_of}
+use Rattle.staleness.specs.declared.marks.Mark.{Mark}
+use Rattle.staleness.specs.Marks.{marks_of, marks_gone}
+use Rattle.staleness.specs.Vanished.{keys_gone}
+use Rattle.otlp_tree.specs.declared.tree.Request.{Request}
+use Rattle.bridge_ports.specs.Targets.{Scraped}
+use Rattle.target_core.specs.declared.markers.Marker.{Marker}
+use Rattle.target_core.specs.Stretches.{without_info, attributes_after, stretch_of}
+use Rattle.target_core.specs.Trees.{gone_part, request_of, up_of}
+use Rattle.target_core.specs.Events.{shown_page, marker_with}
+use Rattle.target_core.specs.States.{Following, GoesOnFrom}
+
+-- ---- what is seen of an event
+
+-- an outcome comes to 1 or 0 for whether its scrape gave a page, to these attributes beside those before, to this page without what describes the
+-- target, and to this page as it is shown
+pub record IsSeen (before : LabelSet) (outcome : Outcome) (up : ℕ) (resource : LabelSet) (series page : Page) : Type 0 where
+  pub up_is : up ≡ up_of outcome
+  pub resource_is : resource ≡ attributes_after before outcome
+  pub series_is : series ≡ without_info (page_of_outcome outcome)
+  pub page_is : page ≡ shown_page (page_of_outcome outcome)
+
+-- it is an event with this outcome, which behind a scrape at the moment `before`, or behind none, is at this moment
+pub record IsEventNext (before : Option ℕ) (e : Event) (outcome : Outcome) (moment : ℕ) : Type 0 where
+  pub outcome_is : outcome ≡ e.outcome
+  pub moment_is : moment ≡ moment_after before e.reading
+
+-- the state of the same target behind one event more
+abbrev pub next_state : Following → LabelSet → Tracked → Bool → Page → ℕ → Following
+next_state s resource tracked pending page moment =
+    record { target = s.target; keep = s.keep; resource = resource; tracked = tracked; pending = pending; page = page; marks = None; moment = Some moment }
+
+-- ---- the series of the last page
+
+-- the marks of the last page: those that stand for it, or its own
+abbrev pub marks_held : Tracking → Option (List Mark) → Page → List Mark
+marks_held t None page = marks_of t page
+marks_held t (Some marks) page = marks
+
+-- the series of the last page that a page now lacks
+abbrev pub keys_lacked : Tracking → Option (List Mark) → Page → Page → List SeriesKey
+keys_lacked t None before now = keys_gone t before now
+keys_lacked t (Some marks) before now = marks_gone marks now
+
+-- the markers of the series that a page now lacks beside a state, with the starts that these rows keep
+abbrev pub lacked_markers : Tracking → Following → List (SeriesKey × Row) → ℕ → Page → List Marker
+lacked_markers t s rows moment now = map (marker_with (kept_start rows) moment) (keys_lacked t s.marks (without_info s.page) now)
+
+-- where no series has two rows, these are those markers
+abbrev pub AreMarkersLacked : Following → List (SeriesKey × Row) → ℕ → Page → List Marker → Type 0
+AreMarkersLacked s rows moment now markers = (t : Tracking) → t.honor ≡ s.target.honor → IsDistinct key_eq (row_keys rows) → markers ≡ lacked_markers t s rows moment now
+
+-- those markers where anything is missed, none where nothing is
+abbrev pub missed_markers : Tracking → Following → List (SeriesKey × Row) → Bool → ℕ → Page → List Marker
+missed_markers t s rows misses moment now = if misses then lacked_markers t s rows moment now else []
+
+-- where no series has two rows, these are those
+abbrev pub AreMarkersMissed : Following → List (SeriesKey × Row) → Bool → ℕ → Page → List Marker → Type 0
+AreMarkersMissed s rows misses moment now markers = (t : Tracking) → t.honor ≡ s.target.honor → IsDistinct key_eq (row_keys rows) → markers ≡ missed_markers t s rows misses moment now
+
+-- ---- trees and rows
+
+-- from all events from which the state goes on: these are the rows behind all scrapes since the attributes last changed
+abbrev pub IsToldBehind : Following → Tracked → Type 0
+IsToldBehind s k = (target : Scraped) (t : Tracking) (events : List Event) → GoesOnFrom target t s events → Tracks t k (stretch_of events)
+
+-- a page without what describes the target, read behind each past for which these rows stand, comes to this tree and these rows; where it lacks no series
+-- with points of the page before, the tree has no markers
+abbrev pub ReadsWithin : Following → Tracked → ℕ → ℕ → Page → Request → Tracked → Type 0
+ReadsWithin s k moment up series tree next = (t : Tracking) (past : List Scrape) → t.honor ≡ s.target.honor → Tracks t k past → HasDistinctKeys series
+    → (tree ≡ request_of s.target s.resource (reading_place t past moment) (missed_markers t s k.rows (lacks_some past series) moment series) moment up series []) × Tracks t next (scrape_of series moment ∷ past)
+
+-- read behind no past under other attributes, it comes to this tree and these rows, where series whose attributes went have these rows
+abbrev pub ReadsAnew : Following → List (SeriesKey × Row) → ℕ → ℕ → LabelSet → Page → Request → Tracked → Type 0
+ReadsAnew s rows moment up resource series tree next = (t : Tracking) → t.honor ≡ s.target.honor → s.keep ≡ t.keep → IsDistinct key_eq (row_keys rows) → HasDistinctKeys series
+    → (tree ≡ request_of s.target resource (reading_place t [] moment) [] moment up series (gone_part s.target s.resource (lacked_markers t s rows moment empty_page)))
+    × Tracks t next (scrape_of series moment ∷ [])
