@@ -1,12 +1,14 @@
 #!/bin/sh
-# What a sample costs `federation_page::gather`, beside what it costs `text` of what was gathered, for 100 targets whose
-# pages have 2,000 samples each: the least time of several runs, in which both take turns, and the instructions beside.
-# The ratio of times is to be at most 2. Needs rt, python3 and valgrind. Run from anywhere: bench/gather.sh [SAMPLES]
+# What a sample costs `federation_page::gather`, and `series_select::select` of what was gathered, beside what it costs
+# `text` of it, for 100 targets whose pages have 2,000 samples each: the least time of several runs, in which all take
+# turns, and the instructions beside. One in a thousand of the samples is selected by the names of families, one in 250
+# by a label. The ratio of times is to be at most 2, and of selecting by names at most a tenth. Needs rt, python3 and
+# valgrind. Run from anywhere: bench/gather.sh [SAMPLES]
 set -eu
 samples=${1:-2000}
 . "$(dirname "$0")/workspace.sh"
-take_crates federation_page text_grammar
-add_program time_gather "federation_page text_grammar page_feeding line_scan open_writing page_model label_sets" <<'MAIN'
+take_crates federation_page series_select text_grammar
+add_program time_gather "federation_page series_select text_grammar page_feeding line_scan open_writing page_model label_sets" <<'MAIN'
 //! Reads the page on the input once for each of 100 targets, and gathers what they show, or writes what was gathered, as
 //! often as asked.
 #![tactic(auto)]
@@ -16,6 +18,7 @@ ghost use Rattle.page_model.specs.declared.format.Format.TheVariants.{Text as te
 ghost use Rattle.page_model.specs.declared.format.Treatment.TheVariants.{Scraped};
 ghost use Rattle.line_scan.specs.LineReading.{setting_of};
 ghost use Rattle.page_feeding.specs.PageFeeding.{Answers};
+ghost use Rattle.open_writing.specs.OpenForms.{IsOpenForm};
 ghost use Rattle.federation_page.specs.Gathering.{AreShowable, IsShowable};
 
 mod asked;
@@ -24,11 +27,13 @@ mod told;
 use crate::asked::{input, number, words};
 use crate::told::tell;
 use federation_page::{gather, text};
-use label_sets::Text;
+use label_sets::{List, Text};
 use page_model::page_laws::right_pages;
 use page_model::{Page, PageFault, Shown, Treatment};
+use series_select::{Selector, parse, select};
 use std::alloc::{AllocError, Global};
 use std::io;
+use std::vec::IntoIter;
 use text_grammar::TextPage;
 
 /// The page that these bytes say.
@@ -109,6 +114,34 @@ fn written(alloc: Global, page: &Page, turns: u32) -> Result<u64, AllocError> {
     Ok(bytes)
 }
 
+/// The selectors that words are.
+fn selectors(alloc: Global, words: IntoIter<String>) -> Result<List<Selector>, AllocError> {
+    let mut list = Vec::new(alloc);
+    for word in words {
+        if let Ok(selector) = parse(alloc, word.as_bytes()) {
+            list.push(selector)?;
+        }
+    }
+    List::from_vec(list)
+}
+
+/// Selects so many times, and gives how many samples that were.
+fn selected(
+    alloc: Global,
+    page: &Page,
+    list: &List<Selector>,
+    turns: u32,
+) -> Result<u64, AllocError>
+    requires { IsOpenForm page.now }
+{
+    let mut samples = 0u64;
+    for _ in 0..turns {
+        let left = select(alloc, page, list)?;
+        samples = samples.wrapping_add(u64::from(left.samples()));
+    }
+    Ok(samples)
+}
+
 fn main(rt: HostRuntime) -> io::Result<()> {
     let bytes = input(&rt)?;
     if bytes.len() > 1_000_000_000 {
@@ -128,7 +161,12 @@ fn main(rt: HostRuntime) -> io::Result<()> {
         return Ok(());
     }
     let page = gather(alloc, shown.as_slice())?;
-    println!(rt; "{}", written(alloc, &page, turns)?)
+    let list = selectors(alloc, words)?;
+    if list.is_empty() {
+        println!(rt; "{}", written(alloc, &page, turns)?)?;
+        return Ok(());
+    }
+    println!(rt; "{}", selected(alloc, &page, &list, turns)?)
 }
 MAIN
 
@@ -267,38 +305,51 @@ import time
 
 WORK, SAMPLES = sys.argv[1], 100 * int(sys.argv[2])
 MOST_RATIO = 2
-TURNS = (1, 4)
+MOST_SELECTING = 0.1
+TURNS = {"gather": (1, 4), "write": (1, 4), "by names": (10, 100), "by a label": (2, 10)}
+WORDS = {
+    "gather": ("gather", []),
+    "write": ("write", []),
+    "by names": ("select", ["node_goroutines_0", '{__name__="node_goroutines_6"}']),
+    "by a label": ("select", ['{handler="/api/v1/volumes/45"}']),
+}
+
+
+def command(form: str, turns: int) -> list[str]:
+    """The words of one run."""
+    word, selectors = WORDS[form]
+    return [f"{WORK}/proved", word, str(turns), *selectors]
 
 
 def seconds(form: str, turns: int) -> float:
     """The time of one run."""
     with open(f"{WORK}/page", "rb") as page:
         start = time.perf_counter()
-        subprocess.run([f"{WORK}/proved", form, str(turns)], stdin=page, stdout=subprocess.DEVNULL, check=True)
+        subprocess.run(command(form, turns), stdin=page, stdout=subprocess.DEVNULL, check=True)
         return time.perf_counter() - start
 
 
 def instructions(form: str, turns: int) -> int:
     """The instructions of one run."""
-    words = ["valgrind", "--tool=callgrind", "--callgrind-out-file=/dev/null", f"{WORK}/proved", form, str(turns)]
+    words = ["valgrind", "--tool=callgrind", "--callgrind-out-file=/dev/null", *command(form, turns)]
     with open(f"{WORK}/page", "rb") as page:
         said = subprocess.run(words, stdin=page, stdout=subprocess.DEVNULL, stderr=subprocess.PIPE, check=True).stderr
     return int(next(line.split()[-1] for line in said.decode().splitlines() if "Collected" in line))
 
 
-def a_sample(few: float, many: float) -> float:
+def a_sample(form: str, few: float, many: float) -> float:
     """What a sample costs of what more turns cost."""
-    return (many - few) / (TURNS[1] - TURNS[0]) / SAMPLES
+    return (many - few) / (TURNS[form][1] - TURNS[form][0]) / SAMPLES
 
 
-least = {(form, turns): float("inf") for form in ("gather", "write") for turns in TURNS}
+least = {(form, turns): float("inf") for form in WORDS for turns in TURNS[form]}
 for _ in range(7):
     for key in least:
         least[key] = min(least[key], seconds(*key))
-times = {form: a_sample(least[form, TURNS[0]], least[form, TURNS[1]]) for form in ("gather", "write")}
-counts = {form: a_sample(instructions(form, TURNS[0]), instructions(form, TURNS[1])) for form in ("gather", "write")}
-print(f"gathering {counts['gather']:.0f} instructions a sample, writing {counts['write']:.0f}")
-ratio = times["gather"] / times["write"]
-print(f"gathering {times['gather'] * 1e9:.0f} ns a sample, writing {times['write'] * 1e9:.0f} ns, ratio {ratio:.2f}, at most {MOST_RATIO}")
-sys.exit(ratio > MOST_RATIO)
+times = {form: a_sample(form, *(least[form, turns] for turns in TURNS[form])) for form in WORDS}
+counts = {form: a_sample(form, *(instructions(form, turns) for turns in TURNS[form])) for form in WORDS}
+for form in ("gather", "by names", "by a label"):
+    ratio = times[form] / times["write"]
+    print(f"{form}: {times[form] * 1e9:.1f} ns a sample and {counts[form]:.0f} instructions, writing {times['write'] * 1e9:.0f} ns and {counts['write']:.0f}, ratio {ratio:.3f}")
+sys.exit(times["gather"] > MOST_RATIO * times["write"] or times["by names"] > MOST_SELECTING * times["write"])
 END

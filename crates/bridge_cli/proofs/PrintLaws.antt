@@ -1,5 +1,5 @@
 -- From what is to be printed, and how printing ended, to what the program answers.
-use Rattle.std.proofs.Common.{◌≡◌, ◌≢◌, ℕ, Bool, true, false, List, [], Option, Some, None, Result, Ok, Err, OnOk, OnErr, refl, sym, subst, ◌∙◌, ◌⊎◌, inl, inr, arith}
+use Rattle.std.proofs.Common.{◌≡◌, ◌≢◌, ℕ, true, false, List, [], Option, Some, None, Result, Ok, Err, OnOk, OnErr, refl, sym, subst, ◌∙◌, ◌⊎◌, inl, inr, arith}
 use Rattle.std.specs.Prelude.{⊤}
 use Rattle.std.specs.Io.KnownBytes.{Appends}
 use Rattle.std.proofs.lemmas.Bool.{true≢false}
@@ -16,6 +16,7 @@ use Rattle.bridge_ports.specs.Worlds.{ShelvedPair}
 use Rattle.program_words.specs.declared.words.Command.{Command}
 use Rattle.program_words.specs.declared.words.Command.TheVariants.{Replay, Load}
 use Rattle.program_words.specs.Statuses.{code_of, IsStatus, IsTold, IsUntold, TellsFault}
+use Rattle.series_select.specs.declared.selector.Selector.{Selector}
 use Rattle.script_commands.specs.Replays.{MayBeCut}
 use Rattle.replay_script.specs.RightScripts.{IsRightScript}
 use Rattle.load_pages.specs.GeneratedScripts.{generated_script, TakesAllBodies}
@@ -66,7 +67,7 @@ whole_printed command left p is none gives = record {
 }
 
 -- the bodies of a script
-pub bodies_printed : (said : Option ℕ) (page : Bool) (left : Option (List ℕ)) (script : Script) (scrapers : ℕ) → HoldsScript left script → IsPrintedOf (Replay said page) left (Bodies script scrapers page)
+pub bodies_printed : (said : Option ℕ) (page : Option (List Selector)) (left : Option (List ℕ)) (script : Script) (scrapers : ℕ) → HoldsScript left script → IsPrintedOf (Replay said page) left (Bodies script scrapers page)
 bodies_printed said page left script scrapers holds = record {
   gives = λ text is. record { bytes = holds.bytes; on_input = holds.on_input; says = script_done script text holds.is is };
   parts = λ text is. record { bytes = holds.bytes; on_input = holds.on_input; says = part text is };
@@ -320,7 +321,7 @@ print_at_once status p q before after result text (Ok done) same gives part all 
 print_at_once status p q before after result text (Err fault) same gives part all front e f = print_front status p q before after result text same part front f
 
 -- printing a script was cut off
-pub print_cut : (status : Status) (p : Printed) (script : Script) (scrapers : ℕ) (page : Bool) (before after : Option (List ℕ)) (result : ℕ) (cut : Cut) → p ≡ Bodies script scrapers page
+pub print_cut : (status : Status) (p : Printed) (script : Script) (scrapers : ℕ) (page : Option (List Selector)) (before after : Option (List ℕ)) (result : ℕ) (cut : Cut) → p ≡ Bodies script scrapers page
     → CutsScript page script before after cut
     → result ≡ code_of (cut_status cut) → Ended status p before after result
 print_cut status p script scrapers page before after result cuts.Write same next e = print_front status p (Bodies script scrapers page) before after result next.0 same next.1 next.2 e

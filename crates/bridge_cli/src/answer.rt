@@ -1,9 +1,11 @@
 //! What the program prints, and the status that it ends with.
 ghost use Rattle.bridge_cli.specs.Printed.{IsStopPrinted};
 
+use label_sets::List;
 use otlp_tree::Request;
 use program_words::{Status, Stop, stop_text};
 use replay_script::Script;
+use series_select::Selector;
 use std::alloc::{AllocError, Global};
 use std::borrow::CowSlice;
 
@@ -15,11 +17,12 @@ pub(crate) enum Printed {
     /// The text of a tree, and a line feed. The text is made as it is printed, which takes no memory.
     Tree(Request),
     /// The bodies of a script, whose targets are visited by so many scrapers at once. Each body is made when the one
-    /// before it is printed. Behind them, where it is asked for, the federation page of what the targets show.
+    /// before it is printed. Behind them, where it is asked for by selectors or by none, the federation page of what the
+    /// targets show.
     Bodies {
         script: Script,
         scrapers: u32,
-        page: bool,
+        page: Option<List<Selector>>,
     },
     /// The report of the visits of a script, which are made when it is printed.
     Report {

@@ -10,8 +10,10 @@ ghost use Rattle.script_commands.specs.Printing.{CutCause, PrintsBodies, PrintsR
 
 use crate::turns::run_script;
 use bridge_ports::{Sink, World};
+use label_sets::List;
 use replay_script::Script;
 use script_commands::{Cut, Over, Wanted, end_load, end_replay, print_in_turn, print_run};
+use series_select::Selector;
 use std::alloc::{AllocError, Global};
 use std::sync::Wait;
 use std::thread::Threads;
@@ -69,18 +71,18 @@ pub(crate) fn print_script<R: Threads + Wait + Sync, W: World, O: Sink>(
     alloc: Global,
     script: &Script,
     scrapers: u32,
-    page: bool,
+    page: &Option<List<Selector>>,
     world: &mut W,
     output: &mut O,
 ) -> Result<(), Cut>
     requires { IsRightScript script.now }
-    ensures printed { PrintsScript page script.now (O.held output.old) (O.held output.new) result }
+    ensures printed { PrintsScript page.now script.now (O.held output.old) (O.held output.new) result }
     ensures cause { CutCause (O.write_faults output.old) (O.write_faults output.new) result }
     ensures shelf { OnOk result (IsShelfOf script.now (W.seen world.old).world.shelf (W.seen world.new).world.shelf) }
     ensures kept { KeepsAllButShelf (W.seen world.old) (W.seen world.new) }
 {
     let wanted = Wanted {
-        page,
+        page: page.is_some(),
         keeps: world.has_shelf(),
     };
     match print_bodies(rt, alloc, script, scrapers, wanted, output) {

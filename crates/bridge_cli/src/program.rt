@@ -86,7 +86,7 @@ fn print<R: Threads + Wait + Sync, W: World, O: Sink>(
             script,
             scrapers,
             page,
-        } => match print_script(rt, alloc, script, *scrapers, *page, world, output) {
+        } => match print_script(rt, alloc, script, *scrapers, page, world, output) {
             Ok(()) => answer.status.code(),
             Err(cut) => cut.status().code(),
         },
@@ -117,7 +117,8 @@ fn print<R: Threads + Wait + Sync, W: World, O: Sink>(
 ///
 /// `load`, and `replay` with several scrapers, start threads and wait for them, so what is said here holds where the
 /// call returns. The answer of `replay` is the same for every number of scrapers. With the word `page` the federation
-/// page of what the targets show behind their last scrapes follows the bodies. At status 0 the wires of the targets,
+/// page of what the targets show behind their last scrapes follows the bodies, with the series that the selectors behind
+/// it match, or all. At status 0 the wires of the targets,
 /// which are in memory, are on the shelf of the world, where it has one, targets in order: their talks tell what was
 /// scraped, and that the bodies were posted.
 ///

@@ -8,7 +8,7 @@ use Rattle.page_model.specs.declared.page.Page.{Page}
 use Rattle.page_model.specs.declared.event.Shown.{Shown}
 use Rattle.page_model.specs.Pages.{IsScrapedPage}
 use Rattle.open_writing.specs.FamilyKeys.{family_key}
-use Rattle.open_writing.specs.Writing.{page_with, written_text}
+use Rattle.open_writing.specs.Writing.{page_with}
 use Rattle.federation_page.specs.Candidates.{candidates_of}
 use Rattle.federation_page.specs.Conflicts.{gathered_by}
 
@@ -23,10 +23,6 @@ gathered_families candidates = gathered_by family_key with_readings_of candidate
 -- the federation page of what is shown, targets in order
 unfoldable pub federated_page : List Shown → Page
 federated_page shown = page_with (gathered_families (flat_map candidates_of shown))
-
--- its text
-abbrev pub federated_text : List Shown → List ℕ
-federated_text shown = written_text (federated_page shown)
 
 -- ---- what may be gathered
 

@@ -10,23 +10,10 @@ ghost use Rattle.federation_page.specs.Founding.{AreFounders, AreNamesOfBoth, is
 
 use crate::candidates::Candidate;
 use byte_table::ByteTable;
-use label_sets::{Kind, List, Memory, Name};
+use label_sets::{List, Memory, Name};
+use open_writing::open_suffixes;
 use page_model::{Family, Suffix};
 use std::alloc::Global;
-
-/// The suffixes of the sample names that a kind allows.
-fn suffixes(kind: Kind) -> &'static [Suffix]
-    ensures { map suffix_bytes result.now ≡ suffixes OpenMetrics kind }
-{
-    match kind {
-        Kind::Gauge | Kind::Unknown | Kind::StateSet => &[Suffix::Own],
-        Kind::Info => &[Suffix::Info],
-        Kind::Counter => &[Suffix::Total, Suffix::Created],
-        Kind::Histogram => &[Suffix::Bucket, Suffix::Count, Suffix::Sum, Suffix::Created],
-        Kind::GaugeHistogram => &[Suffix::Bucket, Suffix::GaugeCount, Suffix::GaugeSum],
-        Kind::Summary => &[Suffix::Own, Suffix::Count, Suffix::Sum, Suffix::Created],
-    }
-}
 
 /// A sample name: that of the family and a suffix.
 fn sample_name(alloc: Global, family: &Name, suffix: Suffix) -> Result<Vec<u8>, Memory>
@@ -47,7 +34,7 @@ fn add_sample_names(
 ) -> Result<(), Memory>
     ensures { OnOk result (AreNamesOfBoth names.old (sample_names (family_key candidate.now)) names.new) }
 {
-    let suffixes = suffixes(candidate.kind());
+    let suffixes = open_suffixes(candidate.kind());
     for suffix in suffixes {
         let name = sample_name(alloc, candidate.name(), *suffix)?;
         names.insert(name.as_slice())?;
@@ -81,7 +68,7 @@ impl Founders {
         ensures { IfOk result (λ shares. shares ≡ list_any (is_name_among self.now.sample_names) (sample_names (family_key candidate.now))) }
     {
         let alloc = *self.families.allocator();
-        let suffixes = suffixes(candidate.kind());
+        let suffixes = open_suffixes(candidate.kind());
         for suffix in suffixes {
             let name = sample_name(alloc, candidate.name(), *suffix)?;
             if self.sample_names.find(name.as_slice()).is_some() {

@@ -2,8 +2,9 @@
 #![tactic(auto)]
 
 ghost use Rattle.std.specs.Prelude.{◌≡◌, ◌++◌, IfOk, OnOk, OnErr};
+ghost use Rattle.open_writing.specs.OpenForms.{IsOpenForm};
 ghost use Rattle.open_writing.specs.Writing.{written_text};
-ghost use Rattle.federation_page.specs.Gathering.{AreShowable, federated_page, federated_text};
+ghost use Rattle.federation_page.specs.Gathering.{AreShowable, federated_page};
 ghost use Rattle.federation_page.specs.Laws.{
   FilledGatherTheSame,
   GatheredAreApart,
@@ -24,12 +25,13 @@ mod targets;
 use label_sets::Memory;
 use page_model::{Page, Shown};
 use pages::gathered_families;
-use std::alloc::{AllocError, Global};
+use std::alloc::Global;
 
 /// Gathers what targets show, in their order, into one page (Prometheus, "Federation").
 ///
 /// Families stand in byte order of their names, each with the readings of all targets. Where two families can't
-/// stand on one page, that of the earlier target stays. The values of readings are shared, not copied.
+/// stand on one page, that of the earlier target stays. The values of readings are shared, not copied. The page is in
+/// OpenMetrics form.
 ///
 /// # Errors
 ///
@@ -47,7 +49,8 @@ use std::alloc::{AllocError, Global};
 /// ```
 pub fn gather(alloc: Global, shown: &[Shown]) -> Result<Page, Memory>
     requires { AreShowable shown.now }
-    ensures { IfOk result (λ page. page ≡ federated_page shown.now) }
+    ensures page { IfOk result (λ page. page ≡ federated_page shown.now) }
+    ensures form { IfOk result (λ page. IsOpenForm page) }
 {
     let families = gathered_families(alloc, shown)?;
     Ok(open_writing::page_of_families(families))
@@ -63,22 +66,6 @@ pub fn text(page: &Page, out: &mut Vec<u8>) -> Result<(), Memory>
     ensures err { OnErr result (out.new.items ≡ out.old.items) }
 {
     open_writing::write(page, out)
-}
-
-/// Puts the text of the federation page of what is shown behind what `out` holds.
-///
-/// # Errors
-///
-/// Want of memory: then `out` holds what it held.
-pub fn write_page(shown: &[Shown], out: &mut Vec<u8>) -> Result<(), Memory>
-    requires { AreShowable shown.now }
-    ensures ok { OnOk result (out.new.items ≡ out.old.items ++ federated_text shown.now) }
-    ensures err { OnErr result (out.new.items ≡ out.old.items) }
-{
-    match gather(*out.allocator(), shown) {
-        Ok(page) => text(&page, out),
-        Err(AllocError) => Err(AllocError),
-    }
 }
 
 /// No two families of the federation page clash, whatever is shown.

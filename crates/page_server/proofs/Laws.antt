@@ -1,2 +1,2 @@
 -- What other crates may use of this crate's proofs.
-pub use Rattle.page_server.proofs.ServeSteps.{partly_told}
+pub use Rattle.page_server.proofs.ServeSteps.{replied, not_heard}

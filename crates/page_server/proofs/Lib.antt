@@ -1,7 +1,8 @@
 mod ConnSteps
 mod RequestFronts
 mod RequestTrees
+mod Targets
 pub mod ServeSteps
 mod ServingCases
-mod StatusLaws
+mod AskedLaws
 pub mod Laws

@@ -1,5 +1,5 @@
 -- Requests that are given as trees: what is to be tested of one, and what is then known of the bytes.
-use Rattle.std.proofs.Common.{◌≡◌, ℕ, Bool, true, false, List, [], ◌∷◌, ◌++◌, length, Some, refl, sym, ap, arith, inl}
+use Rattle.std.proofs.Common.{◌≡◌, ℕ, Bool, true, false, List, [], ◌∷◌, ◌++◌, length, refl, sym, ap, arith, inl}
 use Rattle.std.specs.Prelude.{◌&&◌, nat_le, nat_lt}
 use Rattle.std.specs.List.{list_all}
 use Rattle.std.specs.Str.{is_utf8}
@@ -14,10 +14,10 @@ use Rattle.httparse.proofs.HeadLemmas.{request_overflows}
 use Rattle.httparse.proofs.PieceLemmas.{Never_intro, Refutes_first, Refutes_next, Blank_deterministic}
 use Rattle.httparse.proofs.RunLemmas.{run_unique}
 use Rattle.http_talk.proofs.Laws.{is_field, all_fields}
-use Rattle.page_server.specs.declared.status.ReplyStatus.{ReplyStatus}
-use Rattle.page_server.specs.declared.status.ReplyStatus.TheVariants as statuses
+use Rattle.page_server.specs.declared.asked.Asked.{Asked}
+use Rattle.page_server.specs.declared.asked.Asked.TheVariants as asks
 use Rattle.page_server.specs.RequestHeads.{waiting, refused, asked, RequestIs}
-use Rattle.page_server.specs.Serving.{status_of_request, HasStatus}
+use Rattle.page_server.specs.Serving.{RequestAsks, BytesAsk}
 use Rattle.page_server.proofs.RequestFronts.{refused_by_error}
 
 -- ---- tests of a tree
@@ -51,13 +51,13 @@ is_request_so h e =
 -- ---- heads that are there, or under way
 
 -- bytes that are this head and what follows it
-pub by_request : (got : List ℕ) (h : RequestHead) (rest : List ℕ) (status : ReplyStatus)
+pub by_request : (got : List ℕ) (h : RequestHead) (rest : List ℕ) (what : Asked)
     → is_request h ≡ true → got ≡ print_request h ++ rest → nat_le (length (print_request h)) 16384 ≡ true → nat_le (length h.fields) 64 ≡ true
-    → status_of_request h.method h.target ≡ status → HasStatus got false status
-by_request got h rest status right bytes short few is = record {
+    → RequestAsks h.method h.target what → BytesAsk got false what
+by_request got h rest what right bytes short few is = record {
   head = asked h rest;
   head_is = ((is_request_so h right, bytes), leb-true _ _ short, leb-true _ _ few);
-  status_is = ap Some is;
+  asks_for = is;
 }
 
 no_cons : (rest : List ℕ) (b : ℕ) (more : List ℕ) → rest ++ b ∷ more ≡ [] → ⊥
@@ -94,5 +94,5 @@ over_method got blank text is stops none =
     (Refutes_first Method (Then Target (Then Version Newline)) none)))
 
 -- bytes behind which no head that is taken can come
-pub by_over : (got : List ℕ) → RequestOverflows 64 got → HasStatus got false statuses.BadRequest
-by_over got over = record { head = refused; head_is = refused_by_error got over; status_is = refl }
+pub by_over : (got : List ℕ) → RequestOverflows 64 got → BytesAsk got false asks.BadRequest
+by_over got over = record { head = refused; head_is = refused_by_error got over; asks_for = refl }

@@ -1,15 +1,15 @@
-//! One connection that asks for a page: the head of its request, read within its limits, and the reply.
+//! One connection that asks for a page: its request, read within its limits until it is certain what it asks for, and the
+//! reply.
 #![tactic(auto)]
 
+mod asked;
 mod reply;
 mod request;
-mod served;
 pub mod serving_laws;
-mod shown_page;
 mod status;
+mod target;
 
-pub use reply::{reply_head, say_both};
-pub use request::asked_status;
-pub use served::serve_one;
-pub use shown_page::ShownPage;
+pub use asked::Asked;
+pub use reply::say_reply;
+pub use request::hear_request;
 pub use status::{ReplyStatus, ServeFault};

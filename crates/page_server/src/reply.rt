@@ -3,12 +3,12 @@ ghost use Rattle.std.specs.Prelude.{◌≡◌, ◌++◌, IfOk, OnOk, OnErr, code
 ghost use Rattle.std.specs.Fmt.{decimal};
 ghost use Rattle.http_talk.specs.Requests.{line};
 ghost use Rattle.bridge_ports.specs.Connections.{WereWritten, WereCutOff};
-ghost use Rattle.page_server.specs.Serving.{first_lines, reply_head};
+ghost use Rattle.page_server.specs.Serving.{ReplyAnswer, first_lines, reply_head};
 
-use crate::status::ReplyStatus;
+use crate::status::{ReplyStatus, ServeFault};
 use bridge_ports::{Conn, Failed};
 use label_sets::Memory;
-use std::alloc::Global;
+use std::alloc::{AllocError, Global};
 use text_emitter::{Emit, Emitter};
 
 /// The lines that a reply's head begins with.
@@ -72,11 +72,7 @@ impl Emit for ReplyHead {
 }
 
 /// The head of a reply that carries so many bytes.
-///
-/// # Errors
-///
-/// Want of memory.
-pub fn reply_head(alloc: Global, status: ReplyStatus, count: u64) -> Result<Vec<u8>, Memory>
+fn reply_head(alloc: Global, status: ReplyStatus, count: u64) -> Result<Vec<u8>, Memory>
     ensures { IfOk result (λ text. text.items ≡ reply_head status count) }
 {
     let mut text = Vec::new(alloc);
@@ -100,16 +96,44 @@ fn say_all<K: Conn>(conn: &mut K, text: &[u8]) -> Result<(), Failed>
 }
 
 /// Writes the head of a reply and what it carries.
-///
-/// # Errors
-///
-/// [`Failed`] where a write failed.
-pub fn say_both<K: Conn>(conn: &mut K, head: &[u8], page: &[u8]) -> Result<(), Failed>
+fn say_both<K: Conn>(conn: &mut K, head: &[u8], page: &[u8]) -> Result<(), Failed>
     ensures whole { OnOk result (WereWritten (K.seen conn.old) (K.seen conn.new) (head.now ++ page.now)) }
     ensures front { OnErr result (WereCutOff (K.seen conn.old) (K.seen conn.new) (head.now ++ page.now)) }
 {
     match say_all(conn, head) {
         Ok(()) => say_all(conn, page),
         Err(failed) => Err(failed),
+    }
+}
+
+/// Writes the reply of this status, which carries this page, and gives the status.
+///
+/// # Errors
+///
+/// A write failed, or memory was wanted, before anything was written.
+///
+/// # Example
+///
+/// ```rust
+/// let served = say_reply(alloc, &mut conn, ReplyStatus::Page, b"# EOF\n");
+/// assert_eq!(rt; served, Ok(ReplyStatus::Page));
+/// assert!(rt; conn.held().starts_with(b"HTTP/1.1 200 OK\r\n"));
+/// assert!(rt; conn.held().ends_with(b"Content-Length: 6\r\nConnection: close\r\n\r\n# EOF\n"));
+/// ```
+pub fn say_reply<K: Conn>(
+    alloc: Global,
+    conn: &mut K,
+    status: ReplyStatus,
+    page: &[u8],
+) -> Result<ReplyStatus, ServeFault>
+    ensures { ReplyAnswer status page.now (K.seen conn.old) (K.seen conn.new) result }
+{
+    let head = match reply_head(alloc, status, page.len() as u64) {
+        Ok(head) => head,
+        Err(AllocError) => return Err(ServeFault::Memory),
+    };
+    match say_both(conn, head.as_slice(), page) {
+        Ok(()) => Ok(status),
+        Err(Failed) => Err(ServeFault::Write),
     }
 }

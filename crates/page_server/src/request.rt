@@ -1,76 +1,70 @@
-//! The request of a connection, read until its status is certain.
-ghost use Rattle.std.specs.Prelude.{◌≡◌, ◌≤◌, length, bytes_eq, IfOk, OnErr};
+//! The request of a connection, read until it is certain what it asks for.
+ghost use Rattle.std.specs.Prelude.{◌≤◌, length, IfOk};
 ghost use Rattle.http_talk.specs.Heads.{head_limit};
-ghost use Rattle.page_server.specs.Serving.{status_of_request, Decides, IsAsked, IsUnheard};
+ghost use Rattle.page_server.specs.Serving.{Decides, HearAnswer};
 
-use crate::status::ReplyStatus;
+use crate::asked::Asked;
+use crate::status::ServeFault;
+use crate::target::request_asks;
 use bridge_ports::{Conn, Failed};
 use http_talk::{FIELD_LIMIT, HEAD_LIMIT};
 use httparse::Status;
 use httparse::spans::{EMPTY_HEADER_SPAN, parse_request};
+use label_sets::Memory;
+use std::alloc::{AllocError, Global};
 
-/// Whether bytes are this word.
-fn is(bytes: &[u8], word: &[u8]) -> bool
-    ensures { result ≡ bytes_eq bytes.now word.now }
-{
-    bytes == word
-}
-
-/// The status of a request with this method and this target.
-fn status_of_request(method: &[u8], target: &[u8]) -> ReplyStatus
-    ensures { result ≡ status_of_request method.now target.now }
-{
-    if !is(method, b"GET") {
-        return ReplyStatus::NotAllowed;
-    }
-    if !is(target, b"/federate") {
-        return ReplyStatus::NotFound;
-    }
-    ReplyStatus::Page
-}
-
-/// The status that bytes decide, unless a head is still waited for.
-fn decided(got: &[u8]) -> Option<ReplyStatus>
+/// What bytes ask for, unless a head is still waited for.
+fn decided(alloc: Global, got: &[u8]) -> Result<Option<Asked>, Memory>
     requires { length got.now ≤ head_limit }
-    ensures { Decides got.now result }
+    ensures { IfOk result (Decides got.now) }
 {
     let mut spans = [EMPTY_HEADER_SPAN; FIELD_LIMIT];
     match parse_request(got, &mut spans) {
-        Ok(Status::Complete(head)) => Some(status_of_request(
-            head.method.of(got),
-            head.path.of(got),
-        )),
-        Ok(Status::Partial) => {
-            if got.len() == HEAD_LIMIT {
-                Some(ReplyStatus::BadRequest)
-            } else {
-                None
+        Ok(Status::Complete(head)) => {
+            match request_asks(alloc, head.method.of(got), head.path.of(got)) {
+                Ok(asked) => Ok(Some(asked)),
+                Err(AllocError) => Err(AllocError),
             }
         }
-        Err(_) => Some(ReplyStatus::BadRequest),
+        Ok(Status::Partial) => {
+            if got.len() == HEAD_LIMIT {
+                Ok(Some(Asked::BadRequest))
+            } else {
+                Ok(None)
+            }
+        }
+        Err(_) => Ok(Some(Asked::BadRequest)),
     }
 }
 
-/// Reads until the status is certain.
+/// Reads the request of a connection until it is certain what it asks for.
 ///
 /// # Errors
 ///
-/// [`Failed`] where a read failed before the status was certain.
-pub fn asked_status<K: Conn>(conn: &mut K) -> Result<ReplyStatus, Failed>
-    ensures asked { IfOk result (λ status. IsAsked (K.seen conn.old) (K.seen conn.new) status) }
-    ensures unread { OnErr result (IsUnheard (K.seen conn.old) (K.seen conn.new)) }
+/// A read failed before that, or memory was wanted for the selectors.
+///
+/// # Example
+///
+/// ```rust
+/// // Over `conn` comes `GET /federate?match[]=up HTTP/1.1\r\nHost: a\r\n\r\n`.
+/// let asked = hear_request(alloc, &mut conn)?;
+/// assert!(rt; matches!(&asked, Asked::Page(selectors) if selectors.len() == 1));
+/// ```
+pub fn hear_request<K: Conn>(alloc: Global, conn: &mut K) -> Result<Asked, ServeFault>
+    ensures { HearAnswer (K.seen conn.old) (K.seen conn.new) result }
 {
     let mut head = [0u8; HEAD_LIMIT];
     let mut filled = 0usize;
     'reading: loop {
-        match decided(&head[..filled]) {
-            Some(status) => return Ok(status),
-            None => {}
+        match decided(alloc, &head[..filled]) {
+            Ok(Some(asked)) => return Ok(asked),
+            Ok(None) => {}
+            Err(AllocError) => return Err(ServeFault::Memory),
         }
         match conn.hear(&mut head[filled..]) {
-            Ok(0) => return Ok(ReplyStatus::BadRequest),
+            Ok(0) => return Ok(Asked::BadRequest),
             Ok(count) => filled += count as usize,
-            Err(failed) => return Err(failed),
+            Err(Failed) => return Err(ServeFault::Read),
         }
     }
 }

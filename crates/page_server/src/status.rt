@@ -5,7 +5,7 @@
 pub enum ReplyStatus {
     /// The page.
     Page,
-    /// No head of a request that is taken came.
+    /// No head of a request that is taken came, or a selector that is none.
     BadRequest,
     /// The request asks for something else.
     NotFound,
@@ -37,6 +37,6 @@ pub enum ServeFault {
     Read,
     /// A write of the reply failed.
     Write,
-    /// There was no memory for the page.
+    /// There was no memory for the selectors or for the page.
     Memory,
 }

@@ -1,4 +1,5 @@
 mod WordLaws
+mod ReplayWords
 mod PlaceLaws
 mod CommandLaws
 mod AnswerLaws

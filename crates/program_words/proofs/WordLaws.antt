@@ -1,5 +1,5 @@
 -- Words: what the words of a conversion hold.
-use Rattle.std.proofs.Common.{◌≡◌, ◌≢◌, ℕ, ◌<◌, ◌≤◌, Bool, true, false, not, eqb, List, [], ◌∷◌, map, length, get_or, Some, None, refl, sym, ap, subst, ◌∙◌, arith}
+use Rattle.std.proofs.Common.{◌≡◌, ◌≢◌, ℕ, ◌<◌, ◌≤◌, Bool, true, false, not, eqb, List, [], ◌∷◌, map, length, get_or, refl, sym, ap, subst, ◌∙◌, arith}
 use Rattle.std.specs.Prelude.{codes}
 use Rattle.std.specs.Fmt.{decimal}
 use Rattle.std.proofs.lemmas.Bool.{eqb-false, not-false, true≢false}
@@ -13,7 +13,8 @@ use Rattle.replay_script.specs.ScriptParts.{format_word}
 use Rattle.load_pages.specs.GeneratedScripts.{IsLoad, most_load_number}
 use Rattle.bridge_ports.specs.Targets.{most_job_bytes}
 use Rattle.program_words.specs.Limits.{most_instance_host, most_nanos, most_scrapers}
-use Rattle.program_words.specs.CommandWords.{IsCommand, IsInLimits, FitNoForm, SaysScrapers, place_target, words_of}
+use Rattle.program_words.specs.CommandWords.{SpellsCommand, IsCommand, IsInLimits, SaysScrapers, place_target}
+use Rattle.program_words.specs.WordSteps.{FitNoOther, is_replay}
 use Rattle.program_words.specs.declared.words.Command.{Command}
 use Rattle.program_words.specs.declared.words.Command.TheVariants.{Help, Version, Check, Convert, Replay, Load}
 
@@ -36,22 +37,36 @@ pub conversion_words : {A : Type 0} (bytes : A → List ℕ) (xs : List A) (a b 
 conversion_words bytes xs a b c d e verb format job instance time low high at0 at1 at2 at3 at4 is0 is1 is2 is3 is4 converts f named =
     let listed : bytes a ∷ bytes b ∷ bytes c ∷ bytes d ∷ bytes e ∷ [] ≡ map bytes xs = ap (map bytes) (five xs a b c d e low high at0 at1 at2 at3 at4) in cc
 
--- words of a conversion whose second names no format fit no form
+-- a list of four by its elements
+four : {A : Type 0} (xs : List A) (a b c d : A) → 4 ≤ length xs → length xs < 5 → a ≡ get_or xs 0 a → b ≡ get_or xs 1 b → c ≡ get_or xs 2 c → d ≡ get_or xs 3 d → a ∷ b ∷ c ∷ d ∷ [] ≡ xs
+four [] a b c d low high = absurd (omega arith)
+four (p ∷ []) a b c d low high = absurd (omega arith)
+four (p ∷ q ∷ []) a b c d low high = absurd (omega arith)
+four (p ∷ q ∷ r ∷ []) a b c d low high = absurd (omega arith)
+four (p ∷ q ∷ r ∷ s ∷ []) a b c d low high = λ i j k l. cc
+four (p ∷ q ∷ r ∷ s ∷ t ∷ ts) a b c d low high = absurd (omega arith)
+
+-- the bytes of four words
+pub four_words : {A : Type 0} (bytes : A → List ℕ) (xs : List A) (a b c d : A) (verb number targets rounds : List ℕ) → 4 ≤ length xs → length xs < 5
+    → a ≡ get_or xs 0 a → b ≡ get_or xs 1 b → c ≡ get_or xs 2 c → d ≡ get_or xs 3 d → verb ≡ bytes a → number ≡ bytes b → targets ≡ bytes c → rounds ≡ bytes d
+    → verb ∷ number ∷ targets ∷ rounds ∷ [] ≡ map bytes xs
+four_words bytes xs a b c d verb number targets rounds low high at0 at1 at2 at3 is0 is1 is2 is3 =
+    let listed : bytes a ∷ bytes b ∷ bytes c ∷ bytes d ∷ [] ≡ map bytes xs = ap (map bytes) (four xs a b c d low high at0 at1 at2 at3) in cc
+
+-- words of a conversion whose second names no format fit no form but, maybe, one of a replay
 pub no_format : {A : Type 0} (bytes : A → List ℕ) (xs : List A) (a b c d e : A) (format : List ℕ) → 5 ≤ length xs → length xs < 6
     → a ≡ get_or xs 0 a → b ≡ get_or xs 1 b → c ≡ get_or xs 2 c → d ≡ get_or xs 3 d → e ≡ get_or xs 4 e
-    → format ≡ bytes b → ((f : Format) → format ≢ format_word f) → FitNoForm (map bytes xs)
-no_format bytes xs a b c d e format low high at0 at1 at2 at3 at4 is none command asked = by command (ap (map bytes) (five xs a b c d e low high at0 at1 at2 at3 at4) ∙ asked.spelled)
+    → format ≡ bytes b → ((f : Format) → format ≢ format_word f) → FitNoOther (map bytes xs)
+no_format bytes xs a b c d e format low high at0 at1 at2 at3 at4 is none command other asked =
+    by command other (subst (SpellsCommand command) (sym (ap (map bytes) (five xs a b c d e low high at0 at1 at2 at3 at4))) asked.spelled)
   where
-    by : (command : Command) → bytes a ∷ bytes b ∷ bytes c ∷ bytes d ∷ bytes e ∷ [] ≡ words_of command → ⊥
-    by Help spelled = absurd cc
-    by Version spelled = absurd cc
-    by (Replay None false) spelled = absurd cc
-    by (Replay None true) spelled = absurd cc
-    by (Replay (Some n) false) spelled = absurd cc
-    by (Replay (Some n) true) spelled = absurd cc
-    by (Load n t r) spelled = absurd cc
-    by (Check f) spelled = absurd cc
-    by (Convert f target nanos) spelled = let named : bytes b ≡ format_word f = cc in none f (is ∙ named)
+    by : (command : Command) → is_replay command ≡ false → SpellsCommand command (bytes a ∷ bytes b ∷ bytes c ∷ bytes d ∷ bytes e ∷ []) → ⊥
+    by Help other spelled = absurd cc
+    by Version other spelled = absurd cc
+    by (Replay scrapers page) other spelled = true≢false other
+    by (Load n t r) other spelled = absurd cc
+    by (Check f) other spelled = absurd cc
+    by (Convert f target nanos) other spelled = let named : bytes b ≡ format_word f = cc in none f (is ∙ named)
 
 -- a length that was tested not to be 0
 pub not_zero : (n : ℕ) (none : Bool) → none ≡ eqb n 0 → none ≡ false → 1 ≤ n
@@ -114,27 +129,24 @@ load_is number targets rounds n t r a b c is = record {
   limits = is;
 }
 
--- words that are those of no load fit no form
-pub no_load : (number targets rounds : List ℕ) → ((n t r : ℕ) → IsLoad n t r → number ≡ decimal n → targets ≡ decimal t → rounds ≡ decimal r → ⊥) → FitNoForm (codes "load" ∷ number ∷ targets ∷ rounds ∷ [])
-no_load number targets rounds none command asked = by command asked.limits asked.spelled
+-- words that are those of no load fit no form but, maybe, one of a replay
+pub no_load : (number targets rounds : List ℕ) → ((n t r : ℕ) → IsLoad n t r → number ≡ decimal n → targets ≡ decimal t → rounds ≡ decimal r → ⊥) → FitNoOther (codes "load" ∷ number ∷ targets ∷ rounds ∷ [])
+no_load number targets rounds none command other asked = by command other asked.limits asked.spelled
   where
-    by : (command : Command) → IsInLimits command → codes "load" ∷ number ∷ targets ∷ rounds ∷ [] ≡ words_of command → ⊥
-    by Help limits spelled = absurd cc
-    by Version limits spelled = absurd cc
-    by (Replay None false) limits spelled = absurd cc
-    by (Replay None true) limits spelled = absurd cc
-    by (Replay (Some n) false) limits spelled = absurd cc
-    by (Replay (Some n) true) limits spelled = absurd cc
-    by (Check f) limits spelled = absurd cc
-    by (Convert f target nanos) limits spelled = absurd cc
-    by (Load n t r) limits spelled =
+    by : (command : Command) → is_replay command ≡ false → IsInLimits command → SpellsCommand command (codes "load" ∷ number ∷ targets ∷ rounds ∷ []) → ⊥
+    by Help other limits spelled = absurd cc
+    by Version other limits spelled = absurd cc
+    by (Replay scrapers page) other limits spelled = true≢false other
+    by (Check f) other limits spelled = absurd cc
+    by (Convert f target nanos) other limits spelled = absurd cc
+    by (Load n t r) other limits spelled =
         let a : number ≡ decimal n = cc in
         let b : targets ≡ decimal t = cc in
         let c : rounds ≡ decimal r = cc in none n t r limits a b c
 
 -- numbers that are no load
 pub not_a_load : (number targets rounds : List ℕ) (n t r : ℕ) (test : Bool) → (number ≡ decimal n) × (n ≤ most_load_number) → (targets ≡ decimal t) × (t ≤ most_load_number) → (rounds ≡ decimal r) × (r ≤ most_load_number)
-    → (IsLoad n t r → test ≡ true) → test ≡ false → FitNoForm (codes "load" ∷ number ∷ targets ∷ rounds ∷ [])
+    → (IsLoad n t r → test ≡ true) → test ≡ false → FitNoOther (codes "load" ∷ number ∷ targets ∷ rounds ∷ [])
 not_a_load number targets rounds n t r test a b c only fails = no_load number targets rounds (λ m u s is x y z.
     let numbers : n ≡ m = decimal_injective n m (omega (arith, a.1)) (omega (arith, is.small)) (sym a.0 ∙ x) in
     let targets_same : t ≡ u = decimal_injective t u (omega (arith, b.1)) (omega (arith, is.few_targets)) (sym b.0 ∙ y) in

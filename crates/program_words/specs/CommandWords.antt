@@ -5,9 +5,11 @@ use Rattle.bridge_ports.specs.Targets.{Scraped, most_job_bytes}
 use Rattle.plain_words.specs.Places.{IsHostAndPort}
 use Rattle.replay_script.specs.ScriptParts.{format_word}
 use Rattle.load_pages.specs.GeneratedScripts.{IsLoad}
+use Rattle.series_select.specs.declared.selector.Selector.{Selector}
+use Rattle.series_select.specs.Selectors.{SpellEach}
 use Rattle.program_words.specs.declared.words.Command.{Command}
 use Rattle.program_words.specs.declared.words.Command.TheVariants.{Help, Version, Check, Convert, Replay, Load}
-use Rattle.program_words.specs.Limits.{most_page, most_script, most_nanos, most_instance_host, most_scrapers}
+use Rattle.program_words.specs.Limits.{most_page, most_script, most_nanos, most_instance_host, most_scrapers, most_selectors}
 
 -- what is scraped of a host and a port: its metrics, whose times do not count
 unfoldable pub place_target : List ℕ → List ℕ → List ℕ → ℕ → Scraped
@@ -26,10 +28,15 @@ abbrev pub word_if : Option ℕ → List (List ℕ)
 word_if None = []
 word_if (Some n) = decimal n ∷ []
 
--- the word that asks for the federation page
-abbrev pub page_word : Bool → List (List ℕ)
-page_word false = []
-page_word true = codes "page" ∷ []
+-- the words that ask for the federation page, where it is asked for: `page`, and behind it a word for each of its selectors
+abbrev pub ArePageWords : Option (List Selector) → List (List ℕ) → Type 0
+ArePageWords None words = words ≡ []
+ArePageWords (Some list) words = (texts : List (List ℕ)) × (words ≡ codes "page" ∷ texts) × SpellEach texts list
+
+-- at most 16 selectors, where the page is asked for
+abbrev pub AreFewSelectors : Option (List Selector) → Type 0
+AreFewSelectors None = ⊤
+AreFewSelectors (Some list) = length list ≤ most_selectors
 
 -- 1 to 4 scrapers, where their number is said
 abbrev pub AreScrapers : Option ℕ → Type 0
@@ -49,14 +56,14 @@ scrapers_asked (Some n) = n
 
 -- ---- the tables of the commands
 
--- the words that ask for a command; numbers are decimal digits without a sign or a leading zero
-abbrev pub words_of : Command → List (List ℕ)
-words_of Help = codes "--help" ∷ []
-words_of Version = codes "--version" ∷ []
-words_of (Check format) = codes "check" ∷ format_word format ∷ []
-words_of (Convert format target nanos) = codes "convert" ∷ format_word format ∷ target.job ∷ target.instance ∷ decimal nanos ∷ []
-words_of (Replay scrapers page) = (codes "replay" ∷ word_if scrapers) ++ page_word page
-words_of (Load number targets rounds) = codes "load" ∷ decimal number ∷ decimal targets ∷ decimal rounds ∷ []
+-- these words ask for a command; numbers are decimal digits without a sign or a leading zero
+abbrev pub SpellsCommand : Command → List (List ℕ) → Type 0
+SpellsCommand Help words = words ≡ codes "--help" ∷ []
+SpellsCommand Version words = words ≡ codes "--version" ∷ []
+SpellsCommand (Check format) words = words ≡ codes "check" ∷ format_word format ∷ []
+SpellsCommand (Convert format target nanos) words = words ≡ codes "convert" ∷ format_word format ∷ target.job ∷ target.instance ∷ decimal nanos ∷ []
+SpellsCommand (Replay scrapers page) words = (behind : List (List ℕ)) × (words ≡ codes "replay" ∷ (word_if scrapers ++ behind)) × ArePageWords page behind
+SpellsCommand (Load number targets rounds) words = words ≡ codes "load" ∷ decimal number ∷ decimal targets ∷ decimal rounds ∷ []
 
 -- the ranges of a command's arguments
 abbrev pub IsInLimits : Command → Type 0
@@ -64,7 +71,7 @@ IsInLimits Help = ⊤
 IsInLimits Version = ⊤
 IsInLimits (Check format) = ⊤
 IsInLimits (Convert format target nanos) = IsTarget target × (nanos ≤ most_nanos)
-IsInLimits (Replay scrapers page) = AreScrapers scrapers
+IsInLimits (Replay scrapers page) = AreScrapers scrapers × AreFewSelectors page
 IsInLimits (Load number targets rounds) = IsLoad number targets rounds
 
 -- the command reads the input
@@ -107,7 +114,7 @@ takes_memory (Load number targets rounds) = true
 
 -- these words ask for this command
 pub record IsCommand (words : List (List ℕ)) (command : Command) : Type 0 where
-  pub spelled : words ≡ words_of command
+  pub spelled : SpellsCommand command words
   pub limits : IsInLimits command
 
 -- the words fit no form of the command line

@@ -1,6 +1,7 @@
 pub mod Limits
 pub mod Statuses
 pub mod CommandWords
+pub mod WordSteps
 pub mod Stops
 pub mod HelpTexts
 pub mod InputAnswers

@@ -13,6 +13,10 @@ most_script = 2 ^ 28
 abbrev pub most_scrapers : ℕ
 most_scrapers = 4
 
+-- the most selectors behind the word `page`
+abbrev pub most_selectors : ℕ
+most_selectors = 16
+
 -- the most samples of a page
 abbrev pub most_samples : ℕ
 most_samples = 200000

@@ -3,6 +3,9 @@
 /// The most scrapers that visit the targets of a script at once.
 pub(crate) const MOST_SCRAPERS: u64 = 4;
 
+/// The most selectors behind the word `page`.
+pub(crate) const MOST_SELECTORS: usize = 16;
+
 /// The latest time, in nanoseconds since the Unix epoch.
 pub(crate) const MOST_NANOS: u64 = 1 << 62;
 

@@ -4,7 +4,7 @@
 const FORMS: &[(&str, &str)] = &[
     ("check", "check FORMAT"),
     ("convert", "convert FORMAT JOB INSTANCE NANOS"),
-    ("replay", "replay [SCRAPERS] [page]"),
+    ("replay", "replay [SCRAPERS] [page [SELECTOR ..]]"),
     ("run", "run CONFIG"),
     ("load", "load NUMBER TARGETS ROUNDS"),
     ("--help", "--help"),

@@ -11,11 +11,12 @@ bridge check FORMAT
 bridge convert FORMAT JOB INSTANCE NANOS
     reads a page on the input and prints the OTLP JSON text of one event
     bridge convert openmetrics app localhost:8000 1700000000000000000
-bridge replay [SCRAPERS] [page]
+bridge replay [SCRAPERS] [page [SELECTOR ..]]
     reads a script on the input and prints the OTLP JSON text of each of its scrapes;
     SCRAPERS, 1 to 4, is how many targets are visited at once, 1 where it is left out;
-    with page, the federation page of what the targets show at the end follows
-    bridge replay 4 page
+    with page, the federation page of what the targets show at the end follows, with a
+    SELECTOR or up to 16 only the series that one of them matches
+    bridge replay 4 page '{job=\"app\"}'
 bridge run CONFIG
     scrapes the targets of the configuration in the file CONFIG, posts each scrape to its
     collector, and prints a report when all rounds are made

@@ -1,10 +1,13 @@
 //! The words of the command line.
 mod forms;
+mod replay;
 mod target;
 
 use bridge_ports::Target;
 pub use forms::command_of;
+use label_sets::List;
 use page_model::Format;
+use series_select::Selector;
 
 /// What the words of the command line ask for.
 #[derive(Drop)]
@@ -31,8 +34,9 @@ pub enum Command {
     Replay {
         /// How many scrapers visit the targets at once, from 1 to 4, where the words say it.
         scrapers: Option<u32>,
-        /// Whether the federation page is printed behind the bodies.
-        page: bool,
+        /// The selectors of the federation page that is printed behind the bodies, where one is asked for. Without a
+        /// selector it is the whole page.
+        page: Option<List<Selector>>,
     },
     /// The report of the visits of targets that a number stands for.
     Load {

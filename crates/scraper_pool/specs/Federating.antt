@@ -1,9 +1,13 @@
 -- What is told of a page that was made of what a table under a lock shows: that it is of some table of the run.
 -- Prometheus, "Federation"; what a lock lets a contract say is the bridge's own.
-use Rattle.std.specs.Prelude.{◌≡◌, ℕ, List, ◌++◌}
+use Rattle.std.specs.Prelude.{◌≡◌, ℕ, List}
 use Rattle.page_model.specs.declared.event.Shown.{Shown}
+use Rattle.page_model.specs.declared.page.Page.{Page}
+use Rattle.open_writing.specs.OpenForms.{IsOpenForm}
+use Rattle.series_select.specs.declared.selector.Selector.{Selector}
+use Rattle.series_select.specs.Selection.{selected_text}
 use Rattle.series_table.specs.Talking.{Talking}
-use Rattle.federation_page.specs.Gathering.{AreShowable, federated_text}
+use Rattle.federation_page.specs.Gathering.{AreShowable, federated_page}
 use Rattle.target_table.specs.Runs.{Run}
 use Rattle.target_table.specs.Tables.{Held, IsTable}
 
@@ -14,14 +18,15 @@ pub record AreSeen (w : Talking) (run : Run) (shown : List Shown) : Type 0 where
   pub seen : shown ≡ held.seen
   pub showable : AreShowable shown
 
--- the text of the federation page of what such readers see
-pub record IsSeenPage (w : Talking) (run : Run) (page : List ℕ) : Type 0 where
+-- the federation page of what such readers see, which is in OpenMetrics form
+pub record IsSeenPage (w : Talking) (run : Run) (page : Page) : Type 0 where
   pub shown : List Shown
   pub seen : AreSeen w run shown
-  pub text : page ≡ federated_text shown
+  pub page_is : page ≡ federated_page shown
+  pub form : IsOpenForm page
 
--- behind what was there stands such a text
-pub record HasPage (w : Talking) (run : Run) (before after : List ℕ) : Type 0 where
-  pub page : List ℕ
+-- the text of such a page with the readings that these selectors match
+pub record IsSelectedPage (w : Talking) (run : Run) (list : List Selector) (text : List ℕ) : Type 0 where
+  pub page : Page
   pub seen : IsSeenPage w run page
-  pub behind : after ≡ before ++ page
+  pub text_is : text ≡ selected_text list page

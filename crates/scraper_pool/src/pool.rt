@@ -1,16 +1,16 @@
 //! The table behind a lock, and a worker's turn.
-ghost use Rattle.std.specs.Prelude.{◌≡◌, ◌+◌, None, IfSome, IfNone, IfOk, OnOk, OnErr};
+ghost use Rattle.std.specs.Prelude.{◌≡◌, ◌+◌, None, IfSome, IfNone, IfOk};
 ghost use Rattle.series_table.specs.Counting.{as_count};
 ghost use Rattle.series_table.specs.HttpTalks.{talking};
 ghost use Rattle.target_table.specs.Tables.{MayBePut};
-ghost use Rattle.scraper_pool.specs.Federating.{AreSeen, HasPage};
+ghost use Rattle.scraper_pool.specs.Federating.{AreSeen, IsSeenPage};
 ghost use Rattle.scraper_pool.specs.Turns.{IsTurn, seated};
 
 use crate::turn::Turn;
 use bridge_ports::Wire;
-use federation_page::write_page;
+use federation_page::gather;
 use label_sets::Memory;
-use page_model::Shown;
+use page_model::{Page, Shown};
 use std::alloc::{AllocError, Global};
 use std::sync::{Mutex, Wait};
 use target_table::{Lane, Lease, RunName, Seat, Table};
@@ -77,18 +77,16 @@ impl<N: RunName, A: Lane, B: Lane, C: Lane, D: Lane, W: Wire> Pool<N, A, B, C, D
         self.table.lock(rt).shown(alloc)
     }
 
-    /// Puts the text of the federation page of what readers see behind what `out` holds. The lock is held while that is
-    /// copied, and not while the text is made.
+    /// The federation page of what readers see. The lock is held while that is copied, and not while it is gathered.
     ///
     /// # Errors
     ///
-    /// Want of memory: then `out` holds what it held.
-    pub fn federate<R: Wait>(&self, rt: &R, out: &mut Vec<u8>) -> Result<(), Memory>
-        ensures ok { OnOk result (HasPage talking N.run out.old.items out.new.items) }
-        ensures err { OnErr result (out.new.items ≡ out.old.items) }
+    /// Want of memory.
+    pub fn gathered<R: Wait>(&self, rt: &R, alloc: Global) -> Result<Page, Memory>
+        ensures { IfOk result (λ page. IsSeenPage talking N.run page) }
     {
-        match self.shown(rt, *out.allocator()) {
-            Ok(shown) => write_page(shown.as_slice(), out),
+        match self.shown(rt, alloc) {
+            Ok(shown) => gather(alloc, shown.as_slice()),
             Err(AllocError) => Err(AllocError),
         }
     }

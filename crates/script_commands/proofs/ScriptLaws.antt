@@ -1,5 +1,5 @@
 -- What an input comes to that holds a script.
-use Rattle.std.proofs.Common.{◌≡◌, ℕ, Bool, List, length, Option, Some, None, refl, ap, subst, arith, length-append}
+use Rattle.std.proofs.Common.{◌≡◌, ℕ, List, length, Option, Some, None, refl, ap, subst, arith, length-append}
 use Rattle.replay_script.specs.declared.script.Script.{Script}
 use Rattle.replay_script.specs.declared.fault.ScriptFault.{ScriptFault}
 use Rattle.replay_script.specs.declared.fault.ScriptFault.TheVariants as faults
@@ -9,6 +9,7 @@ use Rattle.replay_script.proofs.Laws.{scripts_are_right}
 use Rattle.program_words.specs.declared.status.Status.TheVariants.{TooLong}
 use Rattle.program_words.specs.Limits.{most_script}
 use Rattle.program_words.specs.Statuses.{code_of}
+use Rattle.series_select.specs.declared.selector.Selector.{Selector}
 use Rattle.program_words.specs.Stops.{too_long_text, script_stop}
 use Rattle.bridge_ports.specs.Inputs.{IsOverlong}
 use Rattle.script_commands.specs.ScriptAnswers.{IsScriptAnswer, script_refused, script_too_long}
@@ -18,14 +19,14 @@ use Rattle.program_words.specs.StopAnswers.{StopsAs}
 use Rattle.script_commands.specs.Printing.{HoldsBytes, HoldsScript}
 
 -- the answer to an input that is too long
-pub too_long_script : (page : Bool) (left after : Option (List ℕ)) → IsOverlong most_script left after → HasAnswer (IsScriptAnswer (IsReplayWith page)) left (code_of TooLong) too_long_text
+pub too_long_script : (page : Option (List Selector)) (left after : Option (List ℕ)) → IsOverlong most_script left after → HasAnswer (IsScriptAnswer (IsReplayWith page)) left (code_of TooLong) too_long_text
 too_long_script page None after over = record { bytes = over.bytes; on_input = tt; says = script_too_long over.many }
 too_long_script page (Some bytes) None over = absurd over.from
 too_long_script page (Some bytes) (Some rest) over =
     record { bytes = bytes; on_input = refl; says = script_too_long (omega (arith, over.many, ap (length {A = ℕ}) over.from, length-append over.bytes rest)) }
 
 -- the answer to a script with a fault
-pub script_fault : (page : Bool) (left : Option (List ℕ)) (bytes read : List ℕ) (fault : ScriptFault) → HoldsBytes most_script left bytes → read ≡ bytes → IsFaultOf read fault → StopsAs (IsScriptAnswer (IsReplayWith page)) left (script_stop fault)
+pub script_fault : (page : Option (List Selector)) (left : Option (List ℕ)) (bytes read : List ℕ) (fault : ScriptFault) → HoldsBytes most_script left bytes → read ≡ bytes → IsFaultOf read fault → StopsAs (IsScriptAnswer (IsReplayWith page)) left (script_stop fault)
 script_fault page left bytes read (faults.Line line) holds same is =
     let has = subst (λ bs. IsFaultOf bs (faults.Line line)) same is in
     record { bytes = bytes; on_input = holds.on_input; says = script_refused line holds.short has }

@@ -1,5 +1,5 @@
 -- What targets show behind a script's events: that it is one, that it may be gathered, and how it is printed.
-use Rattle.std.proofs.Common.{◌≡◌, ℕ, zero, suc, ◌+◌, ◌≤◌, Bool, true, false, ◌&&◌, bytes_eq, List, [], ◌∷◌, ◌++◌, length, map, take, Option, Some, Result, Ok, Err, refl, sym, ap, subst, ◌∙◌, inl, inr, arith, append-nil}
+use Rattle.std.proofs.Common.{◌≡◌, ℕ, zero, suc, ◌+◌, ◌≤◌, true, false, ◌&&◌, bytes_eq, List, [], ◌∷◌, ◌++◌, length, map, take, Option, Some, None, is_some, Result, Ok, Err, refl, sym, ap, subst, ◌∙◌, inl, inr, arith, append-nil}
 use Rattle.std.specs.Prelude.{slice_get, ⊤}
 use Rattle.std.specs.Io.KnownBytes.{Appends}
 use Rattle.std.specs.List.{IsDistinct, AllByRecursion}
@@ -27,7 +27,9 @@ use Rattle.target_core.specs.Events.{latest_shown}
 use Rattle.target_core.specs.States.{Following}
 use Rattle.series_table.specs.Records.{IsScrapedWithin}
 use Rattle.series_table.proofs.Laws.{shown_within}
-use Rattle.federation_page.specs.Gathering.{is_one_target, IsTargetName, IsShowable, AreShowable, federated_text}
+use Rattle.federation_page.specs.Gathering.{is_one_target, IsTargetName, IsShowable, AreShowable, federated_page}
+use Rattle.series_select.specs.declared.selector.Selector.{Selector}
+use Rattle.series_select.specs.Selection.{selected_text}
 use Rattle.replay_script.specs.declared.header.Header.{Header}
 use Rattle.replay_script.specs.declared.script.ScriptTarget.{ScriptTarget}
 use Rattle.replay_script.specs.declared.script.Script.{Script}
@@ -54,14 +56,14 @@ all_shown_once h (t ∷ ts) [] ys a b = absurd a
 all_shown_once h (t ∷ ts) (x ∷ xs) [] a b = absurd b
 all_shown_once h (t ∷ ts) (x ∷ xs) (y ∷ ys) a b = ap (λ z. z ∷ xs) (shown_once h t x y a.0 b.0) ∙ ap (λ zs. y ∷ zs) (all_shown_once h ts xs ys a.1 b.1)
 
-page_once : (s : Script) (a b : List ℕ) → IsReplayPage s a → IsReplayPage s b → a ≡ b
-page_once s a b x y = x.says ∙ ap federated_text (all_shown_once s.header s.targets x.shown y.shown x.are y.are) ∙ sym y.says
+page_once : (list : List Selector) (s : Script) (a b : List ℕ) → IsReplayPage list s a → IsReplayPage list s b → a ≡ b
+page_once list s a b x y = x.says ∙ ap (λ (shown : List Shown). selected_text list (federated_page shown)) (all_shown_once s.header s.targets x.shown y.shown x.are y.are) ∙ sym y.says
 
 -- a script has one text, with its page or without it
-pub replay_with_once : (page : Bool) (s : Script) (a b : List ℕ) → IsReplayWith page s a → IsReplayWith page s b → a ≡ b
-replay_with_once false s a b x y = replay_once s a b x y
-replay_with_once true s a b x y =
-    x.says ∙ ap (λ bodies. bodies ++ x.page) (replay_once s x.bodies y.bodies x.are_bodies y.are_bodies) ∙ ap (λ page. y.bodies ++ page) (page_once s x.page y.page x.is_page y.is_page) ∙ sym y.says
+pub replay_with_once : (page : Option (List Selector)) (s : Script) (a b : List ℕ) → IsReplayWith page s a → IsReplayWith page s b → a ≡ b
+replay_with_once None s a b x y = replay_once s a b x y
+replay_with_once (Some list) s a b x y =
+    x.says ∙ ap (λ bodies. bodies ++ x.page) (replay_once s x.bodies y.bodies x.are_bodies y.are_bodies) ∙ ap (λ page. y.bodies ++ page) (page_once list s x.page y.page x.is_page y.is_page) ∙ sym y.says
 
 -- ---- what is shown may be gathered
 
@@ -180,12 +182,12 @@ all_is_some s text some is = by is.texts is.are is.all is.says
         record { texts = earlier; are = are.1; target = are.0.target; stands = are.0.stands; part = last; is_part = some_text s.header are.0.target last are.0.is; says = says }
 
 -- the whole text: the bodies, and the page behind them, where it is asked for
-whole_text : (page : Bool) (s : Script) (bodies : List ℕ) (shown : List Shown) → IsReplay s bodies → (page ≡ true → AreLastShown s.header s.targets shown) → IsReplayWith page s (bodies ++ page_text page shown)
-whole_text false s bodies shown is are = subst (IsReplay s) (sym (append-nil bodies)) is
-whole_text true s bodies shown is are = record { bodies = bodies; page = federated_text shown; are_bodies = is; is_page = record { shown = shown; are = are refl; says = refl }; says = refl }
+whole_text : (page : Option (List Selector)) (s : Script) (bodies : List ℕ) (shown : List Shown) → IsReplay s bodies → (is_some page ≡ true → AreLastShown s.header s.targets shown) → IsReplayWith page s (bodies ++ page_text page shown)
+whole_text None s bodies shown is are = subst (IsReplay s) (sym (append-nil bodies)) is
+whole_text (Some list) s bodies shown is are = record { bodies = bodies; page = selected_text list (federated_page shown); are_bodies = is; is_page = record { shown = shown; are = are refl; says = refl }; says = refl }
 
 -- the page was printed behind the bodies, where it is asked for; or that was cut off, or what follows it
-pub page_behind : (page : Bool) (s : Script) (shown : List Shown) (a b c : Option (List ℕ)) (r : Result ⊤ Cut) → 1 ≤ length s.targets → (page ≡ true → AreLastShown s.header s.targets shown) → PrintsAll s a b
+pub page_behind : (page : Option (List Selector)) (s : Script) (shown : List Shown) (a b c : Option (List ℕ)) (r : Result ⊤ Cut) → 1 ≤ length s.targets → (is_some page ≡ true → AreLastShown s.header s.targets shown) → PrintsAll s a b
     → PrintsFirst (page_text page shown) b c r → PrintsScript page s a c r
 page_behind page s shown a b c (Ok done) some are bodies text =
     (bodies.0 ++ page_text page shown, whole_text page s bodies.0 shown bodies.1 are, appends_twice a b c bodies.0 (page_text page shown) bodies.2 text)
@@ -197,7 +199,7 @@ page_behind page s shown a b c (Err cuts.Memory) some are bodies (inr text) =
     (bodies.0 ++ page_text page shown, inr (whole_text page s bodies.0 shown bodies.1 are), appends_twice a b c bodies.0 (page_text page shown) bodies.2 text)
 
 -- printing the bodies was cut off
-pub bodies_cut : (page : Bool) (s : Script) (a b : Option (List ℕ)) (cut : Cut) → CutsBodies s a b cut → CutsScript page s a b cut
+pub bodies_cut : (page : Option (List Selector)) (s : Script) (a b : Option (List ℕ)) (cut : Cut) → CutsBodies s a b cut → CutsScript page s a b cut
 bodies_cut page s a b cuts.Write text = (text.0, inl text.1, text.2)
 bodies_cut page s a b cuts.Memory text = (text.0, inl text.1, text.2)
 
@@ -209,13 +211,14 @@ text_cut text before after cuts.Write front = front
 text_cut text before after cuts.Memory none = inl none
 
 -- no page was asked for
-pub no_page : (page : Bool) (shown : List Shown) (held : Option (List ℕ)) → page ≡ false → Appends held held (page_text page shown)
+pub no_page : (page : Option (List Selector)) (shown : List Shown) (held : Option (List ℕ)) → page ≡ None → Appends held held (page_text page shown)
 no_page page shown held e = subst (λ p. Appends held held (page_text p shown)) (sym e) (appends_none held)
 
 -- the page was asked for
-pub asked_page : {T : Type 0} (page : Bool) (shown : List Shown) (before after : Option (List ℕ)) (r : Result T Cut) → page ≡ true → PrintsText (federated_text shown) before after r → PrintsText (page_text page shown) before after r
-asked_page page shown before after r e printed = subst (λ p. PrintsText (page_text p shown) before after r) (sym e) printed
+pub asked_page : {T : Type 0} (page : Option (List Selector)) (list : List Selector) (shown : List Shown) (before after : Option (List ℕ)) (r : Result T Cut) → page ≡ Some list
+    → PrintsText (selected_text list (federated_page shown)) before after r → PrintsText (page_text page shown) before after r
+asked_page page list shown before after r e printed = subst (λ p. PrintsText (page_text p shown) before after r) (sym e) printed
 
 -- the page was printed of what is shown, as it was read
-pub page_seen : (page : Bool) (shown seen : List Shown) (before after : Option (List ℕ)) → seen ≡ shown → Appends before after (page_text page seen) → Appends before after (page_text page shown)
+pub page_seen : (page : Option (List Selector)) (shown seen : List Shown) (before after : Option (List ℕ)) → seen ≡ shown → Appends before after (page_text page seen) → Appends before after (page_text page shown)
 page_seen page shown seen before after same printed = subst (λ (s : List Shown). Appends before after (page_text page s)) same printed

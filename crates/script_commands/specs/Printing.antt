@@ -1,6 +1,6 @@
 -- What was printed of a script: of a visit, of a target, of all, and where that was cut off.
 -- The bridge's own.
-use Rattle.std.specs.Prelude.{◌≡◌, ◌⊎◌, ℕ, ◌≤◌, Bool, true, false, ◌∷◌, ◌++◌, List, [], length, slice_get, Option, Some, Result, Ok, Err, ⊤}
+use Rattle.std.specs.Prelude.{◌≡◌, ◌⊎◌, ℕ, ◌≤◌, Bool, ◌∷◌, ◌++◌, List, [], length, slice_get, Option, Some, None, Result, Ok, Err, ⊤}
 use Rattle.std.specs.Io.KnownBytes.{Appends}
 use Rattle.page_model.specs.declared.event.Event.{Event}
 use Rattle.page_model.specs.declared.event.Shown.{Shown}
@@ -25,7 +25,9 @@ use Rattle.script_commands.specs.Rounds.{IsAtRound}
 use Rattle.bridge_ports.specs.Inputs.{IsInput}
 use Rattle.script_commands.specs.Loads.{IsLoadReport, MayBeReported}
 use Rattle.script_commands.specs.ScriptAnswers.{IsScriptInput}
-use Rattle.federation_page.specs.Gathering.{federated_text}
+use Rattle.series_select.specs.declared.selector.Selector.{Selector}
+use Rattle.series_select.specs.Selection.{selected_text}
+use Rattle.federation_page.specs.Gathering.{federated_page}
 
 -- the status where printing in pieces is cut off
 abbrev pub cut_status : Cut → Status
@@ -126,19 +128,19 @@ PrintsText text before after (Ok done) = Appends before after text
 PrintsText text before after (Err cut) = CutsText text before after cut
 
 -- what was printed of a script, with its page or without it, where it was cut off: at want of memory no part of the page, or all of it
-abbrev pub CutsScript : Bool → Script → Option (List ℕ) → Option (List ℕ) → Cut → Type 0
+abbrev pub CutsScript : Option (List Selector) → Script → Option (List ℕ) → Option (List ℕ) → Cut → Type 0
 CutsScript page s before after Write = (text : List ℕ) × MayBeCut page s text × WroteFront before after text
 CutsScript page s before after Memory = (text : List ℕ) × MayBeCut page s text × Appends before after text
 
 -- what printing a script came to, with its page or without it
-abbrev pub PrintsScript : {T : Type 0} → Bool → Script → Option (List ℕ) → Option (List ℕ) → Result T Cut → Type 0
+abbrev pub PrintsScript : {T : Type 0} → Option (List Selector) → Script → Option (List ℕ) → Option (List ℕ) → Result T Cut → Type 0
 PrintsScript page s before after (Ok done) = (text : List ℕ) × IsReplayWith page s text × Appends before after text
 PrintsScript page s before after (Err cut) = CutsScript page s before after cut
 
--- the text of the page of what is shown, where it is asked for
-abbrev pub page_text : Bool → List Shown → List ℕ
-page_text false shown = []
-page_text true shown = federated_text shown
+-- the text of the page of what is shown, with what some selectors match, where it is asked for
+abbrev pub page_text : Option (List Selector) → List Shown → List ℕ
+page_text None shown = []
+page_text (Some list) shown = selected_text list (federated_page shown)
 
 -- what was printed of a text, behind which memory is wanted for more, where that was cut off: a front of it, nothing, or all of it
 abbrev pub CutsFirst : List ℕ → Option (List ℕ) → Option (List ℕ) → Cut → Type 0

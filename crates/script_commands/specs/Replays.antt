@@ -1,6 +1,6 @@
 -- What `replay` prints: what the replies of a script come to, the texts of these events, and the federation page behind them.
 -- OTLP/HTTP, JSON; Prometheus, "Federation"; the line feeds and the rest are the bridge's own.
-use Rattle.std.specs.Prelude.{◌≡◌, ◌⊎◌, ℕ, Bool, true, false, List, [], ◌∷◌, ◌++◌, length, codes, slice_get, Some, ⊤}
+use Rattle.std.specs.Prelude.{◌≡◌, ◌⊎◌, ℕ, List, [], ◌∷◌, ◌++◌, length, codes, slice_get, Option, Some, None, ⊤}
 use Rattle.std.specs.List.{AllZip}
 use Rattle.page_model.specs.declared.event.Event.{Event}
 use Rattle.page_model.specs.declared.event.Shown.{Shown}
@@ -11,7 +11,9 @@ use Rattle.http_talk.specs.Replies.{HasOutcome}
 use Rattle.start_times.specs.Starts.{Tracking}
 use Rattle.target_core.specs.Events.{request_after, latest_shown}
 use Rattle.otlp_json.specs.Texts.{request_text}
-use Rattle.federation_page.specs.Gathering.{federated_text}
+use Rattle.series_select.specs.declared.selector.Selector.{Selector}
+use Rattle.series_select.specs.Selection.{selected_text}
+use Rattle.federation_page.specs.Gathering.{federated_page}
 use Rattle.replay_script.specs.declared.header.Header.{Header}
 use Rattle.replay_script.specs.declared.script.ScriptTarget.{ScriptTarget}
 use Rattle.replay_script.specs.declared.script.Script.{Script}
@@ -112,25 +114,25 @@ pub record IsLastShown (h : Header) (t : ScriptTarget) (shown : Shown) : Type 0 
 abbrev pub AreLastShown : Header → List ScriptTarget → List Shown → Type 0
 AreLastShown h targets shown = AllZip (IsLastShown h) targets shown
 
--- a text is that of the federation page of what the targets of a script show behind their last events, in order
-pub record IsReplayPage (s : Script) (text : List ℕ) : Type 0 where
+-- a text is that of the federation page of what the targets of a script show behind their last events, in order, with what these selectors match
+pub record IsReplayPage (list : List Selector) (s : Script) (text : List ℕ) : Type 0 where
   pub shown : List Shown
   pub are : AreLastShown s.header s.targets shown
-  pub says : text ≡ federated_text shown
+  pub says : text ≡ selected_text list (federated_page shown)
 
--- a text is what `replay page` prints of a script: the texts of all events, and behind them that of the page
-pub record IsReplayAndPage (s : Script) (text : List ℕ) : Type 0 where
+-- a text is what `replay page` prints of a script with these selectors: the texts of all events, and behind them that of the page
+pub record IsReplayAndPage (list : List Selector) (s : Script) (text : List ℕ) : Type 0 where
   pub bodies : List ℕ
   pub page : List ℕ
   pub are_bodies : IsReplay s bodies
-  pub is_page : IsReplayPage s page
+  pub is_page : IsReplayPage list s page
   pub says : text ≡ bodies ++ page
 
--- a text is what `replay` prints of a script, with its page or without it
-abbrev pub IsReplayWith : Bool → Script → List ℕ → Type 0
-IsReplayWith false = IsReplay
-IsReplayWith true = IsReplayAndPage
+-- a text is what `replay` prints of a script, with its page by some selectors or without it
+abbrev pub IsReplayWith : Option (List Selector) → Script → List ℕ → Type 0
+IsReplayWith None = IsReplay
+IsReplayWith (Some list) = IsReplayAndPage list
 
 -- a text is one of which `replay` may print a front: that up to some event of a target, or all
-abbrev pub MayBeCut : Bool → Script → List ℕ → Type 0
+abbrev pub MayBeCut : Option (List Selector) → Script → List ℕ → Type 0
 MayBeCut page s text = IsReplayOfSome s text ⊎ IsReplayWith page s text

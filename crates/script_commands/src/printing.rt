@@ -1,8 +1,9 @@
 //! What `replay` prints of a run that is over: the bodies of its visits, and behind them the federation page of what the
 //! targets show.
-ghost use Rattle.std.specs.Prelude.{◌≡◌, true, IfOk, OnOk, map};
+ghost use Rattle.std.specs.Prelude.{◌≡◌, true, is_some, IfOk, OnOk, map};
 ghost use Rattle.std.specs.List.{AllByRecursion};
-ghost use Rattle.federation_page.specs.Gathering.{AreShowable, federated_text};
+ghost use Rattle.series_select.specs.Selection.{selected_text};
+ghost use Rattle.federation_page.specs.Gathering.{AreShowable, federated_page};
 ghost use Rattle.replay_script.specs.RightScripts.{IsRightScript};
 ghost use Rattle.script_commands.specs.Replays.{AreLastShown};
 ghost use Rattle.script_commands.specs.Rounds.{visits_counted, IsScriptRun, AreVisitedWires};
@@ -14,11 +15,12 @@ use crate::replaying::{Cut, print_targets};
 use crate::shelving::shelve;
 use crate::visiting::ScriptRun;
 use bridge_ports::{Failed, Sink, World, write_all};
-use federation_page::write_page;
-use label_sets::Memory;
+use federation_page::gather;
+use label_sets::{List, Memory};
 use page_model::Shown;
 use replay_script::Script;
 use run_report::TargetEnd;
+use series_select::{Selector, write_selected};
 use std::alloc::{AllocError, Global};
 
 /// How many visits of each target were counted, in order.
@@ -65,17 +67,41 @@ pub fn print_run<O: Sink>(
     }
 }
 
-/// Prints the federation page of what is shown.
-fn print_page<O: Sink>(alloc: Global, shown: &[Shown], output: &mut O) -> Result<(), Cut>
+/// The text of the federation page of what is shown, with what the selectors match.
+fn selected_page(
+    alloc: Global,
+    selectors: &List<Selector>,
+    shown: &[Shown],
+) -> Result<Vec<u8>, Memory>
     requires { AreShowable shown.now }
-    ensures printed { PrintsText (federated_text shown.now) (O.held output.old) (O.held output.new) result }
+    ensures { IfOk result (λ text. text.items ≡ selected_text selectors.now (federated_page shown.now)) }
+{
+    let page = match gather(alloc, shown) {
+        Ok(page) => page,
+        Err(AllocError) => return Err(AllocError),
+    };
+    let mut text = Vec::new(alloc);
+    match write_selected(&page, selectors, &mut text) {
+        Ok(()) => Ok(text),
+        Err(AllocError) => Err(AllocError),
+    }
+}
+
+/// Prints the federation page of what is shown, with what the selectors match.
+fn print_page<O: Sink>(
+    alloc: Global,
+    selectors: &List<Selector>,
+    shown: &[Shown],
+    output: &mut O,
+) -> Result<(), Cut>
+    requires { AreShowable shown.now }
+    ensures printed { PrintsText (selected_text selectors.now (federated_page shown.now)) (O.held output.old) (O.held output.new) result }
     ensures cause { CutCause (O.write_faults output.old) (O.write_faults output.new) result }
 {
-    let mut text = Vec::new(alloc);
-    match write_page(shown, &mut text) {
-        Ok(()) => {}
+    let text = match selected_page(alloc, selectors, shown) {
+        Ok(text) => text,
         Err(AllocError) => return Err(Cut::Memory),
-    }
+    };
     match write_all(output, text.as_slice()) {
         Ok(()) => Ok(()),
         Err(Failed) => Err(Cut::Write),
@@ -85,18 +111,18 @@ fn print_page<O: Sink>(alloc: Global, shown: &[Shown], output: &mut O) -> Result
 /// Prints the federation page of what is shown, where it is asked for.
 fn print_asked_page<O: Sink>(
     alloc: Global,
-    page: bool,
+    page: &Option<List<Selector>>,
     shown: &[Shown],
     output: &mut O,
 ) -> Result<(), Cut>
-    requires { page ≡ true → AreShowable shown.now }
-    ensures printed { PrintsText (page_text page shown.now) (O.held output.old) (O.held output.new) result }
+    requires { is_some page.now ≡ true → AreShowable shown.now }
+    ensures printed { PrintsText (page_text page.now shown.now) (O.held output.old) (O.held output.new) result }
     ensures cause { CutCause (O.write_faults output.old) (O.write_faults output.new) result }
 {
-    if !page {
-        return Ok(());
+    match page {
+        Some(selectors) => print_page(alloc, selectors, shown, output),
+        None => Ok(()),
     }
-    print_page(alloc, shown, output)
 }
 
 /// Prints the page of what is left of a script's targets, where it is asked for, and puts their wires on the shelf of a
@@ -107,14 +133,14 @@ fn print_asked_page<O: Sink>(
 /// A write that failed; want of memory for the page or for the shelf. Then nothing or the whole page is printed.
 pub fn end_replay<W: World, O: Sink>(
     alloc: Global,
-    page: bool,
+    page: &Option<List<Selector>>,
     over: Over,
     world: &mut W,
     output: &mut O,
 ) -> Result<(), Cut>
-    requires shown { page ≡ true → AreShowable over.shown.items }
+    requires shown { is_some page.now ≡ true → AreShowable over.shown.items }
     requires wires { AllByRecursion IsFreePair over.wires.items }
-    ensures printed { PrintsFirst (page_text page over.shown.items) (O.held output.old) (O.held output.new) result }
+    ensures printed { PrintsFirst (page_text page.now over.shown.items) (O.held output.old) (O.held output.new) result }
     ensures cause { CutCause (O.write_faults output.old) (O.write_faults output.new) result }
     ensures shelf { OnOk result (W.seen world.new ≡ with_shelved over.wires.items (W.seen world.old)) }
     ensures kept { KeepsAllButShelf (W.seen world.old) (W.seen world.new) }

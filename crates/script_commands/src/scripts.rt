@@ -1,5 +1,6 @@
 //! The script on an input.
-ghost use Rattle.std.specs.Prelude.{Bool, IfOk, IfErr};
+ghost use Rattle.std.specs.Prelude.{List, Option, IfOk, IfErr};
+ghost use Rattle.series_select.specs.declared.selector.Selector.{Selector};
 ghost use Rattle.program_words.specs.Limits.{most_script};
 ghost use Rattle.script_commands.specs.ScriptAnswers.{IsScriptAnswer};
 ghost use Rattle.program_words.specs.StopInputs.{Leaves};
@@ -18,7 +19,7 @@ const MOST_SCRIPT_BYTES: usize = 1 << 28;
 /// The bytes of a script on an input.
 fn script_bytes<I: Source>(alloc: Global, input: &mut I) -> Result<Vec<u8>, Stop>
     ensures bytes { IfOk result (λ bytes. HoldsBytes most_script (I.left input.old) bytes.items) }
-    ensures stop { (page : Bool) → IfErr result (StopsAs (IsScriptAnswer (IsReplayWith page)) (I.left input.old)) }
+    ensures stop { (page : Option (List Selector)) → IfErr result (StopsAs (IsScriptAnswer (IsReplayWith page)) (I.left input.old)) }
     ensures input { Leaves most_script (I.left input.old) (I.left input.new)
         (I.read_faults input.old) (I.read_faults input.new) result }
 {
@@ -44,7 +45,7 @@ fn script_bytes<I: Source>(alloc: Global, input: &mut I) -> Result<Vec<u8>, Stop
 /// failed; want of memory.
 pub fn whole_script<I: Source>(alloc: Global, input: &mut I) -> Result<Script, Stop>
     ensures script { IfOk result (HoldsScript (I.left input.old)) }
-    ensures stop { (page : Bool) → IfErr result (StopsAs (IsScriptAnswer (IsReplayWith page)) (I.left input.old)) }
+    ensures stop { (page : Option (List Selector)) → IfErr result (StopsAs (IsScriptAnswer (IsReplayWith page)) (I.left input.old)) }
     ensures input { Leaves most_script (I.left input.old) (I.left input.new)
         (I.read_faults input.old) (I.read_faults input.new) result }
 {

@@ -9,7 +9,7 @@ use Rattle.otlp_sender.specs.declared.posted.Posted.{Posted}
 use Rattle.series_table.specs.Talking.{Talking}
 use Rattle.series_table.specs.Records.{Kept}
 use Rattle.target_table.specs.Machine.{OneTarget, TableStep, taking, visiting, halting, putting, deed_at, paging, taken_by, visited_with, halted_with, done, changed_at, step_from, state_after, pages_seen}
-use Rattle.federation_page.specs.Gathering.{federated_text}
+use Rattle.federation_page.specs.Gathering.{federated_page}
 use Rattle.target_table.specs.Paging.{is_put_of}
 use Rattle.target_table.specs.Mirrors.{Mirrors, PageIsAStep}
 use Rattle.target_table.specs.Laws.{HasOwnRun, PagesAreOwn, SeenUntilPut}
@@ -25,7 +25,7 @@ mirrored_pages (slot ∷ slots) [] state h = absurd h
 mirrored_pages (slot ∷ slots) (s ∷ seen) [] h = absurd h
 
 pub page_is_a_step : (w : Talking) → PageIsAStep w
-page_is_a_step w rounds h state mirrors = (tt, mirrors, ap federated_text (mirrored_pages h.slots h.seen state mirrors))
+page_is_a_step w rounds h state mirrors = (tt, mirrors, ap federated_page (mirrored_pages h.slots h.seen state mirrors))
 
 -- ---- what a page shows depends on the target's own steps
 

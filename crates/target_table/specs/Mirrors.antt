@@ -12,7 +12,7 @@ use Rattle.series_table.specs.Talking.{Talking}
 use Rattle.target_table.specs.Runs.{Run}
 use Rattle.series_table.specs.Records.{Kept, Visits, talks_of}
 use Rattle.target_table.specs.Machine.{OneTarget, Deed, taking, putting, deed_at, paging, visits_of, May, Allowed, done, step_from, pages_seen}
-use Rattle.federation_page.specs.Gathering.{federated_text}
+use Rattle.federation_page.specs.Gathering.{federated_page}
 use Rattle.target_table.specs.Tables.{Held, Leased, IsTable, TakesTarget, MayBePut, PutsTarget}
 
 -- a track has what the machine has of its target: its wires tell the same talks
@@ -59,7 +59,7 @@ PutIsAStep w = (run : Run) (lane place : ℕ) (before after : Held) (l : Leased)
     → slice_get state place ≡ Some o → l.number ≡ place + 1 → o.out ≡ Some (record { lane = lane; from = l.from }) → TrackMirrors l.track o → MayBePut l → PutsTarget lane before after l
     → May w run.rounds (putting lane) o × Mirrors after.slots after.seen (step_from state (deed_at place (putting lane)))
 
--- a page of the table is the machine's: it may always be asked for, it changes nothing, and its text is that of what the machine's targets show
+-- a page of the table is the machine's: it may always be asked for, it changes nothing, and it is that of what the machine's targets show
 abbrev pub PageIsAStep : Talking → Type 0
 PageIsAStep w = (rounds : ℕ) (h : Held) (state : List OneTarget) → Mirrors h.slots h.seen state
-    → Allowed w rounds state paging × Mirrors h.slots h.seen (step_from state paging) × (federated_text h.seen ≡ federated_text (pages_seen state))
+    → Allowed w rounds state paging × Mirrors h.slots h.seen (step_from state paging) × (federated_page h.seen ≡ federated_page (pages_seen state))

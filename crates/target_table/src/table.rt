@@ -1,7 +1,8 @@
 //! The table of all targets of a run: what a lock keeps.
-ghost use Rattle.std.specs.Prelude.{◌≡◌, ◌∷◌, [], ◌+◌, ◌++◌, ◌≤◌, length, map, Some, None, IfOk, IfErr, IfSome, IfNone, OnOk, OnErr};
+ghost use Rattle.std.specs.Prelude.{◌≡◌, ◌∷◌, [], ◌+◌, ◌≤◌, length, map, Some, None, IfOk, IfErr, IfSome, IfNone};
 ghost use Rattle.std.specs.Vec.{vec_capacity};
-ghost use Rattle.federation_page.specs.Gathering.{AreShowable, federated_text};
+ghost use Rattle.open_writing.specs.OpenForms.{IsOpenForm};
+ghost use Rattle.federation_page.specs.Gathering.{AreShowable, federated_page};
 ghost use Rattle.series_table.specs.Counting.{as_count};
 ghost use Rattle.series_table.specs.HttpTalks.{talking};
 ghost use Rattle.series_table.specs.Records.{Kept};
@@ -17,9 +18,9 @@ use crate::page::copies_of;
 use crate::slots::{clear, count_empty, fill, pages_of, put_in, put_seen, take_out};
 use crate::turn::whose_turn;
 use bridge_ports::Wire;
-use federation_page::write_page;
+use federation_page::gather;
 use label_sets::Memory;
-use page_model::Shown;
+use page_model::{Page, Shown};
 use series_table::Track;
 use std::alloc::Global;
 use std::marker::{Model, PhantomData};
@@ -130,10 +131,10 @@ impl<N: RunName, A: Lane, B: Lane, C: Lane, D: Lane, W: Wire> Table<N, A, B, C, 
     ///     let _visited = lease.track.visit(alloc);
     ///     table.put(&mut shares.a, lease);
     /// }
-    /// let mut page = Vec::new(alloc);
-    /// table.page(&mut page)?;
+    /// let mut text = Vec::new(alloc);
+    /// federation_page::text(&table.gathered(alloc)?, &mut text)?;
     /// let wanted = "# TYPE x unknown\nx{instance=\"h:1\",job=\"j\"} 1\n# EOF\n";
-    /// assert_eq!(rt; page.as_slice(), wanted.as_bytes());
+    /// assert_eq!(rt; text.as_slice(), wanted.as_bytes());
     /// ```
     pub fn take<S: Seat<A, B, C, D>>(&mut self, seat: &mut S) -> Option<Lease<N, W>>
         requires lane { S.right }
@@ -198,20 +199,21 @@ impl<N: RunName, A: Lane, B: Lane, C: Lane, D: Lane, W: Wire> Table<N, A, B, C, 
         copies_of(alloc, self.seen.as_slice())
     }
 
-    /// Puts the text of the federation page of what readers see behind what `out` holds, targets in order. Of a target
-    /// that is out they see what they saw when it was taken.
+    /// The federation page of what readers see, targets in order. Of a target that is out they see what they saw when it
+    /// was taken.
     ///
-    /// What they see may be gathered, so the text reads back as its page (`federation_page::gathered_pages`).
+    /// What they see may be gathered, so the page is in OpenMetrics form, and its text reads back as it
+    /// (`federation_page::gathered_pages`).
     ///
     /// # Errors
     ///
-    /// Want of memory: then `out` holds what it held.
-    pub fn page(&self, out: &mut Vec<u8>) -> Result<(), Memory>
-        ensures ok { OnOk result (out.new.items ≡ out.old.items ++ federated_text self.now.seen) }
-        ensures err { OnErr result (out.new.items ≡ out.old.items) }
+    /// Want of memory.
+    pub fn gathered(&self, alloc: Global) -> Result<Page, Memory>
+        ensures page { IfOk result (λ page. page ≡ federated_page self.now.seen) }
+        ensures form { IfOk result (λ page. IsOpenForm page) }
         ensures showable { AreShowable self.now.seen }
     {
-        write_page(self.seen.as_slice(), out)
+        gather(alloc, self.seen.as_slice())
     }
 
     /// How many targets are out.

@@ -30,9 +30,10 @@ fn is_page_now<N: RunName, A: Lane, B: Lane, C: Lane, D: Lane, W: Wire, R: Wait>
     pool: &Pool<N, A, B, C, D, W>,
     expected: &[u8],
 ) -> Result<bool, Memory> {
-    let mut page = Vec::new(alloc);
-    pool.federate(rt, &mut page)?;
-    Ok(page.as_slice() == expected)
+    let page = pool.gathered(rt, alloc)?;
+    let mut text = Vec::new(alloc);
+    federation_page::text(&page, &mut text)?;
+    Ok(text.as_slice() == expected)
 }
 
 /// A connection over which this request comes.
@@ -208,6 +209,21 @@ const ROWS: &[(&[u8], ReplyStatus, &str)] = &[
         "HTTP/1.1 200 OK\r\nContent-Type: application/openmetrics-text; version=1.0.0; charset=utf-8\r\nContent-Length: 51\r\nConnection: close\r\n\r\n# TYPE x unknown\nx{instance=\"h:1\",job=\"j\"} 1\n# EOF\n",
     ),
     (
+        b"GET /federate?match%5B%5D=x&match%5B%5D=y HTTP/1.1\r\nHost: a\r\n\r\n",
+        ReplyStatus::Page,
+        "HTTP/1.1 200 OK\r\nContent-Type: application/openmetrics-text; version=1.0.0; charset=utf-8\r\nContent-Length: 51\r\nConnection: close\r\n\r\n# TYPE x unknown\nx{instance=\"h:1\",job=\"j\"} 1\n# EOF\n",
+    ),
+    (
+        b"GET /federate?match%5B%5D=%7Bjob!%3D%22j%22%7D HTTP/1.1\r\nHost: a\r\n\r\n",
+        ReplyStatus::Page,
+        "HTTP/1.1 200 OK\r\nContent-Type: application/openmetrics-text; version=1.0.0; charset=utf-8\r\nContent-Length: 6\r\nConnection: close\r\n\r\n# EOF\n",
+    ),
+    (
+        b"GET /federate?match%5B%5D=%7B HTTP/1.1\r\nHost: a\r\n\r\n",
+        ReplyStatus::BadRequest,
+        "HTTP/1.1 400 Bad Request\r\nContent-Length: 0\r\nConnection: close\r\n\r\n",
+    ),
+    (
         b"POST /federate HTTP/1.1\r\nHost: a\r\n\r\n",
         ReplyStatus::NotAllowed,
         "HTTP/1.1 405 Method Not Allowed\r\nAllow: GET\r\nContent-Length: 0\r\nConnection: close\r\n\r\n",
@@ -244,7 +260,7 @@ fn watch_one_visit<R: Threads + Wait + Clock + Sync>(
 // Readers see the opening page until a visit is made, and from then on its page, in whichever thread they are. A peer
 // that asks for the page is replied that of the visit; other requests have their replies.
 #[test]
-fn federate_sees_a_visit(rt: HostRuntime) {
+fn gathered_sees_a_visit(rt: HostRuntime) {
     let seen = watch_one_visit(&rt, rt.alloc());
     assert!(rt; seen == Ok(Some((Ok(true), Ok((true, ROWS.len()))))));
 }

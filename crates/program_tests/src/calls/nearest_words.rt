@@ -20,7 +20,10 @@ fn a_first_word_tells_the_form(rt: HostRuntime) {
         (&["Check", "text"], None),
         (&["run"], Some("run CONFIG")),
         (&["run", "a", "b"], Some("run CONFIG")),
-        (&["replay", "5"], Some("replay [SCRAPERS] [page]")),
+        (
+            &["replay", "5"],
+            Some("replay [SCRAPERS] [page [SELECTOR ..]]"),
+        ),
         (&["load", "1"], Some("load NUMBER TARGETS ROUNDS")),
         (
             &["convert", "text"],

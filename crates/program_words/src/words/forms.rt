@@ -1,14 +1,16 @@
 //! The forms of the command line.
 ghost use Rattle.std.specs.Prelude.{◌≡◌, ◌≢◌, ◌≤◌, List, ℕ, [], ◌∷◌, map, codes, string_bytes, IfOk, IfSome, IfNone, OnErr};
 ghost use Rattle.page_model.specs.declared.format.Format.{Format as AnyFormat};
-ghost use Rattle.program_words.specs.CommandWords.{IsCommand, FitNoForm, AskFor, SaysScrapers, takes_memory};
+ghost use Rattle.program_words.specs.CommandWords.{IsCommand, FitNoForm, AskFor, takes_memory};
+ghost use Rattle.program_words.specs.WordSteps.{AskForNoReplay, FitNoOther};
 ghost use Rattle.std.specs.Fmt.{decimal};
 ghost use Rattle.load_pages.specs.GeneratedScripts.{most_load_number};
 ghost use Rattle.replay_script.specs.ScriptParts.{format_word};
 
 use super::Command;
+use super::replay::replay_of;
 use super::target::target;
-use crate::limits::{MOST_INSTANCE_HOST_BYTES, MOST_NANOS, MOST_SCRAPERS};
+use crate::limits::{MOST_INSTANCE_HOST_BYTES, MOST_NANOS};
 use bridge_ports::MOST_JOB_BYTES;
 use load_pages::{MOST_NUMBER, is_load};
 use page_model::Format;
@@ -18,19 +20,13 @@ use std::alloc::{AllocError, Global};
 /// The command that one word asks for.
 fn lone_word(word: &str) -> Option<Command>
     ensures found { IfSome result (IsCommand (word.now ∷ [])) }
-    ensures none { IfNone result (FitNoForm (word.now ∷ [])) }
+    ensures none { IfNone result (FitNoOther (word.now ∷ [])) }
 {
     if word == "--help" {
         return Some(Command::Help);
     }
     if word == "--version" {
         return Some(Command::Version);
-    }
-    if word == "replay" {
-        return Some(Command::Replay {
-            scrapers: None,
-            page: false,
-        });
     }
     None
 }
@@ -46,7 +42,7 @@ fn format_named(word: &str) -> Option<Format>
 /// The check that the word behind `check` asks for.
 fn check_of(format: &str) -> Option<Command>
     ensures found { IfSome result (IsCommand (codes "check" ∷ format.now ∷ [])) }
-    ensures none { IfNone result (FitNoForm (codes "check" ∷ format.now ∷ [])) }
+    ensures none { IfNone result (FitNoOther (codes "check" ∷ format.now ∷ [])) }
 {
     match format_named(format) {
         Some(format) => Some(Command::Check { format }),
@@ -54,81 +50,15 @@ fn check_of(format: &str) -> Option<Command>
     }
 }
 
-/// The number of scrapers that a word says.
-fn scrapers_in(word: &str) -> Option<u32>
-    ensures found { IfSome result (SaysScrapers word.now) }
-    ensures none { IfNone result ((n : ℕ) → ¬ SaysScrapers word.now n) }
-{
-    let count = match number(word.as_bytes(), MOST_SCRAPERS) {
-        Some(count) => count,
-        None => return None,
-    };
-    if count == 0 {
-        return None;
-    }
-    Some(count as u32)
-}
-
-/// The replay that the word behind `replay` asks for.
-fn replay_by(word: &str) -> Option<Command>
-    ensures found { IfSome result (IsCommand (codes "replay" ∷ word.now ∷ [])) }
-    ensures none { IfNone result (FitNoForm (codes "replay" ∷ word.now ∷ [])) }
-{
-    if word == "page" {
-        return Some(Command::Replay {
-            scrapers: None,
-            page: true,
-        });
-    }
-    match scrapers_in(word) {
-        Some(count) => Some(Command::Replay {
-            scrapers: Some(count),
-            page: false,
-        }),
-        None => None,
-    }
-}
-
-/// The replay with its page that a number of scrapers asks for.
-fn replay_page_by(scrapers: &str) -> Option<Command>
-    ensures found { IfSome result (IsCommand (codes "replay" ∷ scrapers.now ∷ codes "page" ∷ [])) }
-    ensures none { IfNone result (FitNoForm (codes "replay" ∷ scrapers.now ∷ codes "page" ∷ [])) }
-{
-    match scrapers_in(scrapers) {
-        Some(count) => Some(Command::Replay {
-            scrapers: Some(count),
-            page: true,
-        }),
-        None => None,
-    }
-}
-
 /// The command that two words ask for.
 fn two_words(verb: &str, word: &str) -> Option<Command>
     ensures found { IfSome result (IsCommand (verb.now ∷ word.now ∷ [])) }
-    ensures none { IfNone result (FitNoForm (verb.now ∷ word.now ∷ [])) }
+    ensures none { IfNone result (FitNoOther (verb.now ∷ word.now ∷ [])) }
 {
     if verb == "check" {
         return check_of(word);
     }
-    if verb == "replay" {
-        return replay_by(word);
-    }
     None
-}
-
-/// The command that three words ask for.
-fn three_words(verb: &str, scrapers: &str, page: &str) -> Option<Command>
-    ensures found { IfSome result (IsCommand (verb.now ∷ scrapers.now ∷ page.now ∷ [])) }
-    ensures none { IfNone result (FitNoForm (verb.now ∷ scrapers.now ∷ page.now ∷ [])) }
-{
-    if verb != "replay" {
-        return None;
-    }
-    if page != "page" {
-        return None;
-    }
-    replay_page_by(scrapers)
 }
 
 /// The number that a word of a load says. The greatest first number is above the most targets and rounds, so one limit
@@ -143,7 +73,7 @@ fn load_number(word: &str) -> Option<u64>
 /// The load that the words behind `load` ask for.
 fn load_by(number: &str, targets: &str, rounds: &str) -> Option<Command>
     ensures found { IfSome result (IsCommand (codes "load" ∷ number.now ∷ targets.now ∷ rounds.now ∷ [])) }
-    ensures none { IfNone result (FitNoForm (codes "load" ∷ number.now ∷ targets.now ∷ rounds.now ∷ [])) }
+    ensures none { IfNone result (FitNoOther (codes "load" ∷ number.now ∷ targets.now ∷ rounds.now ∷ [])) }
 {
     let number = match load_number(number) {
         Some(number) => number,
@@ -170,7 +100,7 @@ fn load_by(number: &str, targets: &str, rounds: &str) -> Option<Command>
 /// The command that four words ask for.
 fn four_words(verb: &str, number: &str, targets: &str, rounds: &str) -> Option<Command>
     ensures found { IfSome result (IsCommand (verb.now ∷ number.now ∷ targets.now ∷ rounds.now ∷ [])) }
-    ensures none { IfNone result (FitNoForm (verb.now ∷ number.now ∷ targets.now ∷ rounds.now ∷ [])) }
+    ensures none { IfNone result (FitNoOther (verb.now ∷ number.now ∷ targets.now ∷ rounds.now ∷ [])) }
 {
     if verb != "load" {
         return None;
@@ -189,7 +119,7 @@ fn conversion(
     ensures found { IfOk result (λ found. IfSome found
         (IsCommand (codes "convert" ∷ format_word format ∷ job.now ∷ instance.now ∷ time.now ∷ []))) }
     ensures none { IfOk result (λ found. IfNone found
-        (FitNoForm (codes "convert" ∷ format_word format ∷ job.now ∷ instance.now ∷ time.now ∷ []))) }
+        (FitNoOther (codes "convert" ∷ format_word format ∷ job.now ∷ instance.now ∷ time.now ∷ []))) }
     ensures memory { OnErr result (AskFor takes_memory
         (codes "convert" ∷ format_word format ∷ job.now ∷ instance.now ∷ time.now ∷ [])) }
 {
@@ -215,29 +145,15 @@ fn conversion(
     }))
 }
 
-/// The command that the words ask for; `None` where they fit no form.
-///
-/// # Errors
-///
-/// Want of memory.
-///
-/// # Example
-///
-/// ```rust
-/// let words = [String::from_str(alloc, "check")?, String::from_str(alloc, "text")?];
-/// let command = command_of(alloc, &words)?;
-/// assert!(rt; matches!(command, Some(Command::Check { format: Format::Text })));
-/// assert!(rt; command_of(alloc, &[])?.is_none());
-/// ```
-pub fn command_of(alloc: Global, words: &[String]) -> Result<Option<Command>, AllocError>
+/// The command other than a replay that the words ask for.
+fn other_command(alloc: Global, words: &[String]) -> Result<Option<Command>, AllocError>
     ensures found { IfOk result (λ found. IfSome found (IsCommand (map string_bytes words.now))) }
-    ensures none { IfOk result (λ found. IfNone found (FitNoForm (map string_bytes words.now))) }
+    ensures none { IfOk result (λ found. IfNone found (FitNoOther (map string_bytes words.now))) }
     ensures memory { OnErr result (AskFor takes_memory (map string_bytes words.now)) }
 {
     match words {
         [word] => Ok(lone_word(word.as_str())),
         [verb, word] => Ok(two_words(verb.as_str(), word.as_str())),
-        [verb, scrapers, page] => Ok(three_words(verb.as_str(), scrapers.as_str(), page.as_str())),
         [verb, number, targets, rounds] => Ok(four_words(
             verb.as_str(),
             number.as_str(),
@@ -261,5 +177,44 @@ pub fn command_of(alloc: Global, words: &[String]) -> Result<Option<Command>, Al
             )
         }
         _ => Ok(None),
+    }
+}
+
+/// The words behind `replay`, where they begin with it.
+fn behind_replay(words: &[String]) -> Option<&[String]>
+    ensures found { IfSome result (λ behind. map string_bytes words.now ≡ codes "replay" ∷ map string_bytes behind.now) }
+    ensures none { IfNone result (AskForNoReplay (map string_bytes words.now)) }
+{
+    let Some((verb, behind)) = words.split_first() else {
+        return None;
+    };
+    if verb.as_str() != "replay" {
+        return None;
+    }
+    Some(behind)
+}
+
+/// The command that the words ask for; `None` where they fit no form.
+///
+/// # Errors
+///
+/// Want of memory.
+///
+/// # Example
+///
+/// ```rust
+/// let words = [String::from_str(alloc, "check")?, String::from_str(alloc, "text")?];
+/// let command = command_of(alloc, &words)?;
+/// assert!(rt; matches!(command, Some(Command::Check { format: Format::Text })));
+/// assert!(rt; command_of(alloc, &[])?.is_none());
+/// ```
+pub fn command_of(alloc: Global, words: &[String]) -> Result<Option<Command>, AllocError>
+    ensures found { IfOk result (λ found. IfSome found (IsCommand (map string_bytes words.now))) }
+    ensures none { IfOk result (λ found. IfNone found (FitNoForm (map string_bytes words.now))) }
+    ensures memory { OnErr result (AskFor takes_memory (map string_bytes words.now)) }
+{
+    match behind_replay(words) {
+        Some(behind) => replay_of(alloc, behind),
+        None => other_command(alloc, words),
     }
 }

@@ -1,28 +1,27 @@
 //! What no clause says: the rows of connections in memory, whole and in pieces, and each call that fails.
 ghost use Rattle.std.specs.Prelude.{◌≡◌};
 
-use bridge_ports::{Door, Failed, MemoryConn, MemorySink, MemorySource};
+use bridge_ports::{Conn, Door, Failed, MemoryConn, MemorySink, MemorySource};
 use label_sets::{Bytes, List, Memory};
-use page_server::{ReplyStatus, ServeFault, ShownPage, serve_one};
+use page_server::{Asked, ReplyStatus, ServeFault, hear_request, say_reply};
 use std::alloc::Global;
 use std::io::{Read, Write};
 use std::net::{Ipv4Addr, SocketAddr, TcpListener, TcpStream};
 use std_edge::NetDoor;
 
-/// A page that is always the same.
-#[derive(Drop)]
-struct OnePage<'a> {
-    text: &'a [u8],
+/// What the reply to a request carries: always the same page.
+fn page_for(asked: &Asked) -> &'static [u8] {
+    match asked {
+        Asked::Page(_) => b"# EOF\n",
+        _ => b"",
+    }
 }
 
-const ONE_PAGE: OnePage<'static> = OnePage { text: b"# EOF\n" };
-
-impl ShownPage for OnePage<'_> {
-    ghost may_show = { λ p page. page ≡ p.text.now };
-
-    fn page(&self, alloc: Global) -> Result<Vec<u8>, Memory> {
-        Vec::from_slice(alloc, self.text)
-    }
+/// What comes of a connection.
+fn serve<K: Conn>(alloc: Global, conn: &mut K) -> Result<ReplyStatus, ServeFault> {
+    let asked = hear_request(alloc, conn)?;
+    let page = page_for(&asked);
+    say_reply(alloc, conn, asked.status(), page)
 }
 
 /// A connection over which this request comes, and on which these reads and these writes fail.
@@ -42,7 +41,7 @@ fn served(
     reply: &str,
 ) -> Result<(Result<ReplyStatus, ServeFault>, Option<usize>), Memory> {
     let mut conn = conn(alloc, request, failing)?;
-    let came = serve_one(alloc, &ONE_PAGE, &mut conn);
+    let came = serve(alloc, &mut conn);
     let held = conn.held();
     let is_front = reply.as_bytes().starts_with(held);
     let length = held.len();
@@ -62,34 +61,89 @@ const NONE: &str = "HTTP/1.1 404 Not Found\r\nContent-Length: 0\r\nConnection: c
 const OTHER: &str =
     "HTTP/1.1 405 Method Not Allowed\r\nAllow: GET\r\nContent-Length: 0\r\nConnection: close\r\n\r\n";
 
+/// Requests, and what each is answered.
+const REQUESTS: &[(&[u8], ReplyStatus, u16, &str)] = &[
+    (GET, ReplyStatus::Page, 200, PAGE),
+    (
+        b"POST /federate HTTP/1.1\r\nHost: a\r\n\r\n",
+        ReplyStatus::NotAllowed,
+        405,
+        OTHER,
+    ),
+    (
+        b"GET /x HTTP/1.1\r\nHost: a\r\n\r\n",
+        ReplyStatus::NotFound,
+        404,
+        NONE,
+    ),
+    (
+        b"GET /federate?match%5B%5D=up&match[]=%7Bjob%3D%22a%22%7D HTTP/1.1\r\nHost: a\r\n\r\n",
+        ReplyStatus::Page,
+        200,
+        PAGE,
+    ),
+    (
+        b"GET /federate?match%5B%5D=%7B HTTP/1.1\r\nHost: a\r\n\r\n",
+        ReplyStatus::BadRequest,
+        400,
+        BAD,
+    ),
+    (
+        b"GET /x?match%5B%5D=%7B HTTP/1.1\r\nHost: a\r\n\r\n",
+        ReplyStatus::NotFound,
+        404,
+        NONE,
+    ),
+    (
+        b"POST /federate?match%5B%5D=%7B HTTP/1.1\r\nHost: a\r\n\r\n",
+        ReplyStatus::NotAllowed,
+        405,
+        OTHER,
+    ),
+    (b"GET", ReplyStatus::BadRequest, 400, BAD),
+    (b"", ReplyStatus::BadRequest, 400, BAD),
+    (
+        b" GET / HTTP/1.1\r\n\r\n",
+        ReplyStatus::BadRequest,
+        400,
+        BAD,
+    ),
+];
+
 #[test]
 fn requests_are_answered(rt: HostRuntime) {
-    const ROWS: &[(&[u8], ReplyStatus, u16, &str)] = &[
-        (GET, ReplyStatus::Page, 200, PAGE),
-        (
-            b"POST /federate HTTP/1.1\r\nHost: a\r\n\r\n",
-            ReplyStatus::NotAllowed,
-            405,
-            OTHER,
-        ),
-        (
-            b"GET /x HTTP/1.1\r\nHost: a\r\n\r\n",
-            ReplyStatus::NotFound,
-            404,
-            NONE,
-        ),
-        (b"GET", ReplyStatus::BadRequest, 400, BAD),
-        (b"", ReplyStatus::BadRequest, 400, BAD),
-        (
-            b" GET / HTTP/1.1\r\n\r\n",
-            ReplyStatus::BadRequest,
-            400,
-            BAD,
-        ),
-    ];
-    for (request, status, code, reply) in ROWS {
+    for (request, status, code, reply) in REQUESTS {
         let came = served(rt.alloc(), request, (&[], &[]), reply);
         assert!(rt; came == Ok((Ok(*status), Some(reply.len()))) && status.code() == *code);
+    }
+}
+
+/// How many selectors a request asks for the page by, where it asks for it.
+fn selectors_asked(alloc: Global, request: &[u8]) -> Result<Option<usize>, Memory> {
+    let mut conn = conn(alloc, request, (&[], &[]))?;
+    let asked = hear_request(alloc, &mut conn);
+    drop(conn);
+    match asked {
+        Ok(Asked::Page(selectors)) => Ok(Some(selectors.len())),
+        _ => Ok(None),
+    }
+}
+
+#[test]
+fn selectors_are_read_of_the_query(rt: HostRuntime) {
+    const ROWS: &[(&[u8], Option<usize>)] = &[
+        (b"GET /federate HTTP/1.1\r\n\r\n", Some(0)),
+        (b"GET /federate? HTTP/1.1\r\n\r\n", Some(0)),
+        (b"GET /federate?match=up HTTP/1.1\r\n\r\n", Some(0)),
+        (b"GET /federate?match[]=a?b HTTP/1.1\r\n\r\n", None),
+        (b"GET /federate?match[]=up HTTP/1.1\r\n\r\n", Some(1)),
+        (
+            b"GET /federate?match%5B%5D=up&a=b&match%5B%5D=%7Bjob!%3D%22a%22%7D HTTP/1.1\r\n\r\n",
+            Some(2),
+        ),
+    ];
+    for (request, count) in ROWS {
+        assert!(rt; selectors_asked(rt.alloc(), request) == Ok(*count));
     }
 }
 
@@ -177,7 +231,7 @@ fn served_at(rt: HostRuntime, listener: TcpListener) -> Option<Result<ReplyStatu
     let mut door = NetDoor::new(rt, listener);
     match door.accept() {
         Ok(mut conn) => {
-            let came = serve_one(alloc, &ONE_PAGE, &mut conn);
+            let came = serve(alloc, &mut conn);
             door.close(conn);
             Some(came)
         }

@@ -1,4 +1,4 @@
-use Rattle.page_server.proofs.StatusLaws.{waits_shortly, bad_exactly}
+use Rattle.page_server.proofs.AskedLaws.{waits_shortly, bad_exactly}
 use Rattle.page_server.proofs.serving_laws.bad_requests.Goals as goal
 
 pub returns-clause-waits : goal.returns-clause-waits

@@ -10,12 +10,12 @@ print_asked_page-requires g c = λ asked. subst AreShowable (sym c.as_slice.ensu
 
 pub returns-in-Err-clause-printed : goal.returns-in-Err-clause-printed
 returns-in-Err-clause-printed g c =
-    text_cut (page_text c.args.page c.args.over.shown.items) _ _ c.in-Err.cut
-    (subst (λ (seen : List Shown). CutsText (page_text c.args.page seen) (g.O.Sink.held c.args.output.now) (g.O.Sink.held c.print_asked_page.new.output) c.in-Err.cut) c.as_slice.ensures.value c.in-Err.ensures.printed)
+    text_cut (page_text c.args.page.now c.args.over.shown.items) _ _ c.in-Err.cut
+    (subst (λ (seen : List Shown). CutsText (page_text c.args.page.now seen) (g.O.Sink.held c.args.output.now) (g.O.Sink.held c.print_asked_page.new.output) c.in-Err.cut) c.as_slice.ensures.value c.in-Err.ensures.printed)
 
 pub returns-in-Ok-shelve-clause-printed : goal.returns-in-Ok-shelve-clause-printed
 returns-in-Ok-shelve-clause-printed g c =
-    page_seen c.args.page _ _ (g.O.Sink.held c.args.output.now) (g.O.Sink.held c.print_asked_page.new.output) c.as_slice.ensures.value c.in-Ok.ensures.printed
+    page_seen c.args.page.now _ _ (g.O.Sink.held c.args.output.now) (g.O.Sink.held c.print_asked_page.new.output) c.as_slice.ensures.value c.in-Ok.ensures.printed
 
 pub returns-clause-printed : goal.returns-clause-printed
-returns-clause-printed g c = inr (page_seen c.args.page _ _ (g.O.Sink.held c.args.output.now) (g.O.Sink.held c.print_asked_page.new.output) c.as_slice.ensures.value c.in-Ok.ensures.printed)
+returns-clause-printed g c = inr (page_seen c.args.page.now _ _ (g.O.Sink.held c.args.output.now) (g.O.Sink.held c.print_asked_page.new.output) c.as_slice.ensures.value c.in-Ok.ensures.printed)

@@ -27,5 +27,5 @@ gather-requires c = three_showable c.in_ok-first.first c.in_ok-second.second c.i
 
 pub returns : goal.returns
 returns c =
-    subst IsOpenForm (sym c.in_ok-page.ensures)
+    subst IsOpenForm (sym c.in_ok-page.ensures.page)
     (c.gathered_pages.ensures.forms _ (three_showable c.in_ok-first.first c.in_ok-second.second c.in_ok-third.third c.in_ok-first.ensures.job c.in_ok-second.ensures.job c.in_ok-third.ensures.job c.in_ok-first.ensures.showable c.in_ok-second.ensures.showable c.in_ok-third.ensures.showable))
