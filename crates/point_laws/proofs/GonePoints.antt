@@ -19,10 +19,10 @@ use Rattle.otlp_tree.specs.declared.tree.Metric.{Metric}
 use Rattle.otlp_tree.specs.declared.tree.Shape.{Shape}
 use Rattle.otlp_tree.specs.declared.tree.Shape.TheVariants as shapes
 use Rattle.start_times.specs.Starts.{has_points}
-use Rattle.target_core.specs.Scopes.{point_labels}
-use Rattle.target_core.specs.Markers.{number_marker, histogram_marker, summary_marker, shape_with, is_of_metric, markers_of, metric_with, with_markers, markers_left, no_points, marker_metric, marker_metrics}
+use Rattle.family_metrics.specs.Scopes.{point_labels}
+use Rattle.family_metrics.specs.Markers.{number_marker, histogram_marker, summary_marker, shape_with, is_of_metric, markers_of, metric_with, with_markers, markers_left, no_points, marker_metric, marker_metrics}
 use Rattle.target_core.specs.Events.{marker_with}
-use Rattle.target_core.specs.Laws.{is_same_metric}
+use Rattle.family_metrics.specs.Laws.{is_same_metric}
 use Rattle.point_laws.specs.MarkerLaws.{UnvaluedPoint, unvalued_point, sort_of, unvalued_number, unvalued_histogram, unvalued_summary, unvalued_in_shape, unvalued_in_metric, gone_point}
 use Rattle.point_laws.proofs.Parts.{filter-map, firsts-map, filter_map-map, none-left, firsts-distinct, all-firsts, each-among, any-firsts, of_groups, is_of_some, of_none, grouped}
 

@@ -13,10 +13,10 @@ use Rattle.label_sets.specs.Lists.{first_of_each}
 use Rattle.label_sets.proofs.Laws.{all-weaker, all-append, all-filter, filter-passes}
 use Rattle.otlp_tree.specs.declared.tree.Metric.{Metric}
 use Rattle.start_times.specs.Starts.{has_points}
-use Rattle.target_core.specs.Markers.{metric_with, with_markers, markers_left, shape_with, no_points, marker_metrics}
+use Rattle.family_metrics.specs.Markers.{metric_with, with_markers, markers_left, shape_with, no_points, marker_metrics}
 use Rattle.target_core.specs.Trees.{target_gauge, target_metrics}
 use Rattle.target_core.specs.Events.{marker_with}
-use Rattle.target_core.specs.Laws.{is_same_metric}
+use Rattle.family_metrics.specs.Laws.{is_same_metric}
 use Rattle.point_laws.specs.MarkerLaws.{sort_of, AreDistinctMetrics, target_series}
 use Rattle.point_laws.proofs.Parts.{distinct-append, firsts-distinct, all-firsts, is_of_some, of_none}
 use Rattle.point_laws.proofs.GonePoints.{IsValued, is_in, sort_kept, own_markers, left_markers, alone, IsAlone, alone_metric, alone_metrics}

@@ -23,9 +23,11 @@ use Rattle.start_times.specs.Scrapes.{last_page}
 use Rattle.start_times.specs.Starts.{Tracking, has_points, reading_place, start_there}
 use Rattle.staleness.specs.Vanished.{keys_gone}
 use Rattle.staleness.proofs.Laws.{gone_have_points, gone_differ}
-use Rattle.target_core.specs.Scopes.{scope_eq, target_scope}
-use Rattle.target_core.specs.Stretches.{resource_attributes, goes_on, moment_of, stretch_scrape, stretch_of}
-use Rattle.target_core.specs.Trees.{scope_with, series_scopes, target_metrics, target_gauge, up_of, resource_of, gone_part, request_of}
+use Rattle.family_metrics.specs.Scopes.{scope_eq, target_scope}
+use Rattle.target_pages.specs.Stretches.{resource_attributes, goes_on, moment_of, stretch_scrape, stretch_of}
+use Rattle.scope_metrics.specs.PageScopes.{scope_with, series_scopes}
+use Rattle.target_core.specs.Trees.{target_metrics, target_gauge, resource_of, gone_part, request_of}
+use Rattle.target_pages.specs.Outcomes.{up_of}
 use Rattle.target_core.specs.Events.{marker_with, request_within, request_at_change, request_after}
 use Rattle.point_laws.specs.MarkerLaws.{scope_named, unvalued_in_scope, gone_in_scope, AreDistinctMetrics, series_of_scope, is_same_scope, MarksInPart, MarksBehind, MarksTheGone, EventsMarkTheGone}
 use Rattle.point_laws.proofs.Parts.{distinct-append}

@@ -28,10 +28,10 @@ use Rattle.otlp_tree.specs.declared.tree.SummaryValue.{SummaryValue}
 use Rattle.otlp_tree.specs.declared.tree.Shape.{Shape}
 use Rattle.otlp_tree.specs.declared.tree.Shape.TheVariants as shapes
 use Rattle.start_times.specs.declared.row.Placed.{Placed}
-use Rattle.target_core.specs.Points.{Point, plain_number, histogram_in, summary_in, start_or_time, point_of, number_point, histogram_point, summary_point}
-use Rattle.target_core.specs.Markers.{no_points}
-use Rattle.target_core.specs.Trees.{some_of, shape_of, metric_of, kind_metric}
-use Rattle.target_core.specs.Laws.{is_same_metric}
+use Rattle.family_metrics.specs.Points.{Point, plain_number, histogram_in, summary_in, start_or_time, point_of, number_point, histogram_point, summary_point}
+use Rattle.family_metrics.specs.Markers.{no_points}
+use Rattle.family_metrics.specs.Metrics.{some_of, shape_of, metric_of, kind_metric}
+use Rattle.family_metrics.specs.Laws.{is_same_metric}
 use Rattle.point_laws.specs.MarkerLaws.{UnvaluedPoint, sort_of, unvalued_number, unvalued_histogram, unvalued_summary, unvalued_in_shape}
 use Rattle.point_laws.proofs.GonePoints.{IsValued, is_in}
 

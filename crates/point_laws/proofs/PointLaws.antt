@@ -28,8 +28,9 @@ use Rattle.start_times.specs.Starts.{Tracking, has_points, is_taken, placed, rea
 use Rattle.start_times.specs.Laws.{RiseTo}
 use Rattle.start_times.proofs.Laws.{none_is_late}
 use Rattle.target_core.proofs.Laws.{rising_cumulative}
-use Rattle.target_core.specs.Points.{Point, point_at, point_in, point_of, plain_number, histogram_in, summary_in, number_point, histogram_point, summary_point}
-use Rattle.target_core.specs.Trees.{some_of, shape_of, metric_of, has_point}
+use Rattle.family_metrics.specs.Points.{Point, point_at, point_in, point_of, plain_number, histogram_in, summary_in, number_point, histogram_point, summary_point}
+use Rattle.family_metrics.specs.Metrics.{some_of, shape_of, metric_of}
+use Rattle.scope_metrics.specs.PageScopes.{has_point}
 use Rattle.point_laws.proofs.Parts.{all-pass}
 use Rattle.point_laws.specs.PageLaws.{points_in, points_of_family, points_due, due_of_all, due_of_passing, HavePoints}
 

@@ -12,10 +12,10 @@ use Rattle.page_model.specs.Pages.{IsThinnerReading, IsThinnerFamily, AreThinner
 use Rattle.page_model.specs.Presence.{empty_page, all_readings, keys_of, page_of_outcome}
 use Rattle.page_model.proofs.Laws.{some_filtered, nothing_is_right}
 use Rattle.start_times.specs.Scrapes.{last_page, scrape_after, scrapes_of}
-use Rattle.target_core.specs.Scopes.{Scope}
-use Rattle.target_core.specs.Thinned.{page_where}
-use Rattle.target_core.specs.Stretches.{is_info, without_info, stretch_scrape, stretch_of}
-use Rattle.target_core.specs.Trees.{is_in_scope}
+use Rattle.family_metrics.specs.Scopes.{Scope}
+use Rattle.target_pages.specs.Thinned.{page_where}
+use Rattle.target_pages.specs.Stretches.{is_info, without_info, stretch_scrape, stretch_of}
+use Rattle.scope_metrics.specs.PageScopes.{is_in_scope}
 use Rattle.point_laws.specs.MarkerLaws.{is_key_in}
 use Rattle.point_laws.proofs.Parts.{filter-map}
 

@@ -22,11 +22,12 @@ use Rattle.otlp_tree.specs.declared.tree.ScopeMetrics.{ScopeMetrics}
 use Rattle.otlp_tree.specs.declared.tree.Metric.{Metric}
 use Rattle.start_times.specs.declared.row.Placed.{Placed}
 use Rattle.start_times.specs.Starts.{has_points}
-use Rattle.target_core.specs.Scopes.{Scope, scope_eq, scope_of, target_scope}
-use Rattle.target_core.specs.Thinned.{page_where}
-use Rattle.target_core.specs.Trees.{page_metrics, event_metrics, scope_with, is_in_scope, is_marked_in, series_scopes}
+use Rattle.family_metrics.specs.Scopes.{Scope, scope_eq, scope_of, target_scope}
+use Rattle.target_pages.specs.Thinned.{page_where}
+use Rattle.family_metrics.specs.Metrics.{page_metrics, event_metrics}
+use Rattle.scope_metrics.specs.PageScopes.{scope_with, is_in_scope, is_marked_in, series_scopes}
 use Rattle.target_core.specs.Events.{marker_with}
-use Rattle.target_core.specs.Laws.{is_same_metric}
+use Rattle.family_metrics.specs.Laws.{is_same_metric}
 use Rattle.point_laws.specs.MarkerLaws.{point_in_scope, scope_named, unvalued_in_metric, unvalued_in_scope, gone_point, gone_in_scope, AreDistinctMetrics, is_key_in, series_of_scope, target_series, is_same_scope}
 use Rattle.point_laws.proofs.Parts.{filter-map, each-among, grouped, none-left, of_groups, of_none, is_of_some}
 use Rattle.point_laws.proofs.GonePoints.{IsValued, is_in, identity_itself, all_marked}

@@ -15,8 +15,8 @@ use Rattle.page_model.specs.declared.page.Reading.{Reading}
 use Rattle.page_model.specs.declared.page.Page.{Page}
 use Rattle.page_model.specs.Presence.{all_readings}
 use Rattle.start_times.specs.declared.row.Placed.{Placed}
-use Rattle.target_core.specs.Scopes.{Scope, scope_eq, bridge_scope, target_scope, is_own_scope, scope_name, scope_of}
-use Rattle.target_core.specs.Trees.{is_in_scope, has_point, reading_scopes, marker_scopes, scopes_in}
+use Rattle.family_metrics.specs.Scopes.{Scope, scope_eq, bridge_scope, target_scope, is_own_scope, scope_name, scope_of}
+use Rattle.scope_metrics.specs.PageScopes.{is_in_scope, has_point, reading_scopes, marker_scopes, scopes_in}
 use Rattle.target_core.specs.Events.{marker_with}
 use Rattle.point_laws.specs.MarkerLaws.{is_key_in}
 use Rattle.point_laws.proofs.Parts.{all-images, all-firsts, any-firsts, each-among, firsts-distinct, is_of_some}

@@ -21,10 +21,10 @@ use Rattle.start_times.specs.declared.row.Placed.{Placed}
 use Rattle.start_times.specs.Scrapes.{Scrape, last_moment, moment_after, scrape_after, scrapes_of}
 use Rattle.start_times.specs.Starts.{Tracking, is_taken, reading_place}
 use Rattle.start_times.specs.Laws.{RiseTo}
-use Rattle.target_core.specs.Scopes.{Scope, scope_eq, scope_of}
-use Rattle.target_core.specs.Thinned.{page_where}
-use Rattle.target_core.specs.Stretches.{without_info, goes_on, moment_of, stretch_scrape, stretch_of}
-use Rattle.target_core.specs.Trees.{is_in_scope, has_point}
+use Rattle.family_metrics.specs.Scopes.{Scope, scope_eq, scope_of}
+use Rattle.target_pages.specs.Thinned.{page_where}
+use Rattle.target_pages.specs.Stretches.{without_info, goes_on, moment_of, stretch_scrape, stretch_of}
+use Rattle.scope_metrics.specs.PageScopes.{is_in_scope, has_point}
 use Rattle.point_laws.specs.PageLaws.{points_of_family, points_due, due_of_all, due_of_passing, HavePoints, family_in, points_over, ToldGone, scopes_beside, LosesNothing, EachPlaceHasAPoint, EachTakenHasAPoint, page_event, past_of, event_place, EachReadingHasAPoint}
 use Rattle.point_laws.proofs.Parts.{filter-swap, grouped, none-left, of_groups, of_none, is_of_some}
 use Rattle.point_laws.proofs.PointLaws.{metric_points, places_have_points, taken_have_points, due_for_all}

@@ -28,12 +28,12 @@ use Rattle.bridge_ports.specs.Targets.{Scraped}
 use Rattle.start_times.specs.Scrapes.{last_page, scrapes_of}
 use Rattle.start_times.specs.Starts.{Tracking}
 use Rattle.staleness.specs.Vanished.{keys_gone}
-use Rattle.target_core.specs.Scopes.{Scope, scope_eq, scope_of, target_scope, point_labels}
-use Rattle.target_core.specs.Stretches.{resource_attributes, goes_on, moment_of, stretch_scrape, stretch_of}
-use Rattle.target_core.specs.Markers.{is_of_metric, no_points}
+use Rattle.family_metrics.specs.Scopes.{Scope, scope_eq, scope_of, target_scope, point_labels}
+use Rattle.target_pages.specs.Stretches.{resource_attributes, goes_on, moment_of, stretch_scrape, stretch_of}
+use Rattle.family_metrics.specs.Markers.{is_of_metric, no_points}
 use Rattle.target_core.specs.Trees.{resource_of}
 use Rattle.target_core.specs.Events.{request_after}
-use Rattle.target_core.specs.Laws.{is_same_metric}
+use Rattle.family_metrics.specs.Laws.{is_same_metric}
 
 -- ---- the points of a tree that have no value
 

@@ -18,10 +18,11 @@ use Rattle.otlp_tree.specs.declared.tree.Shape.TheVariants as shapes
 use Rattle.start_times.specs.declared.row.Placed.{Placed}
 use Rattle.start_times.specs.Scrapes.{Scrape}
 use Rattle.start_times.specs.Starts.{Tracking, is_taken, reading_place}
-use Rattle.target_core.specs.Scopes.{Scope}
-use Rattle.target_core.specs.Thinned.{page_where}
-use Rattle.target_core.specs.Stretches.{without_info, goes_on, moment_of, stretch_of}
-use Rattle.target_core.specs.Trees.{family_metric, is_in_scope, has_point, scopes_in}
+use Rattle.family_metrics.specs.Scopes.{Scope}
+use Rattle.target_pages.specs.Thinned.{page_where}
+use Rattle.target_pages.specs.Stretches.{without_info, goes_on, moment_of, stretch_of}
+use Rattle.family_metrics.specs.Metrics.{family_metric}
+use Rattle.scope_metrics.specs.PageScopes.{is_in_scope, has_point, scopes_in}
 use Rattle.target_core.specs.Events.{marker_with}
 
 -- ---- points of families

@@ -3,7 +3,7 @@
 //! gone once. These are laws, each carried by a call that changes nothing.
 #![tactic(auto)]
 
-ghost use Rattle.target_core.specs.Stretches.{without_info};
+ghost use Rattle.target_pages.specs.Stretches.{without_info};
 ghost use Rattle.point_laws.specs.PageLaws.{EachPlaceHasAPoint, EachTakenHasAPoint, EachReadingHasAPoint};
 ghost use Rattle.point_laws.specs.MarkerLaws.{EventsMarkTheGone};
 

@@ -22,7 +22,7 @@ use Rattle.bridge_ports.specs.Targets.{Scraped, IsTextUpTo, have_same_names}
 use Rattle.bridge_ports.specs.declared.talk.MemoryReply.{MemoryReply}
 use Rattle.http_talk.specs.Replies.{scraped_setting, IsPageOutcome, HasOutcome}
 use Rattle.start_times.specs.Scrapes.{scrape_after}
-use Rattle.target_core.specs.Thinned.{without_exemplars}
+use Rattle.target_pages.specs.Thinned.{without_exemplars}
 use Rattle.target_core.specs.Events.{latest_shown}
 use Rattle.target_core.specs.States.{Following}
 use Rattle.series_table.specs.Records.{IsScrapedWithin}

@@ -8,9 +8,9 @@ use Rattle.start_times.specs.Scrapes.{Scrape}
 use Rattle.start_times.specs.Rows.{reading_count, most_readings}
 use Rattle.start_times.proofs.Laws.{rows_are_few}
 use Rattle.writing_laws.proofs.Laws.{few_readings}
-use Rattle.target_core.specs.Stretches.{without_info, goes_on, stretch_scrape, stretch_of}
+use Rattle.target_pages.specs.Stretches.{without_info, goes_on, stretch_scrape, stretch_of}
 use Rattle.target_core.specs.States.{Following, StandsFor, told_scrapes}
-use Rattle.target_core.proofs.Laws.{series_are_read}
+use Rattle.target_pages.proofs.Laws.{series_are_read}
 use Rattle.bridge_ports.specs.Talks.{Plan}
 use Rattle.series_table.specs.declared.aim.Aim.{Aim}
 use Rattle.series_table.specs.Talking.{Followed}

@@ -10,9 +10,9 @@ use Rattle.page_model.proofs.Laws.{nothing_is_right, right-distinct_keys, filled
 use Rattle.page_model.specs.Written.{text_setting}
 use Rattle.start_times.specs.Advancing.{HasDistinctKeys}
 use Rattle.start_times.specs.Scrapes.{scrape_after}
-use Rattle.target_core.specs.Thinned.{without_exemplars}
-use Rattle.target_core.specs.Events.{shown_page, latest_shown}
-use Rattle.target_core.proofs.Laws.{bare_is_read}
+use Rattle.target_pages.specs.Thinned.{without_exemplars, shown_page}
+use Rattle.target_core.specs.Events.{latest_shown}
+use Rattle.target_pages.proofs.Laws.{bare_is_read}
 use Rattle.scrape_client.specs.Scraping.{IsWithinLimit}
 use Rattle.series_table.specs.Talking.{Followed}
 use Rattle.series_table.specs.Records.{IsScrapedWithin, IsShownOf}

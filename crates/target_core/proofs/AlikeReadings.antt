@@ -1,5 +1,5 @@
 -- The readings of a family of a right page have one name and one unit.
-use Rattle.std.proofs.Common.{◌≡◌, ℕ, List, [], ◌∷◌, map, filter, filter_map, codes, reverse, Option, Some, None, option_map, refl, sym, ap, subst, ◌∙◌, inl, inr}
+use Rattle.std.proofs.Common.{ℕ, List, [], ◌∷◌, map, filter, filter_map, codes, reverse, Option, Some, None, option_map, refl, sym, ap, subst, ◌∙◌, inl, inr}
 use Rattle.std.specs.List.{AllByRecursion, cons_option}
 use Rattle.label_sets.specs.declared.kind.Kind.{Kind}
 use Rattle.label_sets.specs.declared.label_set.LabelSet.{LabelSet}
@@ -14,18 +14,8 @@ use Rattle.page_model.specs.PageValues.{PageValue}
 use Rattle.page_model.specs.Written.{Setting}
 use Rattle.page_model.specs.Owners.{Owned, owned_lines, kind_of, samples_of}
 use Rattle.page_model.specs.Readings.{key_name, reading_labels, value_with, value_of, stamp_of, exemplars_of, reading_of, readings_of, family_of, families_of, page_of}
+use Rattle.scope_metrics.specs.ScopeParts.{HasName, AreAlike}
 use Rattle.page_model.specs.Pages.{items_of, AreSomeOf, IsThinnerReading, AreThinnerFamilies, IsRightPage}
-
--- a reading has this name and this unit
-pub record HasName (name unit : List ℕ) (r : Reading) : Type 0 where
-  pub name_is : r.key.name ≡ name
-  pub unit_is : r.key.unit ≡ unit
-
--- the readings of a family have one name and one unit
-pub record AreAlike (f : Family) : Type 0 where
-  pub name : List ℕ
-  pub unit : List ℕ
-  pub each : AllByRecursion (HasName name unit) f.readings
 
 -- ---- what is left of readings and families
 

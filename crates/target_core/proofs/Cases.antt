@@ -34,14 +34,16 @@ use Rattle.otlp_tree.specs.declared.tree.NumberPoint.{NumberPoint}
 use Rattle.otlp_tree.specs.declared.tree.HistogramPoint.{HistogramPoint}
 use Rattle.otlp_tree.specs.declared.tree.SummaryPoint.{SummaryPoint}
 use Rattle.bridge_ports.specs.Targets.{Scraped as Target}
-use Rattle.target_core.specs.declared.markers.Marker.{Marker}
+use Rattle.family_metrics.specs.declared.markers.Marker.{Marker}
 use Rattle.start_times.specs.Starts.{has_start, has_points, up_to, cumulative_layout}
-use Rattle.target_core.specs.Scopes.{scope_name}
-use Rattle.target_core.specs.Shots.{id_of, shot_of}
-use Rattle.target_core.specs.Stretches.{without_info}
-use Rattle.target_core.specs.Points.{point_at, plain_number, histogram_in, summary_in, number_point, histogram_point, summary_point}
-use Rattle.target_core.specs.Markers.{number_marker, metric_with, marker_metric, no_points}
-use Rattle.target_core.specs.Trees.{shape_of, family_metric, event_metrics, target_gauge, target_metrics, series_scopes, resource_of, request_of}
+use Rattle.family_metrics.specs.Scopes.{scope_name}
+use Rattle.family_metrics.specs.Shots.{id_of, shot_of}
+use Rattle.target_pages.specs.Stretches.{without_info}
+use Rattle.family_metrics.specs.Points.{point_at, plain_number, histogram_in, summary_in, number_point, histogram_point, summary_point}
+use Rattle.family_metrics.specs.Markers.{number_marker, metric_with, marker_metric, no_points}
+use Rattle.family_metrics.specs.Metrics.{shape_of, family_metric, event_metrics}
+use Rattle.target_core.specs.Trees.{target_gauge, target_metrics, resource_of, request_of}
+use Rattle.scope_metrics.specs.PageScopes.{series_scopes}
 use Rattle.target_core.specs.Events.{first_place, event_request}
 
 -- ---- words of the cases

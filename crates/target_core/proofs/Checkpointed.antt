@@ -15,10 +15,10 @@ use Rattle.start_times.proofs.Laws.{rows_are_those_of_past, row_in_entries, row_
 use Rattle.staleness.specs.declared.marks.Mark.{Mark}
 use Rattle.bridge_ports.specs.Targets.{Scraped}
 use Rattle.target_core.specs.declared.parts.Parts.{Parts}
-use Rattle.target_core.specs.Stretches.{without_info, stretch_of}
+use Rattle.target_pages.specs.Stretches.{without_info, stretch_of}
 use Rattle.target_core.specs.States.{Following}
 use Rattle.target_core.specs.Stepping.{IsToldBehind, marks_held}
-use Rattle.target_core.specs.Keeping.{kept_behind, HasParts, TakesUp, PartsAreTheirs}
+use Rattle.target_core.specs.Keeping.{kept_behind, HasRows, HasParts, TakesUp, PartsAreTheirs}
 use Rattle.target_core.proofs.Stepping.{goes_on_from, honors}
 
 -- ---- the parts of events are parts of them
@@ -41,17 +41,21 @@ parts_are_theirs t events =
 
 -- ---- the parts of a state
 
-pub parts_kept : (s : Following) (k : Tracked) (moment : Option ℕ) (resource : LabelSet) (rows : List Kept) (marks : List Mark) → IsToldBehind s k → (IsDistinct key_eq (row_keys k.rows) → AreRowsOf k rows)
+pub rows_kept : (s : Following) (k : Tracked) (rows : List Kept) → IsToldBehind s k → (IsDistinct key_eq (row_keys k.rows) → AreRowsOf k rows) → HasRows s rows
+rows_kept s k rows told are target t events goes =
+    let tracks : Tracks t k (stretch_of events) = told target t events goes in
+    rows_are_those_of_past t k (stretch_of events) rows tracks (are tracks.once)
+
+pub parts_kept : (s : Following) (moment : Option ℕ) (resource : LabelSet) (rows : List Kept) (marks : List Mark) → HasRows s rows
     → ((t : Tracking) → t.honor ≡ s.target.honor → marks ≡ marks_held t s.marks (without_info s.page)) → moment ≡ s.moment → resource ≡ s.resource
     → HasParts s (record { moment = moment; resource = resource; rows = rows; marks = marks })
 unfolding kept_behind
-parts_kept s k moment resource rows marks told are held moment_is resource_is target t events goes =
+parts_kept s moment resource rows marks own held moment_is resource_is target t events goes =
     let on = goes_on_from target t s events goes in
-    let tracks : Tracks t k (stretch_of events) = told target t events goes in
     λ i. record {
       moment = (moment_is ∙ on.moment_is) i;
       resource = (resource_is ∙ on.resource_is) i;
-      rows = rows_are_those_of_past t k (stretch_of events) rows tracks (are tracks.once) i;
+      rows = own target t events goes i;
       marks = (held t (honors target t s events on) ∙ on.marks_are) i;
     }
 

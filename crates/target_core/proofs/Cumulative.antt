@@ -1,9 +1,9 @@
 -- The buckets of a right page are cumulative, so each value that has buckets has a layout.
-use Rattle.std.proofs.Common.{◌≡◌, true, false, ◌&&◌, List, [], ◌∷◌, ◌++◌, Some, refl, sym, subst}
+use Rattle.std.proofs.Common.{◌≡◌, true, false, ◌&&◌, List, [], ◌∷◌, Some, refl, sym, subst}
 use Rattle.std.specs.Prelude.{nat_le, All}
 use Rattle.std.specs.List.{last_or, AllByRecursion}
 use Rattle.std.proofs.lemmas.Bool.{and_parts, not-false}
-use Rattle.std.proofs.lemmas.List.Elements.{All-append, All-from_recursion}
+use Rattle.std.proofs.lemmas.List.Elements.{All-from_recursion}
 use Rattle.label_sets.specs.declared.kind.Kind.{Kind}
 use Rattle.label_sets.specs.declared.kind.Kind.TheVariants.{Counter, Gauge, Histogram, GaugeHistogram, StateSet, Info, Summary, Unknown}
 use Rattle.label_sets.specs.Lists.{some_passes}
@@ -21,7 +21,7 @@ use Rattle.page_model.specs.Pages.{IsRightPage}
 use Rattle.sample_groups.proofs.Laws.{AreRising, RiseToUp}
 use Rattle.family_rules.proofs.Laws.{IsValueOf, HaveValuesOf, HaveKindValues, right_values}
 use Rattle.histogram_layout.specs.Layouts.{may_follow, are_cumulative}
-use Rattle.target_core.specs.Points.{MayBeLaidOut, MayAllBeLaidOut}
+use Rattle.family_metrics.specs.Points.{MayBeLaidOut, MayAllBeLaidOut}
 
 -- ---- buckets that rise to `+Inf` are cumulative
 
@@ -69,8 +69,3 @@ of_families (f ∷ fs) have = (All-from_recursion (λ (r : Reading). MayBeLaidOu
 pub page_laid_out : (page : Page) (fs : List Family) → fs ≡ page.families → IsRightPage page → All (λ (f : Family). MayAllBeLaidOut f.readings) fs
 page_laid_out page fs same right =
     All-from_recursion (λ (f : Family). MayAllBeLaidOut f.readings) fs (subst (AllByRecursion (λ (f : Family). MayAllBeLaidOut f.readings)) (sym same) (of_families page.families (right_values page right)))
-
--- one family more
-pub one_laid_out : (fs more : List Family) (f : Family) → more ≡ fs ++ f ∷ [] → All (λ (g : Family). MayAllBeLaidOut g.readings) fs → MayAllBeLaidOut f.readings → All (λ (g : Family). MayAllBeLaidOut g.readings) more
-one_laid_out fs more f e all own = subst (All (λ (g : Family). MayAllBeLaidOut g.readings)) (sym e)
-    (All-append (λ (g : Family). MayAllBeLaidOut g.readings) fs (f ∷ []) all (All-from_recursion (λ (g : Family). MayAllBeLaidOut g.readings) (f ∷ []) (own, tt)))

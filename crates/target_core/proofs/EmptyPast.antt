@@ -5,7 +5,7 @@ use Rattle.start_times.specs.declared.row.Placed.TheVariants.{At}
 use Rattle.start_times.specs.Scrapes.{moment_after, scrape_after}
 use Rattle.start_times.specs.Starts.{Tracking, has_points, time_of, placed, reading_place}
 use Rattle.start_times.proofs.Laws.{start_without_past}
-use Rattle.target_core.specs.Stretches.{resource_attributes, goes_on, stretch_scrape}
+use Rattle.target_pages.specs.Stretches.{resource_attributes, goes_on, stretch_scrape}
 use Rattle.target_core.specs.Trees.{request_with}
 use Rattle.target_core.specs.Events.{first_place, event_request, request_after}
 use Rattle.target_core.specs.Laws.{EmptyPast}

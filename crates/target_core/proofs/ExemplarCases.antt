@@ -14,13 +14,13 @@ use Rattle.page_model.specs.declared.page.Page.{Page}
 use Rattle.otlp_tree.specs.declared.tree.Shape.TheVariants as shapes
 use Rattle.otlp_tree.specs.declared.tree.Shot.{Shot}
 use Rattle.start_times.specs.Starts.{has_start, has_points, up_to, cumulative_layout}
-use Rattle.target_core.specs.Scopes.{scope_name}
-use Rattle.target_core.specs.Shots.{id_of, shot_of}
-use Rattle.target_core.specs.Thinned.{without_exemplars}
-use Rattle.target_core.specs.Points.{point_at, plain_number, histogram_in, number_point, histogram_point}
-use Rattle.target_core.specs.Markers.{metric_with}
-use Rattle.target_core.specs.Trees.{shape_of, event_metrics}
-use Rattle.target_core.specs.Events.{shown_page, first_place}
+use Rattle.family_metrics.specs.Scopes.{scope_name}
+use Rattle.family_metrics.specs.Shots.{id_of, shot_of}
+use Rattle.target_pages.specs.Thinned.{without_exemplars, shown_page}
+use Rattle.family_metrics.specs.Points.{point_at, plain_number, histogram_in, number_point, histogram_point}
+use Rattle.family_metrics.specs.Markers.{metric_with}
+use Rattle.family_metrics.specs.Metrics.{shape_of, event_metrics}
+use Rattle.target_core.specs.Events.{first_place}
 use Rattle.target_core.proofs.CaseWords.{label, fraction, number, family}
 
 -- ---- words of the cases

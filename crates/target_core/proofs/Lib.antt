@@ -1,22 +1,11 @@
-mod Placing
-mod Grouping
-mod Identities
-mod Grouped
-mod FamilyMetrics
+mod Cumulative
 mod AlikeReadings
-mod ScopeItems
-mod ScopeFamilies
-mod PageItems
-mod ScopedMetrics
-mod OneScope
-mod Infos
-pub mod SeriesPages
-mod Unnamed
+mod PageScopes
+mod Attributes
 mod Stepping
 mod EmptyPast
 mod Undescribed
 mod Checkpointed
-mod Placed
 mod Rising
 mod MarkedOnce
 mod Cases
@@ -24,7 +13,4 @@ mod CaseWords
 mod OwnTimeCases
 mod ScopeCases
 mod ExemplarCases
-mod Ids
-pub mod BarePages
-pub mod Cumulative
 pub mod Laws

@@ -7,7 +7,7 @@ use Rattle.start_times.specs.Scrapes.{last_page}
 use Rattle.start_times.specs.Starts.{start_there}
 use Rattle.staleness.specs.Vanished.{times, keys_gone}
 use Rattle.staleness.proofs.Laws.{gone_once}
-use Rattle.target_core.specs.declared.markers.Marker.{Marker}
+use Rattle.family_metrics.specs.declared.markers.Marker.{Marker}
 use Rattle.target_core.specs.Events.{marker_with}
 use Rattle.target_core.specs.Laws.{MarkedOnce, MarkerStartIsBefore}
 

@@ -19,11 +19,13 @@ use Rattle.otlp_tree.specs.declared.tree.Shape.TheVariants as shapes
 use Rattle.otlp_tree.specs.declared.tree.NumberPoint.{NumberPoint}
 use Rattle.start_times.specs.Scrapes.{scrape_after}
 use Rattle.start_times.specs.Starts.{has_points, has_start, up_to, last_of, falls, differs, start_time, placed, reading_place}
-use Rattle.target_core.specs.Scopes.{scope_name}
-use Rattle.target_core.specs.Stretches.{may_describe, is_one, is_info, without_info, attributes_in, stretch_scrape}
-use Rattle.target_core.specs.Points.{point_at, plain_number, number_point}
-use Rattle.target_core.specs.Markers.{number_marker, metric_with, marker_metric, no_points}
-use Rattle.target_core.specs.Trees.{shape_of, target_metrics, series_scopes, resource_of, request_of}
+use Rattle.family_metrics.specs.Scopes.{scope_name}
+use Rattle.target_pages.specs.Stretches.{may_describe, is_one, is_info, without_info, attributes_in, stretch_scrape}
+use Rattle.family_metrics.specs.Points.{point_at, plain_number, number_point}
+use Rattle.family_metrics.specs.Markers.{number_marker, metric_with, marker_metric, no_points}
+use Rattle.family_metrics.specs.Metrics.{shape_of}
+use Rattle.target_core.specs.Trees.{target_metrics, resource_of, request_of}
+use Rattle.scope_metrics.specs.PageScopes.{series_scopes}
 use Rattle.target_core.specs.Events.{marker_with, request_after, requests_of}
 use Rattle.target_core.proofs.CaseWords.{target, label, reading, family, scrape, failed, labelled, gone_labelled, told_scope}
 

@@ -31,17 +31,18 @@ use Rattle.staleness.specs.Vanished.{is_gone, keys_gone}
 use Rattle.staleness.proofs.Laws.{marks_are_enough, none_missed}
 use Rattle.otlp_tree.specs.declared.tree.Request.{Request}
 use Rattle.bridge_ports.specs.Targets.{Scraped}
-use Rattle.target_core.specs.declared.markers.Marker.{Marker}
-use Rattle.target_core.specs.Thinned.{without_exemplars}
-use Rattle.target_core.specs.SeriesPages.{marks_where}
-use Rattle.target_core.specs.Stretches.{without_info, attributes_after, resource_attributes, goes_on, moment_of, stretch_scrape, stretch_of, closing_scrape}
-use Rattle.target_core.specs.Trees.{gone_part, request_of, up_of}
-use Rattle.target_core.specs.Events.{shown_page, marker_with, markers_at, request_within, request_at_change, request_after, latest_shown, first_place, event_request}
+use Rattle.family_metrics.specs.declared.markers.Marker.{Marker}
+use Rattle.target_pages.specs.Thinned.{without_exemplars, shown_page}
+use Rattle.target_pages.specs.SeriesPages.{marks_where}
+use Rattle.target_pages.specs.Stretches.{without_info, attributes_after, resource_attributes, goes_on, moment_of, stretch_scrape, stretch_of, closing_scrape}
+use Rattle.target_core.specs.Trees.{gone_part, request_of}
+use Rattle.target_pages.specs.Outcomes.{up_of, IsSeen}
+use Rattle.target_core.specs.Events.{marker_with, markers_at, request_within, request_at_change, request_after, latest_shown, first_place, event_request}
 use Rattle.target_core.specs.States.{Following, StandsFor, GoesOnFrom, Steps, told_scrapes, shown_by}
-use Rattle.target_core.specs.Stepping.{AreMarkersLacked, IsSeen, IsEventNext, IsToldBehind, ReadsWithin, ReadsAnew, keys_lacked, lacked_markers, missed_markers, marks_held, next_state}
+use Rattle.target_core.specs.Stepping.{AreMarkersLacked, IsEventNext, IsToldBehind, ReadsWithin, ReadsAnew, keys_lacked, lacked_markers, missed_markers, marks_held, next_state}
 use Rattle.target_core.proofs.EmptyPast.{empty_past}
-use Rattle.target_core.proofs.Placing.{one_more}
-use Rattle.target_core.proofs.SeriesPages.{series_distinct, shown_distinct, shown_series, same_marks, same_tracks, marks_are}
+use Rattle.family_metrics.proofs.Laws.{one_more}
+use Rattle.target_pages.proofs.Laws.{series_distinct, shown_distinct, shown_series, same_marks, same_tracks, marks_are}
 
 -- ---- the starts of series that are gone
 

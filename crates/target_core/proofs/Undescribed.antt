@@ -10,11 +10,12 @@ use Rattle.page_model.specs.Presence.{all_readings, page_of_outcome}
 use Rattle.start_times.specs.Scrapes.{Scrape, scrape_after, scrapes_of}
 use Rattle.start_times.specs.Starts.{reading_place}
 use Rattle.label_sets.specs.declared.label_set.LabelSet.{LabelSet}
-use Rattle.target_core.specs.Stretches.{is_info, attributes_in, attributes_after, resource_attributes, goes_on, moment_of, stretch_scrape, stretch_of}
-use Rattle.target_core.specs.Trees.{request_of, up_of}
+use Rattle.target_pages.specs.Stretches.{is_info, attributes_in, attributes_after, resource_attributes, goes_on, moment_of, stretch_scrape, stretch_of}
+use Rattle.target_core.specs.Trees.{request_of}
+use Rattle.target_pages.specs.Outcomes.{up_of}
 use Rattle.target_core.specs.Events.{markers_at, request_within, request_after}
 use Rattle.target_core.specs.Laws.{DescribeNothing, OnePartAlone}
-use Rattle.target_core.proofs.SeriesPages.{whole_page_left}
+use Rattle.target_pages.proofs.Laws.{whole_page_left}
 
 -- ---- one page
 

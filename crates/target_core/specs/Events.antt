@@ -3,11 +3,9 @@
 use Rattle.std.specs.Prelude.{ℕ, Bool, List, [], ◌∷◌, map, min, unwrap_or, Option, Some, None, option_map, if◌then◌else◌}
 use Rattle.label_sets.specs.declared.series_key.SeriesKey.{SeriesKey}
 use Rattle.page_model.specs.declared.page.Reading.{Reading}
-use Rattle.page_model.specs.declared.page.Page.{Page}
 use Rattle.page_model.specs.declared.event.Outcome.{Outcome}
 use Rattle.page_model.specs.declared.event.Event.{Event}
 use Rattle.page_model.specs.declared.event.Shown.{Shown}
-use Rattle.page_model.specs.Presence.{filled_page}
 use Rattle.start_times.specs.declared.row.Placed.{Placed}
 use Rattle.start_times.specs.declared.row.Placed.TheVariants.{At}
 use Rattle.start_times.specs.Scrapes.{Scrape, last_moment, last_page, scrapes_of}
@@ -15,9 +13,9 @@ use Rattle.start_times.specs.Starts.{Tracking, has_points, time_where, created_a
 use Rattle.staleness.specs.Vanished.{keys_gone}
 use Rattle.otlp_tree.specs.declared.tree.Request.{Request}
 use Rattle.bridge_ports.specs.Targets.{Scraped}
-use Rattle.target_core.specs.declared.markers.Marker.{Marker}
-use Rattle.target_core.specs.Thinned.{without_exemplars}
-use Rattle.target_core.specs.Stretches.{attributes_after, resource_attributes, goes_on, moment_of, stretch_scrape, stretch_of, closing_scrape}
+use Rattle.family_metrics.specs.declared.markers.Marker.{Marker}
+use Rattle.target_pages.specs.Thinned.{shown_page}
+use Rattle.target_pages.specs.Stretches.{attributes_after, resource_attributes, goes_on, moment_of, stretch_scrape, stretch_of, closing_scrape}
 use Rattle.target_core.specs.Trees.{gone_part, request_with}
 
 -- the marker of a series that is gone, with the start that it had, but none after the marker's time
@@ -50,10 +48,6 @@ request_after target t earlier e = if goes_on earlier e then request_within targ
 abbrev pub requests_of : Scraped → Tracking → List Event → List Request
 requests_of target t [] = []
 requests_of target t (e ∷ earlier) = request_after target t earlier e ∷ requests_of target t earlier
-
--- a page as it is shown: without its exemplars, and without the families that have no reading
-abbrev pub shown_page : Page → Page
-shown_page page = filled_page (without_exemplars page)
 
 -- what a target shows behind these events: the page of the last one, and its moment
 unfoldable pub latest_shown : Scraped → List Event → Shown

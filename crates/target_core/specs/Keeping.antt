@@ -13,7 +13,7 @@ use Rattle.start_times.specs.Keeping.{row_in, rows_of_past}
 use Rattle.staleness.specs.Marks.{marks_of}
 use Rattle.bridge_ports.specs.Targets.{Scraped}
 use Rattle.target_core.specs.declared.parts.Parts.{Parts}
-use Rattle.target_core.specs.Stretches.{resource_attributes, stretch_of}
+use Rattle.target_pages.specs.Stretches.{resource_attributes, stretch_of}
 use Rattle.target_core.specs.States.{Following, GoesOnFrom, StandsAgain}
 
 -- what is kept behind these events, the nearest first: the rows in the order of keys, the marks in that of the last page
@@ -32,6 +32,10 @@ pub record AreKeptBehind (t : Tracking) (parts : Parts) (events : List Event) : 
   pub rows_are : (key : SeriesKey) → row_in key parts.rows ≡ kept_row t key (stretch_of events)
   pub rows_once : IsDistinct key_eq (map (λ (k : Kept). k.key) parts.rows)
   pub marks_are : parts.marks ≡ marks_of t (last_page (stretch_of events))
+
+-- from all events from which the state goes on: the rows are theirs
+abbrev pub HasRows : Following → List Kept → Type 0
+HasRows s rows = (target : Scraped) (t : Tracking) (events : List Event) → GoesOnFrom target t s events → rows ≡ rows_of_past t (stretch_of events)
 
 -- from all events from which the state goes on: the parts are theirs
 abbrev pub HasParts : Following → Parts → Type 0

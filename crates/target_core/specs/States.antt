@@ -14,8 +14,9 @@ use Rattle.staleness.specs.declared.marks.Mark.{Mark}
 use Rattle.staleness.specs.Marks.{marks_of}
 use Rattle.otlp_tree.specs.declared.tree.Request.{Request}
 use Rattle.bridge_ports.specs.Targets.{Scraped}
-use Rattle.target_core.specs.Stretches.{resource_attributes, stretch_of}
-use Rattle.target_core.specs.Events.{shown_page, request_after, event_request, latest_shown}
+use Rattle.target_pages.specs.Stretches.{resource_attributes, stretch_of}
+use Rattle.target_pages.specs.Thinned.{shown_page}
+use Rattle.target_core.specs.Events.{request_after, event_request, latest_shown}
 
 -- a state as its contracts see it: the target, over how many misses its series keep their starts, the attributes that its pages give it, what is kept
 -- of its series since these last changed, whether its last page is still to be put among that, that page as it is shown, the marks that stand for the

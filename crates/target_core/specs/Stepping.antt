@@ -1,4 +1,4 @@
--- How the code steps: what a state sees of an event, which series a page lacks beside it, and what the trees of a stretch and of a change come to.
+-- How the code steps: what follows a state, which series a page lacks beside it, and what the trees of a stretch and of a change come to.
 -- The bridge's own.
 use Rattle.std.specs.Prelude.{◌≡◌, ℕ, Bool, List, [], ◌∷◌, map, Option, Some, None, if◌then◌else◌}
 use Rattle.std.specs.List.{IsDistinct}
@@ -6,35 +6,30 @@ use Rattle.std.specs.Map.{keys_of as row_keys}
 use Rattle.label_sets.specs.declared.label_set.LabelSet.{LabelSet}
 use Rattle.label_sets.specs.declared.series_key.SeriesKey.{SeriesKey}
 use Rattle.label_sets.specs.Keys.{key_eq}
+use Rattle.page_model.specs.declared.page.Reading.{Reading}
 use Rattle.page_model.specs.declared.page.Page.{Page}
 use Rattle.page_model.specs.declared.event.Outcome.{Outcome}
 use Rattle.page_model.specs.declared.event.Event.{Event}
-use Rattle.page_model.specs.Presence.{empty_page, page_of_outcome}
+use Rattle.page_model.specs.Presence.{empty_page}
 use Rattle.start_times.specs.declared.row.Row.{Row}
+use Rattle.start_times.specs.declared.row.Placed.{Placed}
+use Rattle.start_times.specs.declared.row.Starts.{Starts}
 use Rattle.start_times.specs.Scrapes.{Scrape, moment_after}
 use Rattle.start_times.specs.Starts.{Tracking, reading_place}
 use Rattle.start_times.specs.Rows.{Tracked, Tracks, kept_start}
-use Rattle.start_times.specs.Advancing.{HasDistinctKeys, lacks_some, scrape_of}
+use Rattle.start_times.specs.Advancing.{HasDistinctKeys, lacks_some, scrape_of, starts_of}
 use Rattle.staleness.specs.declared.marks.Mark.{Mark}
 use Rattle.staleness.specs.Marks.{marks_of, marks_gone}
 use Rattle.staleness.specs.Vanished.{keys_gone}
 use Rattle.otlp_tree.specs.declared.tree.Request.{Request}
 use Rattle.bridge_ports.specs.Targets.{Scraped}
-use Rattle.target_core.specs.declared.markers.Marker.{Marker}
-use Rattle.target_core.specs.Stretches.{without_info, attributes_after, stretch_of}
-use Rattle.target_core.specs.Trees.{gone_part, request_of, up_of}
-use Rattle.target_core.specs.Events.{shown_page, marker_with}
+use Rattle.family_metrics.specs.declared.markers.Marker.{Marker}
+use Rattle.target_pages.specs.Stretches.{without_info, stretch_of}
+use Rattle.target_core.specs.Trees.{gone_part, request_of}
+use Rattle.target_core.specs.Events.{marker_with}
 use Rattle.target_core.specs.States.{Following, GoesOnFrom}
 
--- ---- what is seen of an event
-
--- an outcome comes to 1 or 0 for whether its scrape gave a page, to these attributes beside those before, to this page without what describes the
--- target, and to this page as it is shown
-pub record IsSeen (before : LabelSet) (outcome : Outcome) (up : ℕ) (resource : LabelSet) (series page : Page) : Type 0 where
-  pub up_is : up ≡ up_of outcome
-  pub resource_is : resource ≡ attributes_after before outcome
-  pub series_is : series ≡ without_info (page_of_outcome outcome)
-  pub page_is : page ≡ shown_page (page_of_outcome outcome)
+-- ---- one event more
 
 -- it is an event with this outcome, which behind a scrape at the moment `before`, or behind none, is at this moment
 pub record IsEventNext (before : Option ℕ) (e : Event) (outcome : Outcome) (moment : ℕ) : Type 0 where
@@ -79,6 +74,20 @@ AreMarkersMissed s rows misses moment now markers = (t : Tracking) → t.honor �
 -- from all events from which the state goes on: these are the rows behind all scrapes since the attributes last changed
 abbrev pub IsToldBehind : Following → Tracked → Type 0
 IsToldBehind s k = (target : Scraped) (t : Tracking) (events : List Event) → GoesOnFrom target t s events → Tracks t k (stretch_of events)
+
+-- the tree of a page whose readings have these places, under the attributes of a state; where anything is missed, with the markers of what the page lacks
+abbrev pub IsTreeWithin : Following → List (SeriesKey × Row) → (Reading → Option Placed) → Bool → ℕ → ℕ → Page → Request → Type 0
+IsTreeWithin s rows place misses moment up series tree = (t : Tracking) → t.honor ≡ s.target.honor → IsDistinct key_eq (row_keys rows)
+    → tree ≡ request_of s.target s.resource place (missed_markers t s rows misses moment series) moment up series []
+
+-- the same under other attributes, with all series of the last page in a second part, where these rows were kept of them
+abbrev pub IsTreeAnew : Following → List (SeriesKey × Row) → (Reading → Option Placed) → ℕ → ℕ → LabelSet → Page → Request → Type 0
+IsTreeAnew s rows place moment up resource series tree = (t : Tracking) → t.honor ≡ s.target.honor → IsDistinct key_eq (row_keys rows)
+    → tree ≡ request_of s.target resource place [] moment up series (gone_part s.target s.resource (lacked_markers t s rows moment empty_page))
+
+-- behind no past a page comes to these places and these rows
+abbrev pub AdvancesAnew : Following → Page → ℕ → Starts → Tracked → Type 0
+AdvancesAnew s series moment starts next = (t : Tracking) → t.honor ≡ s.target.honor → s.keep ≡ t.keep → HasDistinctKeys series → (starts.list ≡ starts_of t [] series moment) × Tracks t next (scrape_of series moment ∷ [])
 
 -- a page without what describes the target, read behind each past for which these rows stand, comes to this tree and these rows; where it lacks no series
 -- with points of the page before, the tree has no markers

@@ -3,7 +3,7 @@ ghost use Rattle.std.specs.Prelude.{◌≡◌, ℕ, Option, None, map, min, opti
 ghost use Rattle.label_sets.specs.declared.series_key.SeriesKey.{SeriesKey as AnyKey};
 ghost use Rattle.target_core.specs.Events.{marker_with};
 
-use crate::markers::Marker;
+use family_metrics::Marker;
 use label_sets::{Memory, SeriesKey};
 use std::alloc::Global;
 

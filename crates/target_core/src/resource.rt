@@ -4,7 +4,7 @@ ghost use Rattle.target_core.specs.Trees as trees;
 ghost use Rattle.otlp_tree.specs.declared.tree.AttributeValue.TheVariants.{Str, Int};
 
 use bridge_ports::Target;
-use label_sets::{Label, LabelSet, Memory, Text};
+use label_sets::{Label, LabelSet, List, Memory, Text};
 use otlp_tree::{Attribute, AttributeValue};
 use std::alloc::Global;
 
@@ -76,29 +76,33 @@ fn push_labels(attributes: &mut Vec<Attribute>, labels: &LabelSet) -> Result<(),
     Ok(())
 }
 
+/// Puts the attributes that every target has behind the others.
+#[tactic(auto, unfolding(crate::specs::Trees::own_attributes))]
+fn push_own(alloc: Global, attributes: &mut Vec<Attribute>, target: &Target) -> Result<(), Memory>
+    ensures { OnOk result (attributes.new.items ≡ attributes.old.items ++ trees.own_attributes target.now) }
+{
+    let address = target.address();
+    push_text(alloc, attributes, "service.name", target.job().copy()?)?;
+    let instance = target.instance().copy()?;
+    push_text(alloc, attributes, "service.instance.id", instance)?;
+    let host = Text::from_utf8(alloc, address.host.as_slice())?;
+    push_text(alloc, attributes, "server.address", host)?;
+    push_number(alloc, attributes, "server.port", u64::from(address.port))?;
+    let scheme = Text::from_str(alloc, "http")?;
+    push_text(alloc, attributes, "url.scheme", scheme)
+}
+
 /// The attributes of the target that was scraped, and behind them those that its pages give it.
-#[tactic(auto, unfolding(crate::specs::Trees::resource_of))]
+#[tactic(auto, unfolding(crate::specs::Trees::resource_of, crate::specs::Trees::own_attributes))]
 pub(crate) fn resource(
     alloc: Global,
     target: &Target,
     attributes: &LabelSet,
-) -> Result<Vec<Attribute>, Memory>
-    ensures { IfOk result (λ all. all.items ≡ trees.resource_of target.now attributes.now) }
+) -> Result<List<Attribute>, Memory>
+    ensures { IfOk result (λ all. all ≡ trees.resource_of target.now attributes.now) }
 {
-    let address = target.address();
     let mut all = Vec::with_capacity(alloc, attributes.len().saturating_add(5))?;
-    push_text(alloc, &mut all, "service.name", target.job().copy()?)?;
-    push_text(
-        alloc,
-        &mut all,
-        "service.instance.id",
-        target.instance().copy()?,
-    )?;
-    let host = Text::from_utf8(alloc, address.host.as_slice())?;
-    push_text(alloc, &mut all, "server.address", host)?;
-    push_number(alloc, &mut all, "server.port", u64::from(address.port))?;
-    let scheme = Text::from_str(alloc, "http")?;
-    push_text(alloc, &mut all, "url.scheme", scheme)?;
+    push_own(alloc, &mut all, target)?;
     push_labels(&mut all, attributes)?;
-    Ok(all)
+    List::from_vec(all)
 }

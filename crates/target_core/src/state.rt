@@ -1,39 +1,27 @@
 //! What is kept of a target between its scrapes.
 ghost use Rattle.std.specs.Prelude.{◌≡◌, ◌≤◌, [], false, Some, None, IfOk, OnOk, OnErr};
-ghost use Rattle.std.specs.Option.{option_copied};
-ghost use Rattle.label_sets.specs.Labels.{label_sets_eq};
 ghost use Rattle.page_model.specs.declared.event.Event.{Event as AnyEvent};
-ghost use Rattle.page_model.specs.declared.event.Outcome.{Outcome as AnyOutcome};
-ghost use Rattle.staleness.specs.Vanished.{page_or_empty};
 ghost use Rattle.start_times.specs.Scrapes as scrapes;
 ghost use Rattle.start_times.specs.Starts.{Tracking};
-ghost use Rattle.start_times.specs.Rows.{Tracks};
-ghost use Rattle.target_core.specs.Events.{first_place, event_request};
-ghost use Rattle.target_core.specs.Keeping.{HasParts, TakesUp};
+ghost use Rattle.target_pages.specs.Stretches.{without_info};
+ghost use Rattle.target_core.specs.Events.{event_request};
+ghost use Rattle.target_core.specs.Keeping.{HasParts, HasRows, TakesUp};
 ghost use Rattle.target_core.specs.States.{Steps, StandsFor, HasNextMoment, IsFirstTree, ShowsLatest, shown_by, shown_again};
-ghost use Rattle.target_core.specs.Stepping.{AreMarkersLacked, AreMarkersMissed, IsEventNext, IsSeen, IsToldBehind, ReadsWithin, ReadsAnew, keys_lacked, marks_held, next_state};
-ghost use Rattle.target_core.specs.Stretches.{without_info};
-ghost use Rattle.target_core.specs.Trees.{request_of};
+ghost use Rattle.target_core.specs.Stepping.{IsEventNext, marks_held, next_state};
 
-use crate::gone::markers_of;
-use crate::last_page::LastPage;
-use crate::markers::Marker;
-use crate::marks::page_marks;
+mod event_trees;
+
+use crate::moments::moment_after;
 use crate::parts::Parts;
-use crate::places::first_places;
-use crate::seen::Seen;
-use crate::tree::{gone_part, request};
 use bridge_ports::Target;
-use label_sets::{LabelSet, List, Memory, SeriesKey};
+use label_sets::{LabelSet, List, Memory};
 use otlp_tree::Request;
-use page_model::{Event, Outcome, Page, Shown};
-use staleness::{Mark, vanished, vanished_marks};
-use start_times::Tracker;
+use page_model::{Event, Outcome, Shown};
+use staleness::Mark;
+use start_times::{Kept, Tracker};
 use std::alloc::Global;
 use std::marker::Model;
-
-/// The greatest reading of a clock that counts as it is: 2^62, in nanoseconds since the Unix epoch.
-const LATEST_READING: u64 = 4_611_686_018_427_387_904;
+use target_pages::{LastPage, Seen, page_marks};
 
 /// What is kept of a target between its scrapes: the attributes that its pages give it, a row for each series that
 /// can still come back, and the last page as it is shown. It has no history. Rows are of a stretch: the scrapes since
@@ -61,25 +49,6 @@ impl Model for TargetState {
     ghost Value = { Following };
 
     ghost view = { λ s. record { target = s.target; keep = s.keep; resource = s.resource; tracked = s.tracker; pending = s.pending; page = s.page; marks = s.marks; moment = s.moment } };
-}
-
-/// The moment of a scrape with this reading of the clock, behind that of the scrape before.
-fn moment_after(before: Option<u64>, reading: u64) -> u64
-    requires { HasNextMoment before }
-    ensures { result ≡ scrapes.moment_after before reading }
-{
-    let reading = reading.min(LATEST_READING);
-    match before {
-        Some(before) => reading.max(before + 1),
-        None => reading,
-    }
-}
-
-/// Whether two sets have the same labels.
-fn same_labels(a: &LabelSet, b: &LabelSet) -> bool
-    ensures { result ≡ label_sets_eq a.now b.now }
-{
-    a == b
 }
 
 impl TargetState {
@@ -134,194 +103,42 @@ impl TargetState {
         ensures state { IfOk result (λ s. (t : Tracking) → t.keep ≡ keep → t.honor ≡ target.honor → TakesUp target t parts s) }
         ensures shown { IfOk result (λ s. shown_by s ≡ shown_again target parts.moment) }
     {
-        let tracker = Tracker::from_kept(alloc, keep, target.honor(), &parts.rows)?;
-        Ok(TargetState {
-            target,
-            keep,
-            resource: parts.resource,
-            tracker,
-            pending: false,
-            page: LastPage::none(alloc),
-            marks: Some(parts.marks),
-            moment: parts.moment,
-        })
-    }
-
-    /// The rows behind all scrapes since the attributes last changed.
-    fn told_tracker(&self, alloc: Global) -> Result<Tracker, Memory>
-        ensures { IfOk result (IsToldBehind self.now) }
-    {
-        let Some(moment) = self.moment else {
-            return self.tracker.copy();
-        };
-        if !self.pending {
-            return self.tracker.copy();
-        }
-        let (_, tracker) = self.tracker.advance(alloc, self.page.series(), moment)?;
-        Ok(tracker)
-    }
-
-    /// No rows, to be kept as those of the target are.
-    fn no_rows(&self, alloc: Global) -> Result<Tracker, Memory>
-        ensures { IfOk result (λ tracker. (t : Tracking) → t.honor ≡ self.now.target.honor → self.now.keep ≡ t.keep → Tracks t tracker []) }
-    {
-        let none = List::new(alloc);
-        Tracker::from_kept(alloc, self.keep, self.target.honor(), &none)
-    }
-
-    /// The series of the last page that a page now lacks; all of them where there is none.
-    fn keys_lacked(&self, alloc: Global, now: Option<&Page>) -> Result<List<SeriesKey>, Memory>
-        ensures { IfOk result (λ keys. (t : Tracking) → t.honor ≡ self.now.target.honor
-            → keys ≡ keys_lacked t self.now.marks (without_info self.now.page) (page_or_empty (option_copied now.entry))) }
-    {
-        match &self.marks {
-            Some(marks) => vanished_marks(alloc, marks, now),
-            None => vanished(alloc, self.page.series(), now, self.target.honor()),
+        match Tracker::from_kept(alloc, keep, target.honor(), &parts.rows) {
+            Ok(tracker) => Ok(TargetState {
+                target,
+                keep,
+                resource: parts.resource,
+                tracker,
+                pending: false,
+                page: LastPage::none(alloc),
+                marks: Some(parts.marks),
+                moment: parts.moment,
+            }),
+            Err(fault) => {
+                drop(target);
+                drop(parts);
+                Err(fault)
+            }
         }
     }
 
-    /// The markers of the series of the last page that a page now lacks, or of all of them where there is none, with
-    /// the starts that are kept of them.
-    fn markers(
-        &self,
-        alloc: Global,
-        tracker: &Tracker,
-        now: Option<&Page>,
-        moment: u64,
-    ) -> Result<Vec<Marker>, Memory>
-        ensures { IfOk result (λ markers. AreMarkersLacked self.now tracker.now.rows moment (page_or_empty (option_copied now.entry)) markers.items) }
-    {
-        let gone = self.keys_lacked(alloc, now)?;
-        let starts = tracker.starts_of(alloc, &gone)?;
-        markers_of(alloc, gone.as_slice(), starts.list.as_slice(), moment)
-    }
-
-    /// The markers of the series of the last page that a page now lacks. Most pages miss nothing: then no series is
-    /// sought.
-    fn markers_missed(
-        &self,
-        alloc: Global,
-        misses: bool,
-        tracker: &Tracker,
-        now: &Page,
-        moment: u64,
-    ) -> Result<Vec<Marker>, Memory>
-        ensures { IfOk result (λ markers. AreMarkersMissed self.now tracker.now.rows misses moment now.now markers.items) }
-    {
-        if !misses {
-            return Ok(Vec::new(alloc));
-        }
-        self.markers(alloc, tracker, Some(now), moment)
-    }
-
-    /// The tree of a first event.
-    fn first_tree(&self, alloc: Global, moment: u64, seen: &Seen) -> Result<Request, Memory>
-        ensures { IfOk result (λ tree. tree ≡ request_of self.now.target seen.now.resource (first_place self.now.target.honor moment) [] moment seen.now.up seen.now.series []) }
-    {
-        let places = first_places(alloc, self.target.honor(), moment, &seen.series)?;
-        let markers = Vec::new(alloc);
-        let further = Vec::new(alloc);
-        let tree = request(
-            alloc,
-            &self.target,
-            &seen.resource,
-            moment,
-            seen.up,
-            &seen.series,
-            places.as_slice(),
-            markers,
-            further,
-        )?;
-        Ok(tree)
-    }
-
-    /// The tree of an event that leaves the attributes as they were, behind these rows, and the rows behind it.
-    fn tree_within(
-        &self,
-        alloc: Global,
-        tracker: &Tracker,
-        moment: u64,
-        seen: &Seen,
-    ) -> Result<(Request, Tracker), Memory>
-        ensures { IfOk result (λ r. ReadsWithin self.now tracker.now moment seen.now.up seen.now.series r.0 r.1) }
-    {
-        let series = &seen.series;
-        let (starts, next) = tracker.advance(alloc, series, moment)?;
-        let markers = self.markers_missed(alloc, starts.misses, tracker, series, moment)?;
-        let further = Vec::new(alloc);
-        let tree = request(
-            alloc,
-            &self.target,
-            &self.resource,
-            moment,
-            seen.up,
-            series,
-            starts.list.as_slice(),
-            markers,
-            further,
-        )?;
-        Ok((tree, next))
-    }
-
-    /// The tree of an event that changes the attributes, where these rows were kept before, and the rows behind it:
-    /// its page has no past, and all series of the last page are gone under the attributes before, in a second part.
-    fn tree_anew(
-        &self,
-        alloc: Global,
-        tracker: &Tracker,
-        moment: u64,
-        seen: &Seen,
-    ) -> Result<(Request, Tracker), Memory>
-        ensures { IfOk result (λ r. ReadsAnew self.now tracker.now.rows moment seen.now.up seen.now.resource seen.now.series r.0 r.1) }
-    {
-        let series = &seen.series;
-        let none = self.no_rows(alloc)?;
-        let (starts, next) = none.advance(alloc, series, moment)?;
-        let gone = self.markers(alloc, tracker, None, moment)?;
-        let further = gone_part(alloc, &self.target, &self.resource, gone)?;
-        let unmarked = Vec::new(alloc);
-        let tree = request(
-            alloc,
-            &self.target,
-            &seen.resource,
-            moment,
-            seen.up,
-            series,
-            starts.list.as_slice(),
-            unmarked,
-            further,
-        )?;
-        Ok((tree, next))
-    }
-
-    /// The tree of an event behind others, and the rows behind it.
-    fn later_tree(
-        &self,
-        alloc: Global,
-        moment: u64,
-        seen: &Seen,
-    ) -> Result<(Request, Tracker), Memory>
-        ensures { (e : AnyEvent) (outcome : AnyOutcome) → IsEventNext self.now.moment e outcome moment
-            → IsSeen self.now.resource outcome seen.now.up seen.now.resource seen.now.series seen.now.last
-            → IfOk result (λ r. Steps self.now e r.0 (next_state self.now seen.now.resource r.1 false seen.now.last moment)) }
-    {
-        let tracker = self.told_tracker(alloc)?;
-        if same_labels(&self.resource, &seen.resource) {
-            return self.tree_within(alloc, &tracker, moment, seen);
-        }
-        self.tree_anew(alloc, &tracker, moment, seen)
-    }
-
-    /// Takes over what is kept behind an event: these rows, whether they are still to be told of its page, and its page.
-    fn follow(&mut self, tracker: Tracker, pending: bool, seen: Seen, moment: u64)
-        ensures { self.new ≡ next_state self.old seen.resource tracker pending seen.last moment }
+    /// Takes over what is seen of an event, and whether the rows are still to be told of its page.
+    fn take_page(&mut self, pending: bool, seen: Seen, moment: u64)
+        ensures { self.new ≡ next_state self.old seen.resource self.old.tracked pending seen.last moment }
     {
         self.resource = seen.resource;
-        self.tracker = tracker;
         self.pending = pending;
         self.page = seen.last;
         self.marks = None;
         self.moment = Some(moment);
+    }
+
+    /// Takes over what is kept behind an event: these rows, which are told of its page, and what is seen of it.
+    fn follow(&mut self, tracker: Tracker, seen: Seen, moment: u64)
+        ensures { self.new ≡ next_state self.old seen.resource tracker false seen.last moment }
+    {
+        self.tracker = tracker;
+        self.take_page(false, seen, moment);
     }
 
     /// The first step: what the target showed before does not count.
@@ -337,12 +154,17 @@ impl TargetState {
         ensures tree { (e : AnyEvent) → IsEventNext None e outcome moment → IfOk result (λ request. request ≡ event_request self.old.target moment e.outcome) }
         ensures err { OnErr result (self.new ≡ self.old) }
     {
-        let none = LabelSet::empty(alloc);
-        let seen = Seen::of(alloc, &none, outcome)?;
-        let tree = self.first_tree(alloc, moment, &seen)?;
-        let tracker = self.tracker.copy()?;
-        self.follow(tracker, true, seen, moment);
-        Ok(tree)
+        let seen = Seen::first(alloc, outcome)?;
+        match self.first_tree(alloc, moment, &seen) {
+            Ok(tree) => {
+                self.take_page(true, seen, moment);
+                Ok(tree)
+            }
+            Err(fault) => {
+                drop(seen);
+                Err(fault)
+            }
+        }
     }
 
     /// A step behind others.
@@ -357,9 +179,16 @@ impl TargetState {
         ensures err { OnErr result (self.new ≡ self.old) }
     {
         let seen = Seen::of(alloc, &self.resource, outcome)?;
-        let (tree, tracker) = self.later_tree(alloc, moment, &seen)?;
-        self.follow(tracker, false, seen, moment);
-        Ok(tree)
+        match self.later_tree(alloc, moment, &seen) {
+            Ok((tree, tracker)) => {
+                self.follow(tracker, seen, moment);
+                Ok(tree)
+            }
+            Err(fault) => {
+                drop(seen);
+                Err(fault)
+            }
+        }
     }
 
     /// Takes the next event, and gives its tree (OTLP 1.x, `ExportMetricsServiceRequest`). The moment of
@@ -437,6 +266,16 @@ impl TargetState {
         }
     }
 
+    /// The rows behind all scrapes since the attributes last changed, in the order of keys.
+    fn told_rows(&self, alloc: Global) -> Result<List<Kept>, Memory>
+        ensures { IfOk result (HasRows self.now) }
+    {
+        let tracker = self.told_tracker(alloc)?;
+        let rows = tracker.kept(alloc);
+        drop(tracker);
+        rows
+    }
+
     /// All that later events depend on, as a checkpoint keeps it: the moment of the last event in nanoseconds since the
     /// Unix epoch, what the pages say of the target as a resource, a row for each series that can still come back, in
     /// the order of keys, and the series of the last page. [`from_parts`](TargetState::from_parts) goes on from them.
@@ -456,8 +295,7 @@ impl TargetState {
     pub fn parts(&self, alloc: Global) -> Result<Parts, Memory>
         ensures { IfOk result (HasParts self.now) }
     {
-        let tracker = self.told_tracker(alloc)?;
-        let rows = tracker.kept(alloc)?;
+        let rows = self.told_rows(alloc)?;
         let marks = self.marks_held(alloc)?;
         let resource = self.resource.copy()?;
         Ok(Parts {

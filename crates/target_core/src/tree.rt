@@ -1,26 +1,22 @@
 //! The request tree of one event.
-ghost use Rattle.std.specs.Prelude.{◌≡◌, ◌++◌, ◌∷◌, [], Option, false, map, All, IfOk, OnOk};
-ghost use Rattle.std.specs.List.{AllByRecursion, flat_map};
+ghost use Rattle.std.specs.Prelude.{◌≡◌, ◌++◌, ◌∷◌, [], Option, None, map, IfOk, OnOk};
 ghost use Rattle.page_model.specs.declared.page.Reading.{Reading as AnyReading};
-ghost use Rattle.page_model.specs.declared.page.Family.{Family as AnyFamily};
-ghost use Rattle.page_model.specs.Presence.{all_readings};
+ghost use Rattle.page_model.specs.Presence.{all_readings, empty_page};
 ghost use Rattle.start_times.specs.declared.row.Placed.{Placed as AnyPlaced};
-ghost use Rattle.target_core.specs.Points.{MayAllBeScoped};
-ghost use Rattle.target_core.specs.Scopes.{bridge_scope, target_scope};
-ghost use Rattle.target_core.specs.ScopeParts.{HasOwnPlaces, scope_of_part};
+ghost use Rattle.family_metrics.specs.Scopes.{target_scope};
+ghost use Rattle.scope_metrics.specs.PageScopes as by_scope;
 ghost use Rattle.target_core.specs.Trees as trees;
 
-use crate::families::event_metrics;
-use crate::markers::Marker;
 use crate::resource::resource;
-use crate::scope_parts::{ScopePart, ScopeParts};
-use crate::scopes::all_name_none;
 use bridge_ports::Target;
+use family_metrics::Marker;
 use label_sets::{LabelSet, List, Memory, Text};
 use otlp_tree::{Metric, NumberPoint, Request, ResourceMetrics, ScopeMetrics, Shape};
 use page_model::Page;
+use scope_metrics::{push_scope, series_scopes};
 use start_times::Placed;
 use std::alloc::Global;
+use target_pages::Seen;
 
 /// A gauge with one point and no labels.
 #[tactic(auto, unfolding(crate::specs::Trees::target_gauge))]
@@ -76,110 +72,6 @@ fn target_metrics(alloc: Global, moment: u64, up: u64, samples: u64) -> Result<V
     Ok(metrics)
 }
 
-/// Puts a scope behind the others, unless it has no metric.
-fn push_scope(
-    scopes: &mut Vec<ScopeMetrics>,
-    name: Text,
-    version: Text,
-    metrics: Vec<Metric>,
-) -> Result<(), Memory>
-    ensures { OnOk result (scopes.new.items ≡ scopes.old.items ++ trees.scope_with (record { name = name; version = version }) metrics.items) }
-{
-    if metrics.is_empty() {
-        return Ok(());
-    }
-    let metrics = List::from_vec(metrics)?;
-    scopes.push(ScopeMetrics {
-        name,
-        version,
-        metrics,
-    })?;
-    Ok(())
-}
-
-/// The bridge's own scope with what a page and markers give that name no scope, unless it has no metric.
-fn bridge_scope_alone(
-    alloc: Global,
-    page: &Page,
-    places: &[Option<Placed>],
-    markers: Vec<Marker>,
-) -> Result<Vec<ScopeMetrics>, Memory>
-    requires scope { All (λ (f : AnyFamily). MayAllBeScoped false f.readings) page.now.families }
-    ensures { (place : AnyReading → Option AnyPlaced) → places.now ≡ map place (all_readings page.now)
-        → IfOk result (λ scopes. scopes.items ≡ trees.scope_with bridge_scope (trees.event_metrics place markers.items page.now)) }
-{
-    let families = page.families().as_slice();
-    let metrics = event_metrics(alloc, false, families, places, markers)?;
-    let name = Text::from_str(alloc, "bridge")?;
-    let mut scopes = Vec::with_capacity(alloc, 2)?;
-    push_scope(&mut scopes, name, Text::empty(), metrics)?;
-    Ok(scopes)
-}
-
-/// Puts the scope of a part behind the others, unless it has no metric.
-#[tactic(auto, unfolding(crate::specs::ScopeParts::closed_part, crate::specs::ScopeParts::scope_of_part))]
-fn push_part(alloc: Global, scopes: &mut Vec<ScopeMetrics>, part: ScopePart) -> Result<(), Memory>
-    ensures { (place : AnyReading → Option AnyPlaced) → HasOwnPlaces place part → OnOk result (scopes.new.items ≡ scopes.old.items ++ scope_of_part place part) }
-{
-    let mut part = part;
-    part.close()?;
-    let ScopePart {
-        name,
-        version,
-        families,
-        last,
-        places,
-        markers,
-    } = part;
-    drop(last);
-    let metrics = event_metrics(alloc, true, families.as_slice(), places.as_slice(), markers)?;
-    push_scope(scopes, name, version, metrics)
-}
-
-/// The scopes of parts, without those that have no metric.
-fn scopes_of_parts(alloc: Global, parts: Vec<ScopePart>) -> Result<Vec<ScopeMetrics>, Memory>
-    ensures { (place : AnyReading → Option AnyPlaced) → AllByRecursion (HasOwnPlaces place) parts.items
-        → IfOk result (λ scopes. scopes.items ≡ flat_map (scope_of_part place) parts.items) }
-{
-    let mut scopes = Vec::with_capacity(alloc, parts.len())?;
-    for part in parts {
-        push_part(alloc, &mut scopes, part)?;
-    }
-    Ok(scopes)
-}
-
-/// The scopes of what a page and markers give, each with its own series.
-fn parted_scopes(
-    alloc: Global,
-    page: &Page,
-    places: &[Option<Placed>],
-    markers: Vec<Marker>,
-) -> Result<Vec<ScopeMetrics>, Memory>
-    ensures { (place : AnyReading → Option AnyPlaced) → places.now ≡ map place (all_readings page.now)
-        → IfOk result (λ scopes. scopes.items ≡ trees.series_scopes place markers.items page.now) }
-{
-    let families = page.families().as_slice();
-    let parts = ScopeParts::of(alloc, families, places, markers)?;
-    scopes_of_parts(alloc, parts.into_parts())
-}
-
-/// The scopes of what a page and markers give. Where all series are of the bridge's own, no reading is copied.
-fn series_scopes(
-    alloc: Global,
-    page: &Page,
-    places: &[Option<Placed>],
-    markers: Vec<Marker>,
-) -> Result<Vec<ScopeMetrics>, Memory>
-    ensures { (place : AnyReading → Option AnyPlaced) → places.now ≡ map place (all_readings page.now)
-        → IfOk result (λ scopes. scopes.items ≡ trees.series_scopes place markers.items page.now) }
-{
-    if all_name_none(page.families().as_slice(), markers.as_slice()) {
-        bridge_scope_alone(alloc, page, places, markers)
-    } else {
-        parted_scopes(alloc, page, places, markers)
-    }
-}
-
 /// Puts the scope of what an event says of its scrape behind the others.
 fn push_target(
     alloc: Global,
@@ -188,15 +80,33 @@ fn push_target(
     up: u64,
     samples: u64,
 ) -> Result<(), Memory>
-    ensures { OnOk result (scopes.new.items ≡ scopes.old.items ++ trees.scope_with target_scope (trees.target_metrics moment up samples)) }
+    ensures { OnOk result (scopes.new.items ≡ scopes.old.items ++ by_scope.scope_with target_scope (trees.target_metrics moment up samples)) }
 {
     let metrics = target_metrics(alloc, moment, up, samples)?;
     let name = Text::from_str(alloc, "bridge.target")?;
     push_scope(scopes, name, Text::empty(), metrics)
 }
 
+/// The part of series that are gone, under attributes of their target.
+fn marked_part(
+    alloc: Global,
+    target: &Target,
+    attributes: &LabelSet,
+    markers: Vec<Marker>,
+) -> Result<ResourceMetrics, Memory>
+    ensures { IfOk result (λ part. part ≡ record {
+      resource = trees.resource_of target.now attributes.now;
+      scopes = by_scope.series_scopes (λ r. None) markers.items empty_page;
+    }) }
+{
+    let scopes = series_scopes(alloc, &[], &[], markers)?;
+    let scopes = List::from_vec(scopes)?;
+    let resource = resource(alloc, target, attributes)?;
+    Ok(ResourceMetrics { resource, scopes })
+}
+
 /// The part of the series that went with the attributes that a target had before, which is left out where none did.
-pub(crate) fn gone_part(
+fn gone_part(
     alloc: Global,
     target: &Target,
     attributes: &LabelSet,
@@ -204,14 +114,12 @@ pub(crate) fn gone_part(
 ) -> Result<Vec<ResourceMetrics>, Memory>
     ensures { IfOk result (λ parts. parts.items ≡ trees.gone_part target.now attributes.now markers.items) }
 {
-    let mut parts = Vec::new(alloc);
     if markers.is_empty() {
-        return Ok(parts);
+        drop(markers);
+        return Ok(Vec::new(alloc));
     }
-    let resource = List::from_vec(resource(alloc, target, attributes)?)?;
-    let scopes = series_scopes(alloc, &Page::empty(alloc), &[], markers)?;
-    let scopes = List::from_vec(scopes)?;
-    parts.push(ResourceMetrics { resource, scopes })?;
+    let mut parts = Vec::with_capacity(alloc, 1)?;
+    parts.push(marked_part(alloc, target, attributes, markers)?)?;
     Ok(parts)
 }
 
@@ -229,11 +137,12 @@ fn own_part(
     ensures { (place : AnyReading → Option AnyPlaced) → places.now ≡ map place (all_readings page.now)
         → IfOk result (λ part. part ≡ record {
           resource = trees.resource_of target.now attributes.now;
-          scopes = trees.series_scopes place markers.items page.now ++ trees.scope_with target_scope (trees.target_metrics moment up page.now.samples);
+          scopes = by_scope.series_scopes place markers.items page.now ++ by_scope.scope_with target_scope (trees.target_metrics moment up page.now.samples);
         }) }
 {
-    let resource = List::from_vec(resource(alloc, target, attributes)?)?;
-    let mut scopes = series_scopes(alloc, page, places, markers)?;
+    let resource = resource(alloc, target, attributes)?;
+    let families = page.families().as_slice();
+    let mut scopes = series_scopes(alloc, families, places, markers)?;
     push_target(alloc, &mut scopes, moment, up, u64::from(page.samples()))?;
     let scopes = List::from_vec(scopes)?;
     Ok(ResourceMetrics { resource, scopes })
@@ -244,7 +153,7 @@ fn own_part(
 /// page order, and the markers of the series that are gone; behind it stand the further parts. The names, labels and
 /// HELP texts of the page are shared with it. Want of memory is the only error.
 #[tactic(auto, unfolding(crate::specs::Trees::request_of))]
-pub(crate) fn request(
+fn request(
     alloc: Global,
     target: &Target,
     attributes: &LabelSet,
@@ -263,4 +172,55 @@ pub(crate) fn request(
     parts.insert(0, own)?;
     let parts = List::from_vec(parts)?;
     Ok(Request { parts })
+}
+
+/// The tree of an event under these attributes, without further parts.
+pub(crate) fn request_alone(
+    alloc: Global,
+    target: &Target,
+    attributes: &LabelSet,
+    moment: u64,
+    seen: &Seen,
+    places: &[Option<Placed>],
+    markers: Vec<Marker>,
+) -> Result<Request, Memory>
+    ensures { (place : AnyReading → Option AnyPlaced) → places.now ≡ map place (all_readings seen.now.series)
+        → IfOk result (λ request. request ≡ trees.request_of target.now attributes.now place markers.items moment seen.now.up seen.now.series []) }
+{
+    let further = Vec::new(alloc);
+    let (up, series) = (seen.up, &seen.series);
+    request(
+        alloc, target, attributes, moment, up, series, places, markers, further,
+    )
+}
+
+/// The tree of an event that changes the attributes of its target: no series of its page has a past, and behind it stands
+/// the part of the series that are gone under the attributes before.
+pub(crate) fn request_anew(
+    alloc: Global,
+    target: &Target,
+    before: &LabelSet,
+    moment: u64,
+    seen: &Seen,
+    places: &[Option<Placed>],
+    gone: Vec<Marker>,
+) -> Result<Request, Memory>
+    ensures { (place : AnyReading → Option AnyPlaced) → places.now ≡ map place (all_readings seen.now.series)
+        → IfOk result (λ request. request ≡ trees.request_of target.now seen.now.resource place [] moment seen.now.up seen.now.series
+        (trees.gone_part target.now before.now gone.items)) }
+{
+    let further = gone_part(alloc, target, before, gone)?;
+    let unmarked = Vec::new(alloc);
+    let (up, series) = (seen.up, &seen.series);
+    request(
+        alloc,
+        target,
+        &seen.resource,
+        moment,
+        up,
+        series,
+        places,
+        unmarked,
+        further,
+    )
 }

@@ -6,7 +6,7 @@ use Rattle.label_sets.specs.declared.kind.Kind.TheVariants.{Counter, Gauge, Hist
 use Rattle.page_model.specs.declared.page.Reading.{Reading}
 use Rattle.page_model.specs.declared.page.Family.{Family}
 use Rattle.page_model.specs.declared.event.Shown.{Shown}
-use Rattle.target_core.specs.Thinned.{bare_of_exemplars, bare_family, without_exemplars}
+use Rattle.target_pages.specs.Thinned.{bare_of_exemplars, bare_family, without_exemplars}
 use Rattle.federation_page.specs.Candidates.{is_left_out, stays, federated_kind, federated_name, federated_reading, renamed_family, candidate_of, candidates_of}
 use Rattle.federation_page.specs.Gathering.{federated_page}
 use Rattle.federation_page.specs.Laws.{with_filled_page}

@@ -3,7 +3,8 @@
 use Rattle.std.specs.Prelude.{◌≡◌, ℕ, ◌≤◌, List, [], ◌∷◌, ◌++◌, map, Some, None}
 use Rattle.std.specs.List.{slice_get}
 use Rattle.page_model.specs.declared.event.Shown.{Shown}
-use Rattle.target_core.specs.Events.{shown_page, latest_shown}
+use Rattle.target_pages.specs.Thinned.{shown_page}
+use Rattle.target_core.specs.Events.{latest_shown}
 use Rattle.federation_page.specs.Gathering.{federated_page}
 use Rattle.series_table.specs.Talking.{Talking, Followed}
 use Rattle.target_table.specs.Runs.{Run}

@@ -1,5 +1,5 @@
 use Rattle.std.proofs.Common.{List, [], ◌∷◌, ◌++◌, ap, ◌∙◌}
-use Rattle.target_core.specs.declared.markers.Marker.{Marker}
+use Rattle.family_metrics.specs.declared.markers.Marker.{Marker}
 use Rattle.target_core.proofs.Stepping.{markers_more}
 use Rattle.target_core.proofs.gone.markers_of.Goals as goal
 

@@ -1,5 +1,5 @@
 use Rattle.target_core.proofs.Checkpointed.{taken_up}
 use Rattle.target_core.proofs.state.TargetState.from_parts.Goals as goal
 
-pub returns-clause-state : goal.returns-clause-state
-returns-clause-state c = taken_up c.args.target c.args.keep c.args.parts c.honor.result c.in_ok-tracker.tracker c.none.result c.honor.ensures c.in_ok-tracker.ensures c.none.ensures
+pub returns-in-Ok-clause-state : goal.returns-in-Ok-clause-state
+returns-in-Ok-clause-state c = taken_up c.args.target c.args.keep c.args.parts c.honor.result c.in-Ok.tracker c.none.result c.honor.ensures c.in-Ok.ensures c.none.ensures

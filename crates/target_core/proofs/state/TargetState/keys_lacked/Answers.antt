@@ -2,7 +2,7 @@ use Rattle.std.proofs.Common.{sym, ap, ◌∙◌}
 use Rattle.std.specs.Option.{option_copied}
 use Rattle.staleness.specs.Vanished.{page_or_empty}
 use Rattle.target_core.specs.States.{Following}
-use Rattle.target_core.specs.Stretches.{without_info}
+use Rattle.target_pages.specs.Stretches.{without_info}
 use Rattle.target_core.proofs.Stepping.{lacked_of_page}
 use Rattle.target_core.proofs.state.TargetState.keys_lacked.Goals as goal
 

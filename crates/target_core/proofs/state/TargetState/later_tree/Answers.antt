@@ -8,13 +8,13 @@ use Rattle.target_core.specs.Stepping.{ReadsWithin, ReadsAnew, next_state}
 use Rattle.target_core.proofs.Stepping.{within_steps, anew_steps}
 use Rattle.target_core.proofs.state.TargetState.later_tree.Goals as goal
 
-pub returns-then-same_labels : goal.returns-then-same_labels
-returns-then-same_labels c = λ e outcome is sees.
+pub returns-then-leaves : goal.returns-then-leaves
+returns-then-leaves c = λ e outcome is sees.
     let s = c.args.self.now in
     let seen = c.args.seen.now in
     let moment = c.args.moment in
     let k = c.in_ok-tracker.tracker in
-    let same = sym (c.same_labels.ensures ∙ ap (λ (x : Following). label_sets_eq x.resource seen.resource) c.self.view_is) ∙ c.if-same_labels.true in
+    let same = sym (c.leaves.ensures ∙ ap (λ (x : Following). label_sets_eq x.resource seen.resource) c.self.view_is) ∙ c.if-leaves.true in
     IfOk-weaker c.tree_within.result (λ (r : Request × Tracked). ReadsWithin s k moment seen.up seen.series r.0 r.1) (λ (r : Request × Tracked). Steps s e r.0 (next_state s seen.resource r.1 false seen.last moment))
     (λ r reads. within_steps s e outcome moment seen.up seen.resource seen.series seen.last k r.1 r.0 is sees c.in_ok-tracker.ensures same reads) c.tree_within.ensures
 
@@ -24,6 +24,6 @@ returns c = λ e outcome is sees.
     let seen = c.args.seen.now in
     let moment = c.args.moment in
     let k = c.in_ok-tracker.tracker in
-    let other = sym (c.same_labels.ensures ∙ ap (λ (x : Following). label_sets_eq x.resource seen.resource) c.self.view_is) ∙ c.if-same_labels.false in
+    let other = sym (c.leaves.ensures ∙ ap (λ (x : Following). label_sets_eq x.resource seen.resource) c.self.view_is) ∙ c.if-leaves.false in
     IfOk-weaker c.tree_anew.result (λ (r : Request × Tracked). ReadsAnew s k.rows moment seen.up seen.resource seen.series r.0 r.1) (λ (r : Request × Tracked). Steps s e r.0 (next_state s seen.resource r.1 false seen.last moment))
     (λ r reads. anew_steps s e outcome moment seen.up seen.resource seen.series seen.last k r.1 r.0 is sees c.in_ok-tracker.ensures other reads) c.tree_anew.ensures

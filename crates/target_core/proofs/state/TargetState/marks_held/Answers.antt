@@ -1,6 +1,6 @@
 use Rattle.std.proofs.Common.{sym, ap, ◌∙◌}
 use Rattle.target_core.specs.States.{Following}
-use Rattle.target_core.specs.Stretches.{without_info}
+use Rattle.target_pages.specs.Stretches.{without_info}
 use Rattle.target_core.proofs.Stepping.{held_by_page}
 use Rattle.target_core.proofs.state.TargetState.marks_held.Goals as goal
 

@@ -5,7 +5,7 @@ use Rattle.start_times.specs.Advancing.{Advances}
 use Rattle.page_model.specs.declared.page.Page.{Page}
 use Rattle.target_core.specs.States.{Following}
 use Rattle.target_core.specs.Stepping.{IsToldBehind}
-use Rattle.target_core.specs.Stretches.{without_info}
+use Rattle.target_pages.specs.Stretches.{without_info}
 use Rattle.target_core.proofs.Stepping.{told_none, told_late}
 use Rattle.target_core.proofs.state.TargetState.told_tracker.Goals as goal
 

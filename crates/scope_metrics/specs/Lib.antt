@@ -1,0 +1,3 @@
+pub mod PageScopes
+pub mod ScopeParts
+pub mod Laws

@@ -1,8 +1,0 @@
-use Rattle.std.proofs.Common.{◌≡◌, not, filter, take}
-use Rattle.label_sets.specs.declared.label.Label.{Label}
-use Rattle.target_core.specs.Shots.{is_id}
-use Rattle.target_core.proofs.shots.labels_left.Given as goal
-
--- those of the labels passed that are no ids
-abbrev pub invariant-loop-label : goal.invariant-loop-label
-invariant-loop-label l = l.left.items ≡ filter (λ (x : Label). not (is_id x)) (take l.label-index l.labels)

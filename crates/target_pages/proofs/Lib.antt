@@ -1,0 +1,4 @@
+mod Infos
+mod BarePages
+mod SeriesPages
+pub mod Laws

@@ -1,0 +1,4 @@
+pub mod Thinned
+pub mod Stretches
+pub mod SeriesPages
+pub mod Outcomes
