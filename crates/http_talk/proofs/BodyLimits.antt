@@ -1,5 +1,5 @@
 -- The body that is known of a reply has no more bytes than it may have.
-use Rattle.std.proofs.Common.{◌≡◌, ℕ, ◌+◌, ◌-◌, ◌*◌, ◌≤◌, Bool, true, false, List, [], ◌∷◌, length, take, Option, Some, None, refl, sym, subst, arith}
+use Rattle.std.proofs.Common.{◌≡◌, ℕ, ◌+◌, ◌-◌, ◌*◌, ◌≤◌, Bool, true, false, List, [], ◌∷◌, length, take, Option, Some, None, refl, sym, subst, ap, arith}
 use Rattle.std.specs.Prelude.{◌||◌, nat_lt, nat_le, if◌then◌else◌, ⊤}
 use Rattle.std.proofs.lemmas.Bool.{ltb-false}
 use Rattle.std.proofs.lemmas.List.{length-take}
@@ -13,6 +13,10 @@ use Rattle.http_talk.specs.declared.chunk_place.ChunkPlace.TheVariants as places
 use Rattle.http_talk.specs.Heads.{HeadRead, unfinished, missing, found, head_cause, format_of, framing_of, Framing, in_chunks, to_the_end, of_length, is_long}
 use Rattle.http_talk.specs.Chunks.{Chunks, with_bytes, with_byte, no_chunks, place_after, held_after, is_body_end, is_wrong, is_too_much, is_certain}
 use Rattle.http_talk.specs.Replies.{Judged, waits, goes_on, decided, refused, whole, judged, head_judged, body_judged, or_waits, chunks_verdict, IsJudged}
+use Rattle.http_talk.specs.declared.part.Part.{Part}
+use Rattle.http_talk.specs.declared.part.Part.TheVariants as parts
+use Rattle.http_talk.specs.ReplyReading.{HasKept, kept_by}
+use Rattle.http_talk.specs.Streams.{Streaming, Flows, HasGiven, told_at}
 use Rattle.http_talk.proofs.Short.{not_long}
 
 -- a body that is known has at most so many bytes
@@ -89,3 +93,17 @@ short_read most (found h rest) = short_behind most h rest (head_cause most h) (f
 
 pub body_is_short : (most : ℕ) (got : List ℕ) (known : Judged) → IsJudged most got known → IsShortBody most known
 body_is_short most got known x = subst (IsShortBody most) (sym x.known_is) (short_read most x.head)
+
+given_short : (part : Part) (most : ℕ) (fed : List ℕ) (format : Format) (kept given : List ℕ) (got : ℕ) → HasKept part most fed format (kept_by part kept given) got → HasGiven most fed (told_at part format) given → length given ≤ most
+given_short parts.Head most fed format kept given got k g = omega (arith, ap (length {A = ℕ}) g.0)
+given_short (parts.Sized n) most fed format kept given got k g =
+    let fits : is_long most (of_length n) ≡ false = subst (λ f. is_long most f ≡ false) k.0.framing_is (not_long most k.0.head k.0.taken) in
+    omega (arith, k.2, ltb-false most n fits)
+given_short parts.Open most fed format kept given got k g = k.2
+given_short (parts.Chunked place) most fed format kept given got k g =
+    open_held most (is_body_end place) (nat_lt most (length given)) (nat_lt (8 * most + 65536) got) (is_wrong place) given refl k.2
+given_short parts.Whole most fed format kept given got k g = body_is_short most fed (decided (whole format given)) k
+
+-- what a stream gave of a body has at most so many bytes
+pub flows_short : (fed given : List ℕ) (s : Streaming) → Flows fed given s → length given ≤ s.most
+flows_short fed given s f = given_short s.part s.most fed s.format s.kept given s.got f.stands.keeps f.gave

@@ -7,4 +7,6 @@ pub use Rattle.http_talk.proofs.WholeTalks.{whole_talk_outcome}
 pub use Rattle.http_talk.proofs.WholeReply.{whole_reply}
 pub use Rattle.http_talk.proofs.HeadTrees.{is_field, all_fields, is_head, by_head, by_more, by_limit, by_first, field, feed_field, ok_head, bare_head, shows_head, shows_more}
 pub use Rattle.http_talk.proofs.ReplySteps.{nothing_fed, nothing_shown}
-pub use Rattle.http_talk.proofs.BodyLimits.{IsShortBody, body_is_short}
+pub use Rattle.http_talk.proofs.BodyLimits.{IsShortBody, body_is_short, flows_short}
+pub use Rattle.http_talk.proofs.ReplySteps.{refusal_stays}
+pub use Rattle.http_talk.proofs.Gathering.{whole_on}

@@ -23,18 +23,33 @@ use Rattle.http_talk.specs.declared.fault.ReplyFault.TheVariants as faults
 use Rattle.http_talk.specs.declared.seen.HeadSeen.TheVariants as seen
 use Rattle.http_talk.specs.Heads.{Shows, HeadRead, unfinished, missing, found, HeadIs, head_cause, format_of, framing_of, Framing, in_chunks, to_the_end, of_length}
 use Rattle.http_talk.specs.Chunks.{Chunks, no_chunks, with_bytes, is_certain, is_body_end, is_too_much, is_wrong}
-use Rattle.http_talk.specs.ChunkFeeding.{part_behind, IsChunkAnswer}
+use Rattle.http_talk.specs.ChunkFeeding.{part_behind}
 use Rattle.http_talk.specs.HeadFacts.{IsHeadFault, IsStart, first_part, IsFirstPart}
 use Rattle.http_talk.specs.HeadFeeding.{IsHeadAt, IsBadHead}
 use Rattle.http_talk.specs.Replies.{waits, goes_on, decided, refused, whole, judged, body_judged, or_waits, chunks_verdict, IsJudged, Verdict, HasVerdict}
-use Rattle.http_talk.specs.ReplyReading.{Reader, HasBody, HasKept, Stands, IsSoundPart, IsRefusal, FeedAnswer, TakesBytes, BeginsBody}
+use Rattle.http_talk.specs.ReplyReading.{Reader, HasBody, HasKept, Stands, IsRefusal, FeedAnswer}
+use Rattle.http_talk.specs.Streams.{IsSoundPart}
 use Rattle.http_talk.proofs.HeadFronts.{kept_front}
 use Rattle.http_talk.proofs.GoesOn.{head_goes_on, verdict_stays, with_bytes-append}
 use Rattle.http_talk.proofs.HeadTrees.{under_way}
 use Rattle.http_talk.proofs.Once.{take_past}
 
-abbrev reader : ℕ → Part → Format → List ℕ → ℕ → Option ReplyFault → Reader
+abbrev pub reader : ℕ → Part → Format → List ℕ → ℕ → Option ReplyFault → Reader
 reader most part format kept got stopped = record { most = most; part = part; format = format; kept = kept; got = got; stopped = stopped }
+
+-- bytes were taken
+pub record TakesBytes (old new : Reader) (piece : List ℕ) (result : Result Progress ReplyFault) : Type 0 where
+  pub same : new.most ≡ old.most
+  pub working : new.stopped ≡ old.stopped
+  pub answer : (fed : List ℕ) → Stands fed old → FeedAnswer (fed ++ piece) new result
+
+-- what is certain of a body in chunks
+abbrev pub ChunksAnswer : ℕ → Chunks → Result Progress ReplyFault → Type 0
+ChunksAnswer most c (Ok progresses.Whole) = c.place ≡ places.Whole
+ChunksAnswer most c (Ok progresses.More) = is_certain most c ≡ false
+ChunksAnswer most c (Err faults.TooLong) = (is_body_end c.place ≡ false) × (is_too_much most c ≡ true)
+ChunksAnswer most c (Err faults.Chunk) = (is_body_end c.place ≡ false) × (is_too_much most c ≡ false) × (is_wrong c.place ≡ true)
+ChunksAnswer most c (Err fault) = ⊥
 
 -- ---- what is known behind a head that is taken
 
@@ -61,20 +76,6 @@ stands_whole : (most : ℕ) (fed kept : List ℕ) (format : Format) (got : ℕ) 
     → FeedAnswer fed (reader most parts.Whole format kept got stopped) (Ok progresses.Whole)
 stands_whole most fed kept format got stopped working v =
     record { stands = record { working = working; keeps = v }; known = decided (whole format kept); judged_so = v; progress_is = refl }
-
-pub whole_takes : (r : Reader) (piece : List ℕ) → r.part ≡ parts.Whole → TakesBytes r r piece (Ok progresses.Whole)
-whole_takes r piece is = record {
-  same = refl;
-  working = refl;
-  answer = λ fed s.
-      let v = verdict_stays r.most fed piece (whole r.format r.kept) (subst (λ p. HasKept p r.most fed r.format r.kept r.got) is s.keeps) in
-      record {
-        stands = record { working = s.working; keeps = subst (λ p. HasKept p r.most (fed ++ piece) r.format r.kept r.got) (sym is) v };
-        known = decided (whole r.format r.kept);
-        judged_so = v;
-        progress_is = refl;
-      };
-}
 
 -- ---- a body of a length
 
@@ -179,7 +180,7 @@ module _ (most : ℕ) (place : ChunkPlace) (format : Format) (kept : List ℕ) (
       subst (λ d. IsJudged most (fed ++ piece) (or_waits (chunks_verdict most format d))) (joined fed k) (body_known most (fed ++ piece) format in_chunks b)
 
 pub chunks_take : (result : Result Progress ReplyFault) (most : ℕ) (place : ChunkPlace) (part after : Part) (format : Format) (kept : List ℕ) (got : ℕ) (stopped : Option ReplyFault) (piece : List ℕ) (c : Chunks)
-    → part ≡ parts.Chunked place → c ≡ with_bytes most (record { place = place; held = kept; got = got }) piece → IsChunkAnswer most c result → after ≡ part_behind c.place
+    → part ≡ parts.Chunked place → c ≡ with_bytes most (record { place = place; held = kept; got = got }) piece → ChunksAnswer most c result → after ≡ part_behind c.place
     → TakesBytes (reader most part format kept got stopped) (reader most after format c.held c.got stopped) piece result
 unfolding chunks_verdict
 chunks_take (Ok progresses.Whole) most place part after format kept got stopped piece c at is answer behind = record {
@@ -223,14 +224,6 @@ chunks_take (Err faults.Chunk) most place part after format kept got stopped pie
       (causes.Chunk, refl, subst (IsJudged most (fed ++ piece)) sure (chunks_known most place format kept got piece c is fed k));
 }
 chunks_take (Err fault) most place part after format kept got stopped piece c at is answer behind = absurd answer
-
-pub chunks_taken : (result : Result Progress ReplyFault) (most : ℕ) (place : ChunkPlace) (part after : Part) (format : Format) (kept held : List ℕ) (got count : ℕ) (stopped : Option ReplyFault) (piece : List ℕ) (c : Chunks)
-    → part ≡ parts.Chunked place → c ≡ with_bytes most (record { place = place; held = kept; got = got }) piece → IsChunkAnswer most c result → after ≡ part_behind c.place → held ≡ c.held → count ≡ c.got
-    → TakesBytes (reader most part format kept got stopped) (reader most after format held count stopped) piece result
-chunks_taken result most place part after format kept held got count stopped piece c at is answer behind same_held same_count =
-    subst (λ n. TakesBytes (reader most part format kept got stopped) (reader most after format held n stopped) piece result) (sym same_count)
-    (subst (λ xs. TakesBytes (reader most part format kept got stopped) (reader most after format xs c.got stopped) piece result) (sym same_held)
-    (chunks_take result most place part after format kept got stopped piece c at is answer behind))
 
 -- ---- the first body byte
 
@@ -286,24 +279,13 @@ module _ (most : ℕ) (fed : List ℕ) (h : ResponseHead) (format : Format) (got
   pub begin_stands : (part : Part) (stopped : Option ReplyFault) → part ≡ first_part (framing_of h) → stopped ≡ None → Stands fed (reader most part format [] got stopped)
   begin_stands part stopped is working = record { working = working; keeps = subst (λ p. HasKept p most fed format [] got) (sym is) (kept_first (framing_of h) refl) }
 
--- a first part is sound, and no head
-pub first_sound : (part : Part) (most : ℕ) → IsFirstPart part → IsSoundPart part most []
+-- a first part is sound
+pub first_sound : (part : Part) (most : ℕ) → IsFirstPart part → IsSoundPart part most 0
 first_sound parts.Head most is = absurd is
 first_sound (parts.Sized n) most is = is
 first_sound parts.Open most is = omega arith
 first_sound (parts.Chunked place) most is = is
 first_sound parts.Whole most is = tt
-
-pub first_body : (part : Part) → IsFirstPart part → part ≢ parts.Head
-first_body parts.Head is = absurd is
-first_body _ is = λ same. cc same
-
-pub only_whole : (part : Part) → part ≢ parts.Head → ((n : ℕ) → part ≢ parts.Sized n) → part ≢ parts.Open → ((place : ChunkPlace) → part ≢ parts.Chunked place) → part ≡ parts.Whole
-only_whole parts.Head a b c d = absurd (a refl)
-only_whole (parts.Sized n) a b c d = absurd (b n refl)
-only_whole parts.Open a b c d = absurd (c refl)
-only_whole (parts.Chunked place) a b c d = absurd (d place refl)
-only_whole parts.Whole a b c d = refl
 
 -- ---- a head that is not there yet
 
@@ -334,7 +316,7 @@ head_bad most got (found h rest) at bad = (causes.Head, refl, record { head = fo
 
 module _ (most : ℕ) (part : Part) (format : Format) (kept piece after : List ℕ) (got count : ℕ) (stopped : Option ReplyFault)
     (is : part ≡ parts.Head) (counted : count ≡ min (16384 - length kept) (length piece)) (more : after ≡ kept ++ take count piece) where
-  fed_front : (fed : List ℕ) → Stands fed (reader most part format kept got stopped) → after ≡ take 16384 (fed ++ piece)
+  pub fed_front : (fed : List ℕ) → Stands fed (reader most part format kept got stopped) → after ≡ take 16384 (fed ++ piece)
   fed_front fed s = let k = kept_head (reader most part format kept got stopped) fed is s in head_kept fed piece kept after count k.0 k.1.0 counted more
 
   pub head_takes_more : ((g : List ℕ) → after ≡ take 16384 g → HeadIs g unfinished × (after ≡ g)) → TakesBytes (reader most part format kept got stopped) (reader most part format after got stopped) piece (Ok progresses.More)
@@ -351,55 +333,11 @@ module _ (most : ℕ) (part : Part) (format : Format) (kept piece after : List �
     answer = λ fed s. let told = says (fed ++ piece) (fed_front fed s) in head_bad most (fed ++ piece) told.0 told.1 told.2;
   }
 
-  pub head_takes_body : (spans : List HeaderSpan) (parsed : ResponseSpans) (new : Reader) (result : Result Progress ReplyFault)
-      → ((g : List ℕ) → after ≡ take 16384 g → (h : ResponseHead) × IsHeadAt after spans parsed h) → new.most ≡ most → new.stopped ≡ stopped
-      → ((h : ResponseHead) → BeginsBody (reader most part format after got stopped) spans parsed h (take (length piece - count) (drop count piece)) new result)
-      → TakesBytes (reader most part format kept got stopped) new piece result
-  head_takes_body spans parsed new result says same working begins = record {
-    same = same;
-    working = working;
-    answer = λ fed s.
-        let told = says (fed ++ piece) (fed_front fed s) in
-        let k = kept_head (reader most part format kept got stopped) fed is s in
-        let short : length after ≤ 16384 = omega (arith, ap (length {A = ℕ}) (fed_front fed s), length-take 16384 (fed ++ piece)) in
-        let rest : take (length piece - count) (drop count piece) ≡ drop count piece = take_all (length piece - count) (drop count piece) (omega (arith, length-drop count piece)) in
-        let all : after ++ take (length piece - count) (drop count piece) ≡ fed ++ piece =
-        ap (λ xs. after ++ xs) rest ∙ ap (λ xs. xs ++ drop count piece) more ∙ append_assoc kept (take count piece) (drop count piece) ∙ ap (λ xs. kept ++ xs) (take-append-drop count piece) ∙ ap (λ xs. xs ++ piece) k.0 in
-        subst (λ bs. FeedAnswer bs new result) all (begins told.0 told.1 s.working short);
-  }
-
--- ---- the body behind the head
-
-pub began : (fed1 rest kept piece : List ℕ) (r1 r2 r3 : Reader) (p : Progress) (result : Result Progress ReplyFault) → Stands fed1 r1 → TakesBytes r1 r2 rest (Ok p) → TakesBytes r2 r3 piece result → fed1 ++ rest ≡ kept
-    → FeedAnswer (kept ++ piece) r3 result
-began fed1 rest kept piece r1 r2 r3 p result s first second all =
-    subst (λ bs. FeedAnswer (bs ++ piece) r3 result) all (second.answer (fed1 ++ rest) (first.answer fed1 s).stands)
-
-pub began_badly : (fault : ReplyFault) (most : ℕ) (fed piece : List ℕ) → IsRefusal most fed fault → IsRefusal most (fed ++ piece) fault
-began_badly faults.Truncated most fed piece x = absurd x
-began_badly faults.Memory most fed piece x = tt
-began_badly _ most fed piece x = (x.0, x.1, verdict_stays most fed piece (refused x.0) x.2)
-
-module _ (most : ℕ) (kept rest first : List ℕ) (spans : List HeaderSpan) (parsed : ResponseSpans) (h : ResponseHead) (at : IsHeadAt kept spans parsed h) (short : length kept ≤ 16384)
-    (start : Start) (starts : IsStart most h (Ok start)) (stopped : Option ReplyFault) (working : stopped ≡ None) (none : first ≡ []) (bytes : rest ≡ take (length kept - parsed.len) (drop parsed.len kept)) where
-  all_kept : take parsed.len kept ++ rest ≡ kept
-  all_kept = ap (λ xs. take parsed.len kept ++ xs) (bytes ∙ take_all (length kept - parsed.len) (drop parsed.len kept) (omega (arith, length-drop parsed.len kept))) ∙ take-append-drop parsed.len kept
-
-  begun : Stands (take parsed.len kept) (reader most start.part start.format first parsed.len stopped)
-  begun = subst (λ xs. Stands (take parsed.len kept) (reader most start.part start.format xs parsed.len stopped)) (sym none)
-      (begin_stands most (take parsed.len kept) h start.format parsed.len (head_alone kept spans parsed h at short) starts.0 starts.1 at.at.len (omega (arith, at.at.len, head_short kept spans parsed h at short)) start.part stopped starts.2 working)
-
-  pub body_begins : (piece : List ℕ) (r2 r3 : Reader) (p : Progress) (result : Result Progress ReplyFault) → TakesBytes (reader most start.part start.format first parsed.len stopped) r2 rest (Ok p) → TakesBytes r2 r3 piece result
-      → FeedAnswer (kept ++ piece) r3 result
-  body_begins piece r2 r3 p result front more = began (take parsed.len kept) rest kept piece (reader most start.part start.format first parsed.len stopped) r2 r3 p result begun front more all_kept
-
-  pub body_begins_badly : (piece : List ℕ) (r2 : Reader) (fault : ReplyFault) → TakesBytes (reader most start.part start.format first parsed.len stopped) r2 rest (Err fault) → IsRefusal r2.most (kept ++ piece) fault
-  body_begins_badly piece r2 fault front =
-      began_badly fault r2.most kept piece (subst (λ bs. IsRefusal r2.most bs fault) all_kept (front.answer (take parsed.len kept) begun))
-
--- a reader that is given by its value
-pub takes_from : (r s new : Reader) (piece : List ℕ) (result : Result Progress ReplyFault) → s ≡ r → TakesBytes s new piece result → TakesBytes r new piece result
-takes_from r s new piece result is x = subst (λ q. TakesBytes q new piece result) is x
+-- a refusal stands, however the reply goes on
+pub refusal_stays : (fault : ReplyFault) (most : ℕ) (fed piece : List ℕ) → IsRefusal most fed fault → IsRefusal most (fed ++ piece) fault
+refusal_stays faults.Truncated most fed piece x = absurd x
+refusal_stays faults.Memory most fed piece x = tt
+refusal_stays _ most fed piece x = (x.0, x.1, verdict_stays most fed piece (refused x.0) x.2)
 
 -- nothing came
 pub nothing_fed : HeadIs [] unfinished
@@ -414,7 +352,7 @@ new_stands most format kept got none = record { working = refl; keeps = (none, n
 
 -- ---- the end
 
-end_waits : (most : ℕ) (part : Part) (fed : List ℕ) (format : Format) (kept : List ℕ) (got : ℕ) → part ≢ parts.Open → part ≢ parts.Whole → HasKept part most fed format kept got → IsJudged most fed waits
+pub end_waits : (most : ℕ) (part : Part) (fed : List ℕ) (format : Format) (kept : List ℕ) (got : ℕ) → part ≢ parts.Open → part ≢ parts.Whole → HasKept part most fed format kept got → IsJudged most fed waits
 unfolding judged body_judged
 end_waits most parts.Head fed format kept got a b k = record { head = unfinished; head_is = k.1; known_is = refl }
 end_waits most (parts.Sized n) fed format kept got a b k =
@@ -427,13 +365,9 @@ end_waits most (parts.Chunked place) fed format kept got a b k =
     subst (IsJudged most fed) (ap (λ d. or_waits (chunks_verdict most format d)) (sym k.1) ∙ no_chunk_verdict most format c k.2) (body_known most fed format in_chunks k.0)
 end_waits most parts.Whole fed format kept got a b k = absurd (b refl)
 
-pub ends_early : (r : Reader) (fed : List ℕ) → r.part ≢ parts.Open → r.part ≢ parts.Whole → Stands fed r → IsJudged r.most fed waits
-ends_early r fed a b s = end_waits r.most r.part fed r.format r.kept r.got a b s.keeps
-
-pub ends_open : (r : Reader) (fed : List ℕ) → r.part ≡ parts.Open → Stands fed r → IsJudged r.most fed (goes_on r.format r.kept)
+pub end_open : (most : ℕ) (fed : List ℕ) (format : Format) (kept : List ℕ) (got : ℕ) → HasKept parts.Open most fed format kept got → IsJudged most fed (goes_on format kept)
 unfolding body_judged
-ends_open r fed is s =
-    let k = subst (λ p. HasKept p r.most fed r.format r.kept r.got) is s.keeps in
-    let within : length k.0.rest ≤ r.most = omega (arith, k.2, ap (length {A = ℕ}) k.1) in
-    let on : body_judged r.most (length (print_response k.0.head)) to_the_end r.format k.0.rest ≡ goes_on r.format r.kept = rw (le-ltb r.most (length k.0.rest) within) (ap (λ xs. goes_on r.format xs) (sym k.1)) in
-    subst (IsJudged r.most fed) on (body_known r.most fed r.format to_the_end k.0)
+end_open most fed format kept got k =
+    let within : length k.0.rest ≤ most = omega (arith, k.2, ap (length {A = ℕ}) k.1) in
+    let on : body_judged most (length (print_response k.0.head)) to_the_end format k.0.rest ≡ goes_on format kept = rw (le-ltb most (length k.0.rest) within) (ap (λ xs. goes_on format xs) (sym k.1)) in
+    subst (IsJudged most fed) on (body_known most fed format to_the_end k.0)

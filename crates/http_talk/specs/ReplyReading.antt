@@ -49,13 +49,10 @@ HasKept (parts.Chunked place) most fed format kept got =
     × (chunks.is_certain most (record { place = place; held = kept; got = got }) ≡ false)
 HasKept parts.Whole most fed format kept got = HasVerdict most fed (whole format kept)
 
--- the numbers of what a reader keeps are within the limits
-abbrev pub IsSoundPart : Part → ℕ → List ℕ → Type 0
-IsSoundPart parts.Head most kept = length kept ≤ head_limit
-IsSoundPart (parts.Sized n) most kept = length kept < n
-IsSoundPart parts.Open most kept = length kept ≤ most
-IsSoundPart (parts.Chunked place) most kept = IsChunkPlace place
-IsSoundPart parts.Whole most kept = ⊤
+-- a reader that keeps these bytes of a body, or of a head that is not there yet
+abbrev pub kept_by : Part → List ℕ → List ℕ → List ℕ
+kept_by parts.Head head body = head
+kept_by part head body = body
 
 -- a reader was fed these bytes and refused nothing
 pub record Stands (fed : List ℕ) (r : Reader) : Type 0 where
@@ -88,16 +85,6 @@ pub record IsPieceTaken (fed : List ℕ) (new : Reader) (progress : Progress) : 
 abbrev pub FeedAnswer : List ℕ → Reader → Result Progress ReplyFault → Type 0
 FeedAnswer fed new (Ok progress) = IsPieceTaken fed new progress
 FeedAnswer fed new (Err fault) = IsRefusal new.most fed fault
-
--- bytes were taken
-pub record TakesBytes (old new : Reader) (piece : List ℕ) (result : Result Progress ReplyFault) : Type 0 where
-  pub same : new.most ≡ old.most
-  pub working : new.stopped ≡ old.stopped
-  pub answer : (fed : List ℕ) → Stands fed old → FeedAnswer (fed ++ piece) new result
-
--- behind the head that is found in what is kept, the body was begun
-abbrev pub BeginsBody : Reader → List HeaderSpan → ResponseSpans → ResponseHead → List ℕ → Reader → Result Progress ReplyFault → Type 0
-BeginsBody old spans parsed h piece new result = IsHeadAt old.kept spans parsed h → old.stopped ≡ None → length old.kept ≤ head_limit → FeedAnswer (old.kept ++ piece) new result
 
 -- what the end gives: the body of a reply that is whole or goes to the end, or that it came too soon; want of memory is free
 abbrev pub FinishAnswer : ℕ → List ℕ → Result Body ReplyFault → Type 0

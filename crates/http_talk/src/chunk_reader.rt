@@ -1,32 +1,38 @@
 //! Bodies in chunks that are read as they come (RFC 9112, section 7.1).
-ghost use Rattle.std.specs.Prelude.{◌≡◌, ◌≢◌, ◌+◌, ◌*◌, ◌<◌, ◌≤◌, ℕ, false, List, length, take, IfOk, OnOk};
+ghost use Rattle.std.specs.Prelude.{◌≡◌, ◌+◌, ◌*◌, ◌<◌, ◌≤◌, ℕ, false, List, length, take};
 ghost use Rattle.http_talk.specs.declared.chunk_place.ChunkPlace.TheVariants.{Bytes};
-ghost use Rattle.http_talk.specs.Chunks.{total_limit, with_byte, with_bytes, is_body_end, is_wrong, is_too_much, is_certain};
+ghost use Rattle.http_talk.specs.Chunks.{total_limit, place_after, is_body_end, is_wrong};
+ghost use Rattle.http_talk.specs.ChunkFeeding.{is_in_chunk};
 
 use crate::chunk_place::ChunkPlace;
 use crate::fault::{Progress, ReplyFault};
 use crate::part::Part;
-use label_sets::Memory;
 use std::marker::Model;
 
-/// A body in chunks, of which some bytes came: where they end, what the chunks hold, and how many bytes of
-/// the reply came in all.
+/// A body in chunks, of which some bytes came: where they end, how many bytes the chunks held, and how many
+/// bytes of the reply came in all.
 #[derive(Drop)]
 pub(crate) struct ChunkReader {
     place: ChunkPlace,
-    held: Vec<u8>,
+    body: u64,
     got: u64,
 }
 
 impl Model for ChunkReader {
-    ghost use Rattle.http_talk.specs.Chunks.{Chunks};
-    ghost use Rattle.http_talk.specs.ChunkFeeding.{IsChunkPlace};
+    ghost use Rattle.http_talk.specs.ChunkFeeding.{Counted, IsChunkPlace};
 
-    ghost Value = { Chunks };
+    ghost Value = { Counted };
 
-    ghost view = { λ c. record { place = c.place; held = c.held.items; got = c.got } };
+    ghost view = { λ c. record { place = c.place; body = c.body; got = c.got } };
 
     ghost invariant = { λ c. IsChunkPlace c.place };
+}
+
+/// Where the bytes of a chunk stand in a piece.
+#[derive(Clone, Copy)]
+pub(crate) struct Run {
+    pub(crate) from: usize,
+    pub(crate) to: usize,
 }
 
 /// Whether a place is behind the last byte.
@@ -43,6 +49,13 @@ fn is_wrong(place: ChunkPlace) -> bool
     matches!(place, ChunkPlace::Wrong)
 }
 
+/// Whether a place is within a chunk.
+fn is_in_chunk(place: ChunkPlace) -> bool
+    ensures { result ≡ is_in_chunk place }
+{
+    matches!(place, ChunkPlace::Bytes { .. })
+}
+
 /// The most bytes of a reply in all, where its body may have so many.
 fn total_limit(most: u32) -> u64
     ensures { result ≡ total_limit most }
@@ -51,15 +64,15 @@ fn total_limit(most: u32) -> u64
 }
 
 impl ChunkReader {
-    ghost use Rattle.http_talk.specs.ChunkFeeding.{IsChunkPlace, IsChunkAnswer, part_behind};
-    ghost use Rattle.http_talk.specs.ReplyReading.{IsSoundPart};
+    ghost use Rattle.http_talk.specs.ChunkFeeding.{IsChunkPlace, IsChunkAnswer, SkipsTo, TakesRun, TakesFront, is_past, is_over, part_behind};
+    ghost use Rattle.http_talk.specs.Streams.{IsSoundPart};
 
-    /// A body of which these bytes are kept.
-    pub(crate) fn at(place: ChunkPlace, held: Vec<u8>, got: u64) -> ChunkReader
+    /// A body whose chunks held so many bytes.
+    pub(crate) fn at(place: ChunkPlace, body: u64, got: u64) -> ChunkReader
         requires { IsChunkPlace place }
-        ensures { result ≡ record { place = place; held = held.items; got = got } }
+        ensures { result ≡ record { place = place; body = body; got = got } }
     {
-        ChunkReader { place, held, got }
+        ChunkReader { place, body, got }
     }
 
     /// How many bytes of the reply came in all.
@@ -69,22 +82,22 @@ impl ChunkReader {
         self.got
     }
 
+    /// How many bytes the chunks held so far.
+    pub(crate) fn body(&self) -> u64
+        ensures { result ≡ self.now.body }
+    {
+        self.body
+    }
+
     /// What is read next.
     pub(crate) fn part(&self) -> Part
         ensures part { result ≡ part_behind self.now.place }
-        ensures sound { (most : ℕ) (kept : List ℕ) → IsSoundPart result most kept }
+        ensures sound { (most body : ℕ) → IsSoundPart result most body }
     {
         match self.place {
             ChunkPlace::Whole => Part::Whole,
             place => Part::Chunked { place },
         }
-    }
-
-    /// What the chunks hold so far.
-    pub(crate) fn into_held(self) -> Vec<u8>
-        ensures { result.items ≡ self.held }
-    {
-        self.held
     }
 
     /// What is certain of the body. Whole goes before too many bytes, and that before a wrong byte.
@@ -94,7 +107,7 @@ impl ChunkReader {
         if is_body_end(self.place) {
             return Ok(Progress::Whole);
         }
-        if self.is_too_much(most) {
+        if self.is_past(most) {
             return Err(ReplyFault::TooLong);
         }
         if is_wrong(self.place) {
@@ -104,70 +117,83 @@ impl ChunkReader {
     }
 
     /// Whether too many bytes came.
-    fn is_too_much(&self, most: u32) -> bool
-        ensures { result ≡ is_too_much most self.now }
+    fn is_past(&self, most: u32) -> bool
+        ensures { result ≡ is_past most self.now }
     {
-        self.held.len() > most as usize || self.got > total_limit(most)
+        self.body > u64::from(most) || self.got > total_limit(most)
     }
 
     /// Whether something is certain.
-    fn is_certain(&self, most: u32) -> bool
-        ensures { result ≡ is_certain most self.now }
+    fn is_over(&self, most: u32) -> bool
+        ensures { result ≡ is_over most self.now }
     {
-        is_body_end(self.place) || self.is_too_much(most) || is_wrong(self.place)
+        is_body_end(self.place) || self.is_past(most) || is_wrong(self.place)
     }
 
     /// Takes a byte that is none of a chunk's.
     fn take_byte(&mut self, most: u32, byte: u8)
-        requires going { is_certain most self.old ≡ false }
-        requires other { (left : ℕ) → self.old.place ≢ Bytes left }
-        ensures { self.new ≡ with_byte self.old byte }
+        requires { is_over most self.old ≡ false }
+        ensures { self.new ≡ record {
+          place = place_after self.old.place byte;
+          body = self.old.body;
+          got = self.old.got + 1;
+        } }
     {
         self.place = self.place.after(byte);
         self.got += 1;
     }
 
-    /// Takes bytes of a chunk, as many as there are and one more than may come at most.
-    fn take_run(&mut self, most: u32, left: u32, piece: &[u8]) -> Result<usize, Memory>
-        requires going { is_certain most self.old ≡ false }
-        requires place { self.old.place ≡ Bytes left }
-        requires some { 0 < length piece.now }
-        ensures { IfOk result (λ count. (0 < count) × (count ≤ length piece.now)
-            × (self.new ≡ with_bytes most self.old (take count piece.now))) }
-    {
-        let room = most as usize + 1 - self.held.len();
-        let total = (total_limit(most) + 1 - self.got) as usize;
-        let count = piece.len().min(left as usize).min(room).min(total);
-        self.held.extend_from_slice(&piece[..count])?;
-        self.got += count as u64;
-        self.place = ChunkPlace::behind_bytes(left, count);
-        Ok(count)
-    }
-
-    /// Takes some bytes from the front of a piece, and answers how many.
-    fn take_some(&mut self, most: u32, piece: &[u8]) -> Result<usize, Memory>
-        requires going { is_certain most self.old ≡ false }
-        requires some { 0 < length piece.now }
-        ensures { IfOk result (λ count. (0 < count) × (count ≤ length piece.now)
-            × (self.new ≡ with_bytes most self.old (take count piece.now))) }
-    {
-        match self.place {
-            ChunkPlace::Bytes { left } => self.take_run(most, left, piece),
-            _ => {
-                self.take_byte(most, piece[0]);
-                Ok(1)
-            }
-        }
-    }
-
-    /// Goes on up to the first byte at which something is certain, or to the end of the piece.
-    pub(crate) fn take_piece(&mut self, most: u32, piece: &[u8]) -> Result<(), Memory>
-        ensures { OnOk result (self.new ≡ with_bytes most self.old piece.now) }
+    /// Takes the bytes in front of a chunk's, and answers how many.
+    fn skip(&mut self, most: u32, piece: &[u8]) -> usize
+        ensures { SkipsTo most self.old self.new piece.now result }
     {
         let mut at = 0;
-        while at < piece.len() && !self.is_certain(most) {
-            at += self.take_some(most, &piece[at..])?;
+        while at < piece.len() && !self.is_over(most) && !is_in_chunk(self.place) {
+            self.take_byte(most, piece[at]);
+            at += 1;
         }
-        Ok(())
+        at
+    }
+
+    /// Takes bytes of the chunk that goes on, as many as there are and one more than may come at most, and
+    /// answers how many.
+    fn take_run(&mut self, most: u32, left: u32, piece: &[u8]) -> usize
+        requires going { is_over most self.old ≡ false }
+        requires place { self.old.place ≡ Bytes left }
+        ensures { TakesRun most self.old self.new piece.now result }
+    {
+        let room = u64::from(most) + 1 - self.body;
+        let total = total_limit(most) + 1 - self.got;
+        let count = piece
+            .len()
+            .min(left as usize)
+            .min(room as usize)
+            .min(total as usize);
+        self.body += count as u64;
+        self.got += count as u64;
+        self.place = ChunkPlace::behind_bytes(left, count);
+        count
+    }
+
+    /// Takes bytes of a chunk, where one goes on, and answers how many.
+    fn take_bytes(&mut self, most: u32, piece: &[u8]) -> usize
+        ensures { TakesRun most self.old self.new piece.now result }
+    {
+        if piece.is_empty() || self.is_over(most) {
+            return 0;
+        }
+        match self.place {
+            ChunkPlace::Bytes { left } => self.take_run(most, left, piece),
+            _ => 0,
+        }
+    }
+
+    /// Takes a front of a piece: what stands in front of a chunk's bytes, and as many of these as there are.
+    pub(crate) fn take_front(&mut self, most: u32, piece: &[u8]) -> Run
+        ensures { TakesFront most self.old self.new piece.now result.from result.to }
+    {
+        let from = self.skip(most, piece);
+        let to = from + self.take_bytes(most, &piece[from..]);
+        Run { from, to }
     }
 }

@@ -1,60 +1,102 @@
-//! Readers of a reply (RFC 9112, sections 4 to 8).
-ghost use Rattle.std.specs.Prelude.{◌≡◌, ◌≢◌, ℕ, ◌≤◌, List, [], ◌++◌, length, Some, IfOk, IfErr, Err};
-ghost use Rattle.httparse.specs.Grammar.{ResponseHead as AnyHead};
-ghost use Rattle.httparse.specs.Spans.{IsResponseWithin};
-ghost use Rattle.http_talk.specs.HeadFeeding.{IsHeadAt};
+//! Readers of a reply that keep its body (RFC 9112, sections 4 to 8).
+ghost use Rattle.std.specs.Prelude.{◌≡◌, ℕ, ◌<◌, ◌^◌, List, [], ◌++◌, length, IfOk, IfErr, Err};
 ghost use Rattle.http_talk.specs.Replies.{IsBodyLimit};
+ghost use Rattle.http_talk.specs.Streams.{Flows, HasFlowed, GatherAnswer, TurnAnswer};
 ghost use Rattle.http_talk.specs.declared.fault.ReplyFault.{ReplyFault as AnyFault};
-ghost use Rattle.http_talk.specs.declared.part.Part.TheVariants.{Head as InHead, Sized, Open, Chunked};
 
-use crate::chunk_place::ChunkPlace;
-use crate::chunk_reader::ChunkReader;
 use crate::fault::{Body, Progress, ReplyFault};
-use crate::head::{FIELD_LIMIT, HEAD_LIMIT, Head, head_of};
-use crate::head_facts::HeadFacts;
-use crate::part::Part;
-use httparse::spans::{EMPTY_HEADER_SPAN, HeaderSpan, ResponseSpans};
+use crate::flow::{Flow, Turn};
+use crate::stream::Stream;
 use label_sets::{Bytes, Memory};
-use page_model::Format;
-use std::alloc::Global;
+use std::alloc::{AllocError, Global};
 use std::marker::Model;
-use std::mem;
 
 /// A reader of one reply: it is fed the bytes of the reply in pieces of any size, and keeps its body.
 #[derive(Drop)]
 pub struct Reply {
-    alloc: Global,
-    /// The most bytes of a body.
-    most: u32,
-    part: Part,
-    format: Format,
-    /// The bytes of a head that is not there yet, or those of the body.
-    kept: Vec<u8>,
-    /// How many bytes came in all, where the body comes in chunks.
-    got: u64,
+    stream: Stream,
+    /// The bytes of the body.
+    body: Vec<u8>,
     /// The first refusal, or want of memory.
     stopped: Option<ReplyFault>,
 }
 
 impl Model for Reply {
-    ghost use Rattle.http_talk.specs.ReplyReading.{Reader, IsSoundPart};
+    ghost use Rattle.std.specs.Prelude.{◌≡◌, None};
+    ghost use Rattle.http_talk.specs.ReplyReading.{Reader};
+    ghost use Rattle.http_talk.specs.Streams.{reader_of, HasFlowed};
 
     ghost Value = { Reader };
 
-    ghost view = { λ r. record {
-      most = r.most;
-      part = r.part;
-      format = r.format;
-      kept = r.kept.items;
-      got = r.got;
-      stopped = r.stopped;
-    } };
+    ghost view = { λ r. reader_of r.stream r.body.items r.stopped };
 
-    ghost invariant = { λ r. IsSoundPart r.part r.most r.kept.items };
+    ghost invariant = { λ r. r.stopped ≡ None → HasFlowed r.stream r.body.items };
+}
+
+/// The most bytes that a stream is fed at once.
+const MOST_BLOCK: usize = 1 << 30;
+
+/// Feeds a front of a piece to a stream, and keeps what it gives of the body.
+fn turn(stream: &mut Stream, body: &mut Vec<u8>, piece: &[u8]) -> Result<Turn, ReplyFault>
+    requires small { length piece.now < 2 ^ 32 }
+    requires flowed { HasFlowed stream.old body.old.items }
+    ensures same { stream.new.most ≡ stream.old.most }
+    ensures answer { (fed : List ℕ) → Flows fed body.old.items stream.old
+        → TurnAnswer fed piece.now body.new.items stream.old stream.new result }
+{
+    let mut taken = 0u32;
+    match stream.feed(piece, &mut taken) {
+        Ok(Flow::More) => Ok(Turn::Over(Progress::More)),
+        Ok(Flow::Page(_)) => Ok(Turn::On { taken }),
+        Ok(Flow::Body { from, to }) => {
+            match body.extend_from_slice(&piece[from as usize..to as usize]) {
+                Ok(()) => Ok(Turn::On { taken }),
+                Err(AllocError) => Err(ReplyFault::Memory),
+            }
+        }
+        Ok(Flow::Whole) => Ok(Turn::Over(Progress::Whole)),
+        Err(fault) => Err(fault),
+    }
+}
+
+/// Feeds a block to a stream, and keeps what it gives of the body.
+fn gather(stream: &mut Stream, body: &mut Vec<u8>, block: &[u8]) -> Result<Progress, ReplyFault>
+    requires small { length block.now < 2 ^ 32 }
+    requires flowed { HasFlowed stream.old body.old.items }
+    ensures same { stream.new.most ≡ stream.old.most }
+    ensures answer { (fed : List ℕ) → Flows fed body.old.items stream.old
+        → GatherAnswer (fed ++ block.now) body.new.items stream.new result }
+{
+    let mut at = 0;
+    loop {
+        match turn(stream, body, &block[at..]) {
+            Ok(Turn::On { taken }) => at += taken as usize,
+            Ok(Turn::Over(progress)) => return Ok(progress),
+            Err(fault) => return Err(fault),
+        }
+    }
+}
+
+/// Feeds a piece to a stream block by block, and keeps what it gives of the body.
+fn gather_all(stream: &mut Stream, body: &mut Vec<u8>, piece: &[u8]) -> Result<Progress, ReplyFault>
+    requires { HasFlowed stream.old body.old.items }
+    ensures same { stream.new.most ≡ stream.old.most }
+    ensures answer { (fed : List ℕ) → Flows fed body.old.items stream.old
+        → GatherAnswer (fed ++ piece.now) body.new.items stream.new result }
+{
+    let mut at = 0;
+    while piece.len() - at > MOST_BLOCK {
+        let end = at + MOST_BLOCK;
+        match gather(stream, body, &piece[at..end]) {
+            Ok(_) => at = end,
+            Err(fault) => return Err(fault),
+        }
+    }
+    gather(stream, body, &piece[at..])
 }
 
 impl Reply {
-    ghost use Rattle.http_talk.specs.ReplyReading.{Stands, HasStopped, TakesBytes, BeginsBody, FeedAnswer, FinishAnswer};
+    ghost use Rattle.http_talk.specs.ReplyReading.{Stands, HasStopped, FeedAnswer, FinishAnswer};
 
     /// A reader that was fed nothing, of a body of at most `max_page` bytes.
     ///
@@ -65,13 +107,10 @@ impl Reply {
         requires { IsBodyLimit max_page }
         ensures { IfOk result (λ reply. (reply.most ≡ max_page) × Stands [] reply) }
     {
+        let stream = Stream::new(alloc, max_page)?;
         Ok(Reply {
-            alloc,
-            most: max_page,
-            part: Part::Head,
-            format: Format::Text,
-            kept: Vec::with_capacity(alloc, HEAD_LIMIT)?,
-            got: 0,
+            stream,
+            body: Vec::new(alloc),
             stopped: None,
         })
     }
@@ -92,139 +131,13 @@ impl Reply {
         if let Some(fault) = self.stopped {
             return Err(fault);
         }
-        match self.take(piece) {
+        match gather_all(&mut self.stream, &mut self.body, piece) {
             Ok(progress) => Ok(progress),
-            Err(fault) => Err(self.stop(fault)),
+            Err(fault) => {
+                self.stopped = Some(fault);
+                Err(fault)
+            }
         }
-    }
-
-    /// Keeps what the reader answers from now on.
-    fn stop(&mut self, fault: ReplyFault) -> ReplyFault
-        ensures answer { result ≡ fault }
-        ensures stopped { self.new ≡ record self.old { stopped = Some fault } }
-    {
-        self.stopped = Some(fault);
-        fault
-    }
-
-    /// Takes a piece.
-    fn take(&mut self, piece: &[u8]) -> Result<Progress, ReplyFault>
-        ensures { TakesBytes self.old self.new piece.now result }
-    {
-        match self.part {
-            Part::Head => self.take_head(piece),
-            _ => self.take_body(piece),
-        }
-    }
-
-    /// Takes a piece where the head is not there yet, and what follows the head once it is.
-    fn take_head(&mut self, piece: &[u8]) -> Result<Progress, ReplyFault>
-        requires { self.old.part ≡ InHead }
-        ensures { TakesBytes self.old self.new piece.now result }
-    {
-        let count = (HEAD_LIMIT - self.kept.len()).min(piece.len());
-        if self.kept.extend_from_slice(&piece[..count]).is_err() {
-            return Err(ReplyFault::Memory);
-        }
-        let mut spans = [EMPTY_HEADER_SPAN; FIELD_LIMIT];
-        match head_of(self.kept.as_slice(), &mut spans) {
-            Head::More => Ok(Progress::More),
-            Head::Bad => Err(ReplyFault::Head),
-            Head::Found(head) => self.begin(head, &spans, &piece[count..]),
-        }
-    }
-
-    /// Begins the body behind a head that was found in what is kept, and takes what came of it.
-    fn begin(
-        &mut self,
-        head: ResponseSpans,
-        spans: &[HeaderSpan],
-        piece: &[u8],
-    ) -> Result<Progress, ReplyFault>
-        requires { IsResponseWithin self.old.kept spans.now head }
-        ensures same { self.new.most ≡ self.old.most }
-        ensures working { self.new.stopped ≡ self.old.stopped }
-        ensures answer { (h : AnyHead) → BeginsBody self.old spans.now head h piece.now self.new result }
-    {
-        let front = mem::replace(&mut self.kept, Vec::new(self.alloc));
-        let start = match HeadFacts::of(front.as_slice(), spans, &head).start(
-            head.code, self.most,
-        ) {
-            Ok(start) => start,
-            Err(fault) => return Err(fault),
-        };
-        self.part = start.part;
-        self.format = start.format;
-        self.got = head.len as u64;
-        match self.take_body(&front.as_slice()[head.len..]) {
-            Ok(_) => self.take_body(piece),
-            Err(fault) => Err(fault),
-        }
-    }
-
-    /// Takes bytes of the body.
-    fn take_body(&mut self, piece: &[u8]) -> Result<Progress, ReplyFault>
-        requires { self.old.part ≢ InHead }
-        ensures taken { TakesBytes self.old self.new piece.now result }
-        ensures body { self.new.part ≢ InHead }
-    {
-        match self.part {
-            Part::Sized { length } => self.take_sized(length, piece),
-            Part::Open => self.take_open(piece),
-            Part::Chunked { place } => self.take_chunks(place, piece),
-            _ => Ok(Progress::Whole),
-        }
-    }
-
-    /// Takes bytes of a body of this length.
-    fn take_sized(&mut self, length: u64, piece: &[u8]) -> Result<Progress, ReplyFault>
-        requires { self.old.part ≡ Sized length }
-        ensures taken { TakesBytes self.old self.new piece.now result }
-        ensures body { self.new.part ≢ InHead }
-    {
-        let missing = length - self.kept.len() as u64;
-        let count = piece.len().min(missing as usize);
-        if self.kept.extend_from_slice(&piece[..count]).is_err() {
-            return Err(ReplyFault::Memory);
-        }
-        if count as u64 == missing {
-            self.part = Part::Whole;
-            return Ok(Progress::Whole);
-        }
-        Ok(Progress::More)
-    }
-
-    /// Takes bytes of a body that goes to the end.
-    fn take_open(&mut self, piece: &[u8]) -> Result<Progress, ReplyFault>
-        requires { self.old.part ≡ Open }
-        ensures taken { TakesBytes self.old self.new piece.now result }
-        ensures body { self.new.part ≢ InHead }
-    {
-        if piece.len() > self.most as usize - self.kept.len() {
-            return Err(ReplyFault::TooLong);
-        }
-        if self.kept.extend_from_slice(piece).is_err() {
-            return Err(ReplyFault::Memory);
-        }
-        Ok(Progress::More)
-    }
-
-    /// Takes bytes of a body in chunks.
-    fn take_chunks(&mut self, place: ChunkPlace, piece: &[u8]) -> Result<Progress, ReplyFault>
-        requires { self.old.part ≡ Chunked place }
-        ensures taken { TakesBytes self.old self.new piece.now result }
-        ensures body { self.new.part ≢ InHead }
-    {
-        let held = mem::replace(&mut self.kept, Vec::new(self.alloc));
-        let mut chunks = ChunkReader::at(place, held, self.got);
-        if chunks.take_piece(self.most, piece).is_err() {
-            return Err(ReplyFault::Memory);
-        }
-        let progress = chunks.progress(self.most);
-        self.got = chunks.got();
-        self.part = chunks.part();
-        self.kept = chunks.into_held();
-        progress
     }
 
     /// Ends the reply: the body of one that is whole or goes to the end. An earlier refusal, or want of
@@ -241,19 +154,13 @@ impl Reply {
         if let Some(fault) = self.stopped {
             return Err(fault);
         }
-        match self.part {
-            Part::Open => Ok(self.into_body()),
-            Part::Whole => Ok(self.into_body()),
-            _ => Err(ReplyFault::Truncated),
-        }
-    }
-    /// The body that is kept.
-    fn into_body(self) -> Body
-        ensures { result ≡ record { format = self.format; bytes = self.kept } }
-    {
-        Body {
-            format: self.format,
-            bytes: Bytes::from_vec(self.kept),
+        let format = self.stream.format();
+        match self.stream.finish() {
+            Ok(()) => Ok(Body {
+                format,
+                bytes: Bytes::from_vec(self.body),
+            }),
+            Err(fault) => Err(fault),
         }
     }
 }

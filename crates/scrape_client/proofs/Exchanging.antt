@@ -1,6 +1,6 @@
 -- What one request and its reply over a wire come to.
 use Rattle.std.proofs.Common.{◌≡◌, ℕ, ◌+◌, ◌-◌, ◌*◌, ◌≤◌, ◌<◌, true, false, List, [], ◌∷◌, ◌++◌, length, length-append, length-drop, take, drop, Option, Some, None, option_map, Result, Ok, Err, codes, refl, sym, ap, subst, ◌∙◌, inl, inr, arith}
-use Rattle.std.specs.Prelude.{◌≢◌, ⊤}
+use Rattle.std.specs.Prelude.{◌≢◌, ◌⊎◌, ⊤, IfOk, IsSomeAnd}
 use Rattle.httparse.proofs.OnLiterals.{httparse_on_literals}
 use Rattle.bridge_ports.specs.declared.talk.Stage.{Stage}
 use Rattle.bridge_ports.specs.declared.talk.Stage.TheVariants as stages
@@ -14,16 +14,19 @@ use Rattle.bridge_ports.proofs.Laws.{read_goes_on, got_on-nil, got_on-more, sent
 use Rattle.page_model.specs.declared.event.Cause.{Cause}
 use Rattle.page_model.specs.declared.event.Cause.TheVariants as causes
 use Rattle.page_model.specs.declared.event.Outcome.{Outcome}
-use Rattle.http_talk.specs.declared.fault.Body.{Body}
+use Rattle.page_model.specs.declared.event.Outcome.TheVariants as outcomes
+use Rattle.page_model.specs.declared.format.Format.{Format}
 use Rattle.http_talk.specs.declared.fault.ReplyFault.{ReplyFault}
 use Rattle.http_talk.specs.declared.fault.ReplyFault.TheVariants as faults
+use Rattle.http_talk.specs.declared.fault.Progress.{Progress}
 use Rattle.http_talk.specs.declared.fault.Progress.TheVariants as progresses
-use Rattle.http_talk.specs.Replies.{Judged, waits, goes_on, decided, refused, whole, IsJudged, HasVerdict, is_decided, IsPageOutcome, IsOutcomeOf, IsSent, IsGot, cause_of}
-use Rattle.http_talk.specs.ReplyReading.{Reader, Stands, progress_of, IsRefusal, IsPieceTaken, FinishAnswer}
-use Rattle.http_talk.proofs.Laws.{by_more, bare_head, known_once, undecided_is_short, body_is_short}
-use Rattle.scrape_client.specs.declared.stop.NoBody.{NoBody}
-use Rattle.scrape_client.specs.declared.stop.NoBody.TheVariants as stops
-use Rattle.scrape_client.specs.Exchanges.{without_body, Says, WantsMemory, HasShortBody, BlamesWire, RoseByWire, IsSaidOf, EndsReply, IsReplyRead, ReadsOn, HasTalked, IsExchange}
+use Rattle.http_talk.specs.Replies.{Judged, waits, goes_on, decided, refused, whole, IsJudged, HasVerdict, is_decided, IsPageOutcome, IsOutcomeOf, IsOutcomeBy, IsSent, IsGot, cause_of}
+use Rattle.http_talk.specs.ReplyReading.{progress_of, IsRefusal}
+use Rattle.http_talk.proofs.Laws.{by_more, bare_head, known_once, undecided_is_short}
+use Rattle.scrape_client.specs.declared.page_reply.PageReply.{PageReply}
+use Rattle.scrape_client.specs.PageReplies.{ReadsPage, HasRead, IsFaultOutcome, IsPeerOutcome, IsPieceRead, most_of}
+use Rattle.scrape_client.specs.Scraping.{IsWireFault}
+use Rattle.scrape_client.specs.Exchanges.{BlamesWire, RoseByWire, IsOutcomeAt, IsOutcomeIn, IsReplyRead, ReadsOn, HasTalked, IsTalkOver, IsExchange}
 
 -- nothing is certain of no bytes
 pub nothing_got : (most : ℕ) → IsJudged most [] waits
@@ -70,90 +73,74 @@ whole_is_decided (decided v) e = refl
 whole_is_decided waits e = absurd (cc e)
 whole_is_decided (goes_on format body) e = absurd (cc e)
 
--- no fault of a reply is one of the wire
-pub peer_fault : (fault : ReplyFault) → BlamesWire (Err (without_body (cause_of fault))) → ⊥
-peer_fault faults.Head x = x
-peer_fault _ x = x
+of_cause : (found : Option Cause) (cause : Cause) (outcome : Outcome) → found ≡ Some cause → IsSomeAnd found (λ c. outcome ≡ outcomes.Failed c) → outcome ≡ outcomes.Failed cause
+of_cause found cause outcome is x = subst (λ (o : Option Cause). IsSomeAnd o (λ c. outcome ≡ outcomes.Failed c)) is x
 
-refused_by : (most : ℕ) (got : List ℕ) (cause : Cause) → HasVerdict most got (refused cause) → IsSaidOf most got ends.Left (Err (stops.Failed cause))
-refused_by most got cause x = record {
-  known = decided (refused cause);
-  judged_so = x;
-  outcome = λ limit outcome said. said;
+refusal_outcome : (fault : ReplyFault) (limit most : ℕ) (got : List ℕ) (outcome : Outcome) → IsRefusal most got fault → IsFaultOutcome fault outcome → IsOutcomeIn limit most got ends.Left outcome
+refusal_outcome faults.Memory limit most got outcome r is = absurd is
+refusal_outcome faults.Truncated limit most got outcome r is = absurd r
+refusal_outcome fault limit most got outcome r is = record {
+  known = decided (refused r.0);
+  judged_so = r.2;
+  outcome_is = of_cause (cause_of fault) r.0 outcome r.1 is;
   left = ((λ _. refl), (λ _. refl));
 }
 
--- a refusal is what its bytes come to in a talk that is left
-pub refused_said : (most : ℕ) (got : List ℕ) (fault : ReplyFault) → IsRefusal most got fault → (WantsMemory (Err (without_body (cause_of fault))) → ⊥)
-    → IsSaidOf most got ends.Left (Err (without_body (cause_of fault)))
-refused_said most got faults.Memory r some = absurd (some tt)
-refused_said most got faults.Truncated r some = absurd r
-refused_said most got _ r some = subst (λ (o : Option Cause). IsSaidOf most got ends.Left (Err (without_body o))) (sym r.1) (refused_by most got r.0 r.2)
+-- what a refusal comes to
+pub refused_outcome : {E : Type 0} (fault : ReplyFault) (limit most : ℕ) (got : List ℕ) (result : Result Outcome E) → IsRefusal most got fault → IfOk result (IsFaultOutcome fault) → IfOk result (IsOutcomeIn limit most got ends.Left)
+refused_outcome fault limit most got (Ok outcome) r is = refusal_outcome fault limit most got outcome r is
+refused_outcome fault limit most got (Err e) r is = is
 
--- ---- the end of a reply
+peer_cause : (fault : ReplyFault) (outcome : Outcome) → IsFaultOutcome fault outcome → IsWireFault outcome → ⊥
+peer_cause faults.Memory outcome is wire = is
+peer_cause faults.Head outcome is wire = subst IsWireFault is wire
+peer_cause (faults.Status code) outcome is wire = subst IsWireFault is wire
+peer_cause faults.Encoding outcome is wire = subst IsWireFault is wire
+peer_cause faults.MediaType outcome is wire = subst IsWireFault is wire
+peer_cause faults.TooLong outcome is wire = subst IsWireFault is wire
+peer_cause faults.Chunk outcome is wire = subst IsWireFault is wire
+peer_cause faults.Truncated outcome is wire = subst IsWireFault is wire
 
--- the body that the end of a reply gives is what its bytes come to
-pub body_said : (most : ℕ) (fed : List ℕ) (body : Body) → FinishAnswer most fed (Ok body) → (known : Judged) → IsJudged most fed known
-    → (limit : ℕ) (outcome : Outcome) → IsPageOutcome limit body.format body.bytes outcome → IsOutcomeOf ends.Ended limit known outcome
-body_said most fed body (inl x) known judged limit outcome said =
-    subst (λ (k : Judged). IsOutcomeOf ends.Ended limit k outcome) (known_once most fed (decided (whole body.format body.bytes)) known x judged) said
-body_said most fed body (inr x) known judged limit outcome said =
-    subst (λ (k : Judged). IsOutcomeOf ends.Ended limit k outcome) (known_once most fed (goes_on body.format body.bytes) known x judged) said
+-- no fault of a reply is one of the wire
+pub peer_fault : {E : Type 0} (fault : ReplyFault) (result : Result Outcome E) → IfOk result (IsFaultOutcome fault) → BlamesWire result → ⊥
+peer_fault fault (Ok outcome) is wire = peer_cause fault outcome is wire
+peer_fault fault (Err e) is wire = wire
 
--- so is the fault that it gives
-pub fault_said : (most : ℕ) (fed : List ℕ) (fault : ReplyFault) → FinishAnswer most fed (Err fault) → (known : Judged) → IsJudged most fed known
-    → (limit : ℕ) (outcome : Outcome) → Says (Err (without_body (cause_of fault))) limit outcome → IsOutcomeOf ends.Ended limit known outcome
-fault_said most fed faults.Truncated x known judged limit outcome said =
-    subst (λ (k : Judged). IsOutcomeOf ends.Ended limit k outcome) (known_once most fed waits known x judged) said
-fault_said most fed faults.Memory x known judged limit outcome said = absurd said
-fault_said most fed faults.Head x known judged limit outcome said = absurd x
-fault_said most fed (faults.Status status) x known judged limit outcome said = absurd x
-fault_said most fed faults.Encoding x known judged limit outcome said = absurd x
-fault_said most fed faults.MediaType x known judged limit outcome said = absurd x
-fault_said most fed faults.TooLong x known judged limit outcome said = absurd x
-fault_said most fed faults.Chunk x known judged limit outcome said = absurd x
-
--- and the body is short
-pub body_short : (most : ℕ) (fed : List ℕ) (body : Body) → FinishAnswer most fed (Ok body) → length body.bytes ≤ most
-body_short most fed body (inl x) = body_is_short most fed (decided (whole body.format body.bytes)) x
-body_short most fed body (inr x) = body_is_short most fed (goes_on body.format body.bytes) x
-
--- a body that is short enough for less is for more
-pub short_within : (few most : ℕ) (said : Result Body NoBody) → few ≤ most → HasShortBody few said → HasShortBody most said
-short_within few most (Ok body) fits x = omega (arith, x, fits)
-short_within few most (Err e) fits x = tt
-
--- where something is said, memory is not wanted
-pub says_some : (said : Result Body NoBody) (limit : ℕ) (outcome : Outcome) → Says said limit outcome → WantsMemory said → ⊥
-says_some (Ok body) limit outcome x wants = wants
-says_some (Err (stops.Failed cause)) limit outcome x wants = wants
-says_some (Err stops.Memory) limit outcome x wants = x
+pub page_is_peer : (limit : ℕ) (format : Format) (body : List ℕ) (outcome : Outcome) → IsPageOutcome limit format body outcome → IsWireFault outcome → ⊥
+page_is_peer limit format body (outcomes.Page page) x fault = fault
+page_is_peer limit format body (outcomes.Failed causes.Connect) x fault = x
+page_is_peer limit format body (outcomes.Failed causes.Write) x fault = x
+page_is_peer limit format body (outcomes.Failed causes.Read) x fault = x
+page_is_peer limit format body (outcomes.Failed _) x fault = fault
 
 -- ---- reading
 
 -- nothing was read yet
-pub reads_nothing : (old : WireState) (reply : Reader) → Stands [] reply → ReadsOn reply.most old old reply 0
-reads_nothing old reply x = record {
+pub reads_nothing : (limit : ℕ) (old : WireState) (reply : PageReply) → ReadsPage limit [] reply → ReadsOn limit (most_of reply) old old reply 0
+reads_nothing limit old reply x = record {
   fed = [];
-  stands = x;
+  reads = x;
   most_is = refl;
   known = waits;
-  judged_so = nothing_got reply.most;
+  judged_so = nothing_got (most_of reply);
   goes_on = refl;
   wire = sym (got_on-nil old);
   count_is = refl;
 }
+
+pub has_read : (limit most : ℕ) (old now : WireState) (reply : PageReply) (count : ℕ) → ReadsOn limit most old now reply count → HasRead reply
+has_read limit most old now reply count x = (x.fed, subst (λ l. ReadsPage l x.fed reply) (sym x.reads.limit_is) x.reads)
 
 -- the wire behind one more piece
 piece_read : (old now new : WireState) (fed piece : List ℕ) → now ≡ got_on fed old → 0 < length piece → new ≡ after_read piece now → new ≡ got_on (fed ++ piece) old
 piece_read old now new fed piece is some read = read ∙ read_goes_on piece now some ∙ ap (got_on piece) is ∙ got_on-more fed piece old
 
 -- a piece was read and fed, and nothing is certain yet
-pub reads_more : (most : ℕ) (old now new : WireState) (reply fed_on : Reader) (count n : ℕ) (piece : List ℕ) (x : ReadsOn most old now reply count)
-    → 0 < length piece → length piece ≡ n → new ≡ after_read piece now → fed_on.most ≡ reply.most → IsPieceTaken (x.fed ++ piece) fed_on progresses.More → ReadsOn most old new fed_on (count + n)
-reads_more most old now new reply fed_on count n piece x some long read same t = record {
+pub reads_more : (limit most : ℕ) (old now new : WireState) (reply fed_on : PageReply) (count n : ℕ) (piece : List ℕ) (x : ReadsOn limit most old now reply count)
+    → 0 < length piece → length piece ≡ n → new ≡ after_read piece now → most_of fed_on ≡ most_of reply → IsPieceRead limit (x.fed ++ piece) fed_on progresses.More → ReadsOn limit most old new fed_on (count + n)
+reads_more limit most old now new reply fed_on count n piece x some long read same t = record {
   fed = x.fed ++ piece;
-  stands = t.stands;
+  reads = t.reads;
   most_is = same ∙ x.most_is;
   known = t.known;
   judged_so = subst (λ (m : ℕ). IsJudged m (x.fed ++ piece) t.known) (same ∙ x.most_is) t.judged_so;
@@ -163,15 +150,15 @@ reads_more most old now new reply fed_on count n piece x some long read same t =
 }
 
 -- a reply on which there is no verdict is short
-pub reads_few : (most : ℕ) (old now : WireState) (reply : Reader) (count : ℕ) → ReadsOn most old now reply count → count ≤ 8 * most + 65536
-reads_few most old now reply count x = let short = undecided_is_short most x.fed x.known x.judged_so x.goes_on in omega (arith, x.count_is)
+pub reads_few : (limit most : ℕ) (old now : WireState) (reply : PageReply) (count : ℕ) → ReadsOn limit most old now reply count → count ≤ 8 * most + 65536
+reads_few limit most old now reply count x = let short = undecided_is_short most x.fed x.known x.judged_so x.goes_on in omega (arith, x.count_is)
 
 -- the count of faults stays on a wire that goes on
-pub reads_keep : (most : ℕ) (old now : WireState) (reply : Reader) (count : ℕ) → ReadsOn most old now reply count → (now.faults ≡ old.faults) × (now.stage ≡ old.stage)
-reads_keep most old now reply count x = (ap (λ (w : WireState). w.faults) x.wire, ap (λ (w : WireState). w.stage) x.wire)
+pub reads_keep : (limit most : ℕ) (old now : WireState) (reply : PageReply) (count : ℕ) → ReadsOn limit most old now reply count → (now.faults ≡ old.faults) × (now.stage ≡ old.stage)
+reads_keep limit most old now reply count x = (ap (λ (w : WireState). w.faults) x.wire, ap (λ (w : WireState). w.stage) x.wire)
 
--- a call of a reader that gave no fault of the wire
-same_faults : (before now : ℕ) (said : Result Body NoBody) → now ≡ before → (BlamesWire said → ⊥) → RoseByWire before now said
+-- a result that is no fault of the wire
+same_faults : {E : Type 0} (before now : ℕ) (said : Result Outcome E) → now ≡ before → (BlamesWire said → ⊥) → RoseByWire before now said
 same_faults before now said is peer = record { later = omega (arith, is); rose = λ blames. absurd (peer blames); kept = λ _. is }
 
 -- an end of a talk that keeps the count of faults
@@ -179,7 +166,7 @@ kept_wire : (end : End) (got : List ℕ) (old new : WireState) → new ≡ ended
 kept_wire end got old new is = is ∙ ap (λ (f : ℕ). record (ended_by end (got_on got old)) { faults = f }) (sym (ap (λ (w : WireState). w.faults) is))
 
 -- the talk that is left is ended so
-pub left_connected : (w : WireState) → w.stage ≡ stages.Connected → left_at w.stage w ≡ ended_by ends.Left w
+left_connected : (w : WireState) → w.stage ≡ stages.Connected → left_at w.stage w ≡ ended_by ends.Left w
 left_connected w is = ap (λ (s : Stage). left_at s w) is
 
 -- the wire behind a piece, once it was left
@@ -190,43 +177,91 @@ left_behind old now mid new fed piece is connected some read left =
     let stage : mid.stage ≡ stages.Connected = ap (λ (w : WireState). w.stage) (there) ∙ sym (ap (λ (w : WireState). w.stage) is) ∙ connected in
     left ∙ left_connected mid stage ∙ ap (ended_by ends.Left) there
 
+by_any_end : {E : Type 0} (limit most : ℕ) (got : List ℕ) (known : Judged) (result : Result Outcome E) → IsJudged most got known → is_decided known ≡ true → IfOk result (IsOutcomeOf ends.Ended limit known) → IfOk result (IsOutcomeIn limit most got ends.Left)
+by_any_end limit most got known (Ok outcome) judged sure x = record {
+  known = known;
+  judged_so = judged;
+  outcome_is = decided_by_any ends.Ended ends.Left limit known outcome sure x;
+  left = ((λ _. sure), (λ _. refl));
+}
+by_any_end limit most got known (Err e) judged sure x = x
+
 -- the reply is whole, and the talk was left
-pub whole_read : (most : ℕ) (old now mid new : WireState) (reply fed_on : Reader) (count : ℕ) (piece : List ℕ) (said : Result Body NoBody) (x : ReadsOn most old now reply count)
-    → now.stage ≡ stages.Connected → 0 < length piece → mid ≡ after_read piece now → new ≡ left_at mid.stage mid → fed_on.most ≡ reply.most
-    → IsPieceTaken (x.fed ++ piece) fed_on progresses.Whole → EndsReply fed_on said → HasShortBody fed_on.most said → (BlamesWire said → ⊥) → IsReplyRead most old new said
-whole_read most old now mid new reply fed_on count piece said x connected some read left same t closes short peer =
+pub whole_read : {E : Type 0} (limit most : ℕ) (old now mid new : WireState) (reply fed_on : PageReply) (count : ℕ) (piece : List ℕ) (said : Result Outcome E) (x : ReadsOn limit most old now reply count)
+    → now.stage ≡ stages.Connected → 0 < length piece → mid ≡ after_read piece now → new ≡ left_at mid.stage mid → most_of fed_on ≡ most_of reply
+    → (t : IsPieceRead limit (x.fed ++ piece) fed_on progresses.Whole) → IfOk said (IsOutcomeOf ends.Ended limit t.known) → (BlamesWire said → ⊥) → IsReplyRead limit most old new said
+whole_read limit most old now mid new reply fed_on count piece said x connected some read left same t closes peer =
     let wire = left_behind old now mid new x.fed piece x.wire connected some read left in
     let sure = whole_is_decided t.known t.progress_is in
+    let judged = subst (λ (m : ℕ). IsJudged m (x.fed ++ piece) t.known) (same ∙ x.most_is) t.judged_so in
     record {
       got = x.fed ++ piece;
       end = ends.Left;
       behind = ((λ e. absurd (cc e)), (λ e. absurd (cc e)));
       wire = kept_wire ends.Left (x.fed ++ piece) old new wire;
       faults = same_faults old.faults new.faults said (ap (λ (w : WireState). w.faults) wire) peer;
-      short = subst (λ (m : ℕ). HasShortBody m said) (same ∙ x.most_is) short;
-      said_is = λ some. record {
-        known = t.known;
-        judged_so = subst (λ (m : ℕ). IsJudged m (x.fed ++ piece) t.known) (same ∙ x.most_is) t.judged_so;
-        outcome = λ limit outcome says. decided_by_any ends.Ended ends.Left limit t.known outcome sure (closes (x.fed ++ piece) t.stands t.known t.judged_so limit outcome says);
-        left = ((λ _. sure), (λ _. refl));
-      };
+      outcome = by_any_end limit most (x.fed ++ piece) t.known said judged sure closes;
     }
 
--- the reply is refused, or memory is wanted, and the talk was left
-pub refused_read : (most : ℕ) (old now mid new : WireState) (reply fed_on : Reader) (count : ℕ) (piece : List ℕ) (fault : ReplyFault) (x : ReadsOn most old now reply count)
-    → now.stage ≡ stages.Connected → 0 < length piece → mid ≡ after_read piece now → new ≡ left_at mid.stage mid → fed_on.most ≡ reply.most
-    → IsRefusal fed_on.most (x.fed ++ piece) fault → IsReplyRead most old new (Err (without_body (cause_of fault)))
-refused_read most old now mid new reply fed_on count piece fault x connected some read left same r =
+-- the reply is refused, and the talk was left
+pub refused_read : {E : Type 0} (limit most : ℕ) (old now mid new : WireState) (reply fed_on : PageReply) (count : ℕ) (piece : List ℕ) (fault : ReplyFault) (said : Result Outcome E) (x : ReadsOn limit most old now reply count)
+    → now.stage ≡ stages.Connected → 0 < length piece → mid ≡ after_read piece now → new ≡ left_at mid.stage mid → most_of fed_on ≡ most_of reply
+    → IsRefusal (most_of fed_on) (x.fed ++ piece) fault → IfOk said (IsFaultOutcome fault) → IsReplyRead limit most old new said
+refused_read limit most old now mid new reply fed_on count piece fault said x connected some read left same r is =
     let wire = left_behind old now mid new x.fed piece x.wire connected some read left in
     record {
       got = x.fed ++ piece;
       end = ends.Left;
       behind = ((λ e. absurd (cc e)), (λ e. absurd (cc e)));
       wire = kept_wire ends.Left (x.fed ++ piece) old new wire;
-      faults = same_faults old.faults new.faults (Err (without_body (cause_of fault))) (ap (λ (w : WireState). w.faults) wire) (peer_fault fault);
-      short = tt;
-      said_is = λ some. refused_said most (x.fed ++ piece) fault (subst (λ (m : ℕ). IsRefusal m (x.fed ++ piece) fault) (same ∙ x.most_is) r) some;
+      faults = same_faults old.faults new.faults said (ap (λ (w : WireState). w.faults) wire) (peer_fault fault said is);
+      outcome = refused_outcome fault limit most (x.fed ++ piece) said (subst (λ (m : ℕ). IsRefusal m (x.fed ++ piece) fault) (same ∙ x.most_is) r) is;
     }
+
+in_ended : {E : Type 0} (limit most : ℕ) (got : List ℕ) (known : Judged) (result : Result Outcome E) → IsJudged most got known → is_decided known ≡ false → IfOk result (IsOutcomeOf ends.Ended limit known) → IfOk result (IsOutcomeIn limit most got ends.Ended)
+in_ended limit most got known (Ok outcome) judged on x = record {
+  known = known;
+  judged_so = judged;
+  outcome_is = x;
+  left = ((λ e. absurd (cc e)), (λ e. absurd (cc (sym e ∙ on))));
+}
+in_ended limit most got known (Err e) judged on x = x
+
+-- the peer ended the reply
+pub ended_read : {E : Type 0} (limit most : ℕ) (old now new : WireState) (reply : PageReply) (count : ℕ) (said : Result Outcome E) (x : ReadsOn limit most old now reply count)
+    → new ≡ ended_by ends.Ended now → IfOk said (IsOutcomeOf ends.Ended limit x.known) → (BlamesWire said → ⊥) → IsReplyRead limit most old new said
+ended_read limit most old now new reply count said x is closes peer =
+    let wire = is ∙ ap (ended_by ends.Ended) x.wire in
+    record {
+      got = x.fed;
+      end = ends.Ended;
+      behind = ((λ e. absurd (cc e)), (λ e. absurd (cc e)));
+      wire = kept_wire ends.Ended x.fed old new wire;
+      faults = same_faults old.faults new.faults said (ap (λ (w : WireState). w.faults) wire) peer;
+      outcome = in_ended limit most x.fed x.known said x.judged_so x.goes_on closes;
+    }
+
+-- a read failed
+pub read_failed : {E : Type 0} (limit most : ℕ) (old now new : WireState) (reply : PageReply) (count : ℕ) (x : ReadsOn limit most old now reply count) → new ≡ failed_at ends.ReadFailed new.faults now → old.faults ≤ new.faults → Rose old.faults new.faults
+    → IsReplyRead {E = E} limit most old new (Ok (outcomes.Failed causes.Read))
+read_failed limit most old now new reply count x is later rose = record {
+  got = x.fed;
+  end = ends.ReadFailed;
+  behind = ((λ e. absurd (cc e)), (λ e. absurd (cc e)));
+  wire = is ∙ ap (failed_at ends.ReadFailed new.faults) x.wire;
+  faults = record { later = later; rose = λ _. rose; kept = λ none. absurd (none tt) };
+  outcome = record {
+    known = x.known;
+    judged_so = x.judged_so;
+    outcome_is = by_read limit x.known x.goes_on;
+    left = ((λ e. absurd (cc e)), (λ e. absurd (cc (sym e ∙ x.goes_on))));
+  };
+}
+  where
+    by_read : (limit : ℕ) (known : Judged) → is_decided known ≡ false → IsOutcomeOf ends.ReadFailed limit known (outcomes.Failed causes.Read)
+    by_read limit (decided v) e = absurd (cc e)
+    by_read limit waits e = refl
+    by_read limit (goes_on format body) e = refl
 
 -- ---- whole talks
 
@@ -265,36 +300,34 @@ abbrev pub connected_at : ℕ → ℕ → WireState → WireState
 connected_at at n w = record (begun_at at (made_ready 1 n w)) { stage = stages.Connected }
 
 -- no connection was made
-pub no_connection : (most at : ℕ) (text : List ℕ) (w new : WireState) → new ≡ failed_at ends.ConnectFailed new.faults (begun_at at (made_ready 1 (length text) w))
-    → w.faults ≤ new.faults → Rose w.faults new.faults → IsExchange most at text w new (Err (stops.Failed causes.Connect))
-no_connection most at text w new is later rose = record {
+pub no_connection : {E : Type 0} (limit most at : ℕ) (text : List ℕ) (w new : WireState) → new ≡ failed_at ends.ConnectFailed new.faults (begun_at at (made_ready 1 (length text) w))
+    → w.faults ≤ new.faults → Rose w.faults new.faults → IsExchange {E = E} limit most at text w new (Ok (outcomes.Failed causes.Connect))
+no_connection limit most at text w new is later rose = record {
   talk = record { at = at; sent = []; got = []; end = ends.ConnectFailed };
   at_is = refl;
   talked = subst (λ (s : WireState). HasTalked w s (record { at = at; sent = []; got = []; end = ends.ConnectFailed })) (sym is)
       (talked w (begun_at at (made_ready 1 (length text) w)) new.faults (record { at = at; sent = []; got = [] }) ends.ConnectFailed refl refl (begun_now at w.told));
-  over = λ some. record {
+  over = record {
     whole_talk = record { sent = (text, refl); got = refl; known = waits; judged_so = nothing_got most; left = ((λ e. absurd (cc e)), (λ e. absurd (cc e))) };
-    outcome = λ limit outcome said. record { known = waits; judged_so = nothing_got most; outcome_is = said };
+    outcome_is = record { known = waits; judged_so = nothing_got most; outcome_is = refl };
   };
   faults = record { later = later; rose = λ _. rose; kept = λ none. absurd (none tt) };
-  short = tt;
 }
 
 -- a write failed
-pub no_write : (most at : ℕ) (text sent rest : List ℕ) (w new : WireState) → text ≡ sent ++ rest
+pub no_write : {E : Type 0} (limit most at : ℕ) (text sent rest : List ℕ) (w new : WireState) → text ≡ sent ++ rest
     → new ≡ failed_at ends.WriteFailed new.faults (sent_on sent (connected_at at (length text) w))
-    → w.faults ≤ new.faults → Rose w.faults new.faults → IsExchange most at text w new (Err (stops.Failed causes.Write))
-no_write most at text sent rest w new parts is later rose = record {
+    → w.faults ≤ new.faults → Rose w.faults new.faults → IsExchange {E = E} limit most at text w new (Ok (outcomes.Failed causes.Write))
+no_write limit most at text sent rest w new parts is later rose = record {
   talk = record { at = at; sent = sent; got = []; end = ends.WriteFailed };
   at_is = refl;
   talked = subst (λ (s : WireState). HasTalked w s (record { at = at; sent = sent; got = []; end = ends.WriteFailed })) (sym is)
       (talked w (sent_on sent (connected_at at (length text) w)) new.faults (record { at = at; sent = sent; got = [] }) ends.WriteFailed refl refl (sent_now at sent w.told));
-  over = λ some. record {
+  over = record {
     whole_talk = record { sent = (rest, parts); got = refl; known = waits; judged_so = nothing_got most; left = ((λ e. absurd (cc e)), (λ e. absurd (cc e))) };
-    outcome = λ limit outcome said. record { known = waits; judged_so = nothing_got most; outcome_is = said };
+    outcome_is = record { known = waits; judged_so = nothing_got most; outcome_is = refl };
   };
   faults = record { later = later; rose = λ _. rose; kept = λ none. absurd (none tt) };
-  short = tt;
 }
 
 sent_all : (end : End) (text : List ℕ) → (end ≢ ends.ConnectFailed) × (end ≢ ends.WriteFailed) → IsSent end text text
@@ -307,19 +340,67 @@ got_some ends.ConnectFailed got x = absurd (x.0 refl)
 got_some ends.WriteFailed got x = absurd (x.1 refl)
 got_some _ got x = tt
 
+talk_over : {E : Type 0} (limit most at : ℕ) (text got : List ℕ) (end : End) (said : Result Outcome E) → (end ≢ ends.ConnectFailed) × (end ≢ ends.WriteFailed) → IfOk said (IsOutcomeIn limit most got end)
+    → IfOk said (IsTalkOver limit most text (record { at = at; sent = text; got = got; end = end }))
+talk_over limit most at text got end (Ok outcome) behind y = record {
+  whole_talk = record { sent = sent_all end text behind; got = got_some end got behind; known = y.known; judged_so = y.judged_so; left = y.left };
+  outcome_is = record { known = y.known; judged_so = y.judged_so; outcome_is = y.outcome_is };
+}
+talk_over limit most at text got end (Err e) behind y = y
+
 -- the reply was read behind all of the text
-pub reply_read : (most at : ℕ) (text : List ℕ) (w mid new : WireState) (said : Result Body NoBody) → mid ≡ sent_on text (connected_at at (length text) w)
-    → IsReplyRead most mid new said → IsExchange most at text w new said
-reply_read most at text w mid new said is x = record {
+pub reply_read : {E : Type 0} (limit most at : ℕ) (text : List ℕ) (w mid new : WireState) (said : Result Outcome E) → mid ≡ sent_on text (connected_at at (length text) w)
+    → IsReplyRead limit most mid new said → IsExchange limit most at text w new said
+reply_read limit most at text w mid new said is x = record {
   talk = record { at = at; sent = text; got = x.got; end = x.end };
   at_is = refl;
   talked = subst (λ (s : WireState). HasTalked w s (record { at = at; sent = text; got = x.got; end = x.end }))
       (sym (x.wire ∙ ap (λ (s : WireState). record (ended_by x.end (got_on x.got s)) { faults = new.faults }) is))
       (talked w (got_on x.got (sent_on text (connected_at at (length text) w))) new.faults (record { at = at; sent = text; got = x.got }) x.end refl refl (read_now at text x.got w.told));
-  over = λ some. let y = x.said_is some in record {
-    whole_talk = record { sent = sent_all x.end text x.behind; got = got_some x.end x.got x.behind; known = y.known; judged_so = y.judged_so; left = y.left };
-    outcome = λ limit outcome said. record { known = y.known; judged_so = y.judged_so; outcome_is = y.outcome limit outcome said };
-  };
+  over = talk_over limit most at text x.got x.end said x.behind x.outcome;
   faults = subst (λ (f : ℕ). RoseByWire f new.faults said) (ap (λ (s : WireState). s.faults) is) x.faults;
-  short = x.short;
 }
+
+pub peer_is : {E : Type 0} (result : Result Outcome E) → IfOk result IsPeerOutcome → BlamesWire result → ⊥
+peer_is (Ok outcome) x wire = x wire
+peer_is (Err e) x wire = wire
+
+-- ---- bytes in hand
+
+by_end : (end : End) (limit : ℕ) (known : Judged) (cause : Cause) → is_decided known ≡ false → IsOutcomeBy end limit known (outcomes.Failed cause) → IsOutcomeOf end limit known (outcomes.Failed cause)
+by_end end limit (decided v) cause e x = absurd (cc e)
+by_end end limit waits cause e x = x
+by_end end limit (goes_on format body) cause e x = x
+
+-- a call failed behind these bytes, on which there is no verdict
+pub failed_at_end : (limit most : ℕ) (fed : List ℕ) (r : PageReply) (end : End) (cause : Cause) → most_of r ≡ most → (t : IsPieceRead limit fed r progresses.More) → IsOutcomeBy end limit t.known (outcomes.Failed cause) → IsOutcomeAt limit most fed end (outcomes.Failed cause)
+failed_at_end limit most fed r end cause same t x = record {
+  known = t.known;
+  judged_so = subst (λ (m : ℕ). IsJudged m fed t.known) same t.judged_so;
+  outcome_is = by_end end limit t.known cause (more_is_open t.known t.progress_is) x;
+}
+
+-- the peer ended behind these bytes
+pub ended_at : {E : Type 0} (result : Result Outcome E) (limit most : ℕ) (fed : List ℕ) (r : PageReply) (progress : Progress) → most_of r ≡ most → (t : IsPieceRead limit fed r progress) → IfOk result (IsOutcomeOf ends.Ended limit t.known) → IfOk result (IsOutcomeAt limit most fed ends.Ended)
+ended_at (Ok outcome) limit most fed r progress same t x = record { known = t.known; judged_so = subst (λ (m : ℕ). IsJudged m fed t.known) same t.judged_so; outcome_is = x }
+ended_at (Err e) limit most fed r progress same t x = x
+
+-- a whole reply comes to the same whatever the end
+pub whole_at : {E : Type 0} (result : Result Outcome E) (limit most : ℕ) (fed : List ℕ) (r : PageReply) (end : End) → most_of r ≡ most → (t : IsPieceRead limit fed r progresses.Whole) → IfOk result (IsOutcomeOf ends.Ended limit t.known) → IfOk result (IsOutcomeAt limit most fed end)
+whole_at (Ok outcome) limit most fed r end same t x = record {
+  known = t.known;
+  judged_so = subst (λ (m : ℕ). IsJudged m fed t.known) same t.judged_so;
+  outcome_is = decided_by_any ends.Ended end limit t.known outcome (whole_is_decided t.known t.progress_is) x;
+}
+whole_at (Err e) limit most fed r end same t x = x
+
+-- so does a refusal
+pub refused_at : {E : Type 0} (result : Result Outcome E) (limit most : ℕ) (fed : List ℕ) (end : End) (fault : ReplyFault) → IsRefusal most fed fault → IfOk result (IsFaultOutcome fault) → IfOk result (IsOutcomeAt limit most fed end)
+refused_at (Ok outcome) limit most fed end fault r is =
+    let x = refusal_outcome fault limit most fed outcome r is in
+    record { known = x.known; judged_so = x.judged_so; outcome_is = decided_by_any ends.Left end limit x.known outcome (x.left.0 refl) x.outcome_is }
+refused_at (Err e) limit most fed end fault r is = is
+
+pub not_left : (end : End) → (end ≡ ends.Ended) ⊎ (end ≡ ends.Left) → end ≢ ends.Left → end ≡ ends.Ended
+not_left end (inl is) other = is
+not_left end (inr is) other = absurd (other is)

@@ -1,5 +1,6 @@
 mod PageOutcomeCases
 mod SampleLimit
 mod Exchanging
+mod PageReading
 mod Scrapes
 pub mod Laws

@@ -21,7 +21,9 @@ use Rattle.page_model.specs.Faults.{Line, item_breaks, item_rules, item_fault, l
 use Rattle.page_model.specs.Readings.{page_of}
 use Rattle.page_model.specs.Pages.{IsPageOf}
 use Rattle.page_model.proofs.Laws.{none_found, text_is_right}
-use Rattle.http_talk.specs.Replies.{IsPageOutcome, scraped_setting}
+use Rattle.bridge_ports.specs.declared.talk.End.{End}
+use Rattle.bridge_ports.specs.declared.talk.End.TheVariants as ends
+use Rattle.http_talk.specs.Replies.{Judged, waits, goes_on, decided, refused, whole, IsOutcomeOf, IsPageOutcome, scraped_setting}
 use Rattle.scrape_client.specs.Scraping.{IsWithinLimit}
 use Rattle.label_sets.proofs.Laws.{option_map-none}
 
@@ -85,7 +87,17 @@ within_limit limit format body (outcomes.Page page) x =
     ((st, refl, text_is_right st body page x), few_samples st body page x)
 within_limit limit format body (outcomes.Failed cause) x = tt
 
--- so is what is answered of it
-pub all_within : {E : Type 0} (limit : ℕ) (format : Format) (body : List ℕ) (result : Result Outcome E) → IfOk result (IsPageOutcome limit format body) → IfOk result (IsWithinLimit limit)
-all_within limit format body (Ok outcome) x = within_limit limit format body outcome x
-all_within limit format body (Err e) x = x
+-- what a talk comes to is within the limit
+pub outcome_within : (end : End) (limit : ℕ) (known : Judged) (outcome : Outcome) → IsOutcomeOf end limit known outcome → IsWithinLimit limit outcome
+outcome_within end limit (decided (refused cause)) outcome x = subst (IsWithinLimit limit) (sym x) tt
+outcome_within end limit (decided (whole format body)) outcome x = within_limit limit format body outcome x
+outcome_within ends.ConnectFailed limit waits outcome x = subst (IsWithinLimit limit) (sym x) tt
+outcome_within ends.WriteFailed limit waits outcome x = subst (IsWithinLimit limit) (sym x) tt
+outcome_within ends.ReadFailed limit waits outcome x = subst (IsWithinLimit limit) (sym x) tt
+outcome_within ends.Ended limit waits outcome x = subst (IsWithinLimit limit) (sym x) tt
+outcome_within ends.Left limit waits outcome x = absurd x
+outcome_within ends.ConnectFailed limit (goes_on format body) outcome x = subst (IsWithinLimit limit) (sym x) tt
+outcome_within ends.WriteFailed limit (goes_on format body) outcome x = subst (IsWithinLimit limit) (sym x) tt
+outcome_within ends.ReadFailed limit (goes_on format body) outcome x = subst (IsWithinLimit limit) (sym x) tt
+outcome_within ends.Ended limit (goes_on format body) outcome x = within_limit limit format body outcome x
+outcome_within ends.Left limit (goes_on format body) outcome x = absurd x

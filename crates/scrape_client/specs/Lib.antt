@@ -1,2 +1,3 @@
 pub mod Scraping
 pub mod Exchanges
+pub mod PageReplies

@@ -2,9 +2,10 @@
 #![tactic(auto)]
 
 mod one_scrape;
-mod page_outcome;
-mod stop;
+mod page_reply;
+mod page_so_far;
 mod talk;
+mod turn;
 
 pub use bridge_ports::Target;
 pub use one_scrape::{outcome, scrape};

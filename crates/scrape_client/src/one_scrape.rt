@@ -1,17 +1,16 @@
 //! One scrape: what it does to a wire, and the event that it gives.
 ghost use Rattle.std.specs.Prelude.{◌≡◌, ◌≢◌, ℕ, ◌≤◌, [], List, IfOk};
-ghost use Rattle.http_talk.specs.ReplyReading.{Stands};
 ghost use Rattle.bridge_ports.specs.declared.talk.Stage.TheVariants as stages;
 ghost use Rattle.bridge_ports.specs.declared.talk.End.TheVariants as ends;
 ghost use Rattle.http_talk.specs.Replies.{IsBodyLimit, HasOutcome};
 ghost use Rattle.scrape_client.specs.Scraping.{IsSampleLimit, ScrapeAnswer};
-ghost use Rattle.scrape_client.specs.Exchanges.{IsSaidAt, HasShortBody};
+ghost use Rattle.scrape_client.specs.Exchanges.{IsOutcomeAt};
+ghost use Rattle.scrape_client.specs.PageReplies.{ReadsPage, most_of};
 
-use crate::page_outcome::outcome_of;
-use crate::stop::{NoBody, no_body};
-use crate::talk::{end_reply, exchange};
+use crate::page_reply::PageReply;
+use crate::talk::exchange;
 use bridge_ports::{End, Target, Wire};
-use http_talk::{Body, Progress, Reply, get_text};
+use http_talk::{Progress, get_text};
 use label_sets::Memory;
 use page_model::{Cause, Event, Outcome};
 use std::alloc::{AllocError, Global};
@@ -50,15 +49,14 @@ pub fn scrape<W: Wire>(
     let Ok(text) = get_text(alloc, target.address()) else {
         return Err(AllocError);
     };
-    let Ok(reply) = Reply::new(alloc, max_page) else {
-        return Err(AllocError);
-    };
     let Ok(()) = wire.ready(alloc, 1, text.len() as u64) else {
         return Err(AllocError);
     };
+    let Ok(reply) = PageReply::new(alloc, limit, max_page) else {
+        return Err(AllocError);
+    };
     let reading = wire.begin(due);
-    let said = exchange(wire, text.as_slice(), reply);
-    match outcome_of(alloc, said, limit) {
+    match exchange(wire, text.as_slice(), reply) {
         Ok(outcome) => Ok(Event { reading, outcome }),
         Err(AllocError) => Err(AllocError),
     }
@@ -83,27 +81,25 @@ pub fn outcome(
     ensures { IfOk result (λ outcome. (at : ℕ) (sent : List ℕ) → HasOutcome limit max_page
         (record { at = at; sent = sent; got = got.now; end = end }) outcome) }
 {
-    let reply = Reply::new(alloc, max_page)?;
-    let said = said_at(reply, got, end);
-    outcome_of(alloc, said, limit)
+    let reply = PageReply::new(alloc, limit, max_page)?;
+    outcome_at(reply, got, end)
 }
 
-/// What a reply that was fed nothing comes to, once it is fed these bytes and the talk ends so.
-fn said_at(reply: Reply, got: &[u8], end: End) -> Result<Body, NoBody>
-    requires fresh { Stands [] reply }
+/// What a reply of which nothing came comes to, once it is fed these bytes and the talk ends so.
+fn outcome_at(reply: PageReply, got: &[u8], end: End) -> Result<Outcome, Memory>
+    requires fresh { ReadsPage reply.limit [] reply }
     requires ended { end ≢ ends.Left }
-    ensures said { IsSaidAt reply.most got.now end result }
-    ensures short { HasShortBody reply.most result }
+    ensures { IfOk result (IsOutcomeAt reply.limit (most_of reply) got.now end) }
 {
     let mut reply = reply;
-    match reply.feed(got) {
-        Ok(Progress::Whole) => end_reply(reply),
+    match reply.feed_all(got) {
+        Ok(Progress::Whole) => reply.finish(),
         Ok(Progress::More) => match end {
-            End::ConnectFailed => Err(NoBody::Failed(Cause::Connect)),
-            End::WriteFailed => Err(NoBody::Failed(Cause::Write)),
-            End::ReadFailed => Err(NoBody::Failed(Cause::Read)),
-            End::Ended | End::Left => end_reply(reply),
+            End::ConnectFailed => Ok(reply.fail(Cause::Connect)),
+            End::WriteFailed => Ok(reply.fail(Cause::Write)),
+            End::ReadFailed => Ok(reply.fail(Cause::Read)),
+            End::Ended | End::Left => reply.finish(),
         },
-        Err(fault) => Err(no_body(fault)),
+        Err(fault) => reply.refuse(fault),
     }
 }

@@ -11,4 +11,5 @@ mod scrape_client_calls;
 mod series_table_calls;
 mod std_edge_calls;
 mod std_world_calls;
+mod stream_calls;
 mod told_visits;

@@ -1,16 +1,20 @@
 -- A run of the bytes of a chunk.
-use Rattle.std.proofs.Common.{rules, ◌≡◌, ◌++◌, take, arith}
-use Rattle.http_talk.proofs.ChunkRuns.{run_of, going_bounds, left_some}
+use Rattle.std.proofs.Common.{◌<◌, ◌+◌, ◌≡◌, ap, subst, sym, ◌∙◌, length, arith}
+use Rattle.http_talk.specs.declared.chunk_place.ChunkPlace.TheVariants.{Bytes}
+use Rattle.http_talk.specs.ChunkFeeding.{TakesRun, IsChunkPlace}
+use Rattle.http_talk.proofs.ChunkSteps.{took_run, going_room, counted}
 use Rattle.http_talk.proofs.chunk_reader.ChunkReader.take_run.Goals as goal
 
 pub returns : goal.returns
 returns c =
     let inside = c.self.inside in
-    let bounds = going_bounds _ _ _ _ c.args.self.now c.self.view_is c.requires.going in
-    let some = left_some _ _ _ _ _ c.self.view_is c.requires.place c.self.invariant in
-    let items : c.extend_from_slice.new.self.items ≡ inside.held.items ++ take c.min-count.result c.args.piece.now = search rules in
-    let size = inside.held.ok.0 in (
-      omega (arith, bounds.0, bounds.1, some, size),
-      omega (arith),
-      run_of _ _ _ _ _ _ _ _ _ _ c.self.view_is c.requires.place some bounds.0 bounds.1 (omega (arith, bounds.0, bounds.1, some, size)) (omega arith) (omega (arith, bounds.0, size)) (omega (arith, bounds.1)) c.behind_bytes-self-inside.ensures.place items,
-    )
+    let room = going_room c.args.most c.args.self.now c.requires.going in
+    let body = ap (λ v. v.body) c.self.view_is in
+    let got = ap (λ v. v.got) c.self.view_is in
+    let at : inside.place ≡ Bytes c.args.left = ap (λ v. v.place) c.self.view_is ∙ c.requires.place in
+    let some : 0 < c.args.left = subst IsChunkPlace at c.self.invariant in
+    let count = c.min-count.result in
+    let behind = c.behind_bytes-self-inside.result in
+    subst (λ v. TakesRun c.args.most v (counted behind (inside.body + count) (inside.got + count)) c.args.piece.now count) c.self.view_is
+    (took_run c.args.most c.args.left count inside.got inside.body inside.place behind c.args.piece.now at some (omega arith) (omega arith)
+    (omega (arith, room.0, body)) (omega (arith, room.1, got)) (λ long. omega (arith, long, some, room.0, room.1, body, got)) c.behind_bytes-self-inside.ensures.place)
