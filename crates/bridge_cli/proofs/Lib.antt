@@ -1,4 +1,5 @@
-mod RunLaws
 mod CommandLaws
-mod AnswerLaws
 mod PrintLaws
+mod EndLaws
+mod ReadLaws
+mod RunLaws

@@ -1,3 +1,4 @@
 pub mod Answers
-pub mod ProgramOutputs
+pub mod CommandReads
+pub mod CommandRuns
 pub mod Printed

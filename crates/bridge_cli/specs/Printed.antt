@@ -1,6 +1,6 @@
 -- What is to be printed, and what was.
 -- The bridge's own.
-use Rattle.std.specs.Prelude.{◌≡◌, ◌⊎◌, ℕ, false, ◌++◌, codes, List, [], Option, ⊤}
+use Rattle.std.specs.Prelude.{◌≡◌, ◌≢◌, ◌⊎◌, ℕ, true, false, ◌++◌, codes, List, [], Option, ⊤}
 use Rattle.std.specs.Cow.{cow_slice_items}
 use Rattle.std.specs.Io.KnownBytes.{Appends}
 use Rattle.bridge_ports.specs.Writing.{WroteFront}
@@ -10,20 +10,20 @@ use Rattle.bridge_cli.specs.declared.answer.Printed.{Printed}
 use Rattle.bridge_cli.specs.declared.answer.Printed.TheVariants.{Whole, Tree, Bodies, Report}
 use Rattle.program_words.specs.declared.status.Status.{Status}
 use Rattle.program_words.specs.declared.status.Status.TheVariants.{Done, WriteFailed, WantOfMemory}
-use Rattle.program_words.specs.Statuses.{code_of, IsTold}
+use Rattle.program_words.specs.Statuses.{code_of}
 use Rattle.script_commands.specs.Replays.{IsReplayWith, MayBeCut}
 use Rattle.program_words.specs.declared.stop.Stop.{Stop}
 use Rattle.program_words.specs.declared.words.Command.{Command}
-use Rattle.program_words.specs.CommandWords.{IsCommand, AskForNo, prints_pieces}
-use Rattle.bridge_ports.specs.Inputs.{IsInput}
+use Rattle.program_words.specs.CommandWords.{command_row, uses_shelf}
+use Rattle.bridge_ports.specs.Outside.{Outside}
 use Rattle.load_pages.specs.GeneratedScripts.{TakesAllBodies}
 use Rattle.script_commands.specs.Loads.{IsLoadReport, MayBeReported}
 use Rattle.bridge_ports.specs.Worlds.{ShelvedPair}
 use Rattle.script_commands.specs.Shelves.{IsShelfOf}
 use Rattle.program_words.specs.StopAnswers.{IsStopAnswer}
-use Rattle.bridge_cli.specs.Answers.{Answers, CutAnswers, IsAnswer}
+use Rattle.bridge_cli.specs.Answers.{Says}
 use Rattle.program_words.specs.InputAnswers.{HasAnswer}
-use Rattle.bridge_cli.specs.ProgramOutputs.{HasCutAnswer, HasVisitAnswer}
+use Rattle.bridge_cli.specs.CommandRuns.{HasVisitAnswer}
 
 -- this is the text that is to be printed
 abbrev pub Gives : Printed → List ℕ → Type 0
@@ -73,41 +73,27 @@ IsShelved (Tree request) before after = ⊤
 IsShelved (Bodies script scrapers page) before after = IsShelfOf script before after
 IsShelved (Report script) before after = IsShelfOf script before after
 
--- ---- what a command and words have printed
+-- ---- what a command has to print
 
--- a text is an answer of a command, or of the part that it has printed
-pub data IsPartOf (command : Command) (bytes : List ℕ) : List ℕ → Type 0 where
-  part_of_whole : (status : ℕ) (text : List ℕ) → Answers command bytes status text → IsPartOf command bytes text
-  part_of_some : (text : List ℕ) → CutAnswers command bytes text → IsPartOf command bytes text
-
--- some bytes that may have been on the input give a text of which a command prints a front
-pub record HasPartOf (command : Command) (left : Option (List ℕ)) (text : List ℕ) : Type 0 where
-  pub bytes : List ℕ
-  pub on_input : IsInput left bytes
-  pub says : IsPartOf command bytes text
-
--- what is printed of visits answers a command over the script that is visited; else the command visits nothing
+-- what is printed of visits over wires in memory answers a command over the script that is visited; else the command puts nothing on a shelf
 abbrev pub AnswersVisits : Command → Option (List ℕ) → Printed → Type 0
-AnswersVisits command left (Whole t) = prints_pieces command ≡ false
-AnswersVisits command left (Tree request) = prints_pieces command ≡ false
+AnswersVisits command left (Whole t) = (command_row command).uses ≢ uses_shelf
+AnswersVisits command left (Tree request) = (command_row command).uses ≢ uses_shelf
 AnswersVisits command left (Bodies script scrapers page) = (text : List ℕ) → IsReplayWith page script text → HasVisitAnswer command left script text
 AnswersVisits command left (Report script) = (text : List ℕ) → IsLoadReport script text → HasVisitAnswer command left script text
 
--- what a command that is done has to print
-pub record IsPrintedOf (command : Command) (left : Option (List ℕ)) (p : Printed) : Type 0 where
-  pub gives : (text : List ℕ) → Gives p text → HasAnswer (Answers command) left (code_of Done) text
-  pub parts : (text : List ℕ) → GivesPart p text → HasPartOf command left text
-  pub printable : IsPrintable Done p
-  pub whole : prints_pieces command ≡ false → IsWhole p
-  pub visits : AnswersVisits command left p
-
--- what words that ask for a command that is done have to print
-pub record IsPrintedFor (words : List (List ℕ)) (left : Option (List ℕ)) (status : Status) (p : Printed) : Type 0 where
-  pub gives : IsTold (code_of status) → (text : List ℕ) → Gives p text → HasAnswer (IsAnswer words) left (code_of status) text
-  pub parts : IsTold (code_of status) → (text : List ℕ) → GivesPart p text → HasCutAnswer words left text
+-- what a command, at a status, has to print; of a world before it and now, which is left alone where all is made before it is printed
+pub record IsPrintedOf (command : Command) (left : Option (List ℕ)) (before after : Outside) (status : Status) (p : Printed) : Type 0 where
+  pub gives : (now : Outside) → (IsWhole p → now ≡ after) → (text : List ℕ) → Gives p text → HasAnswer (Says command before now) left (code_of status) text
+  pub parts : (now : Outside) (text : List ℕ) → GivesPart p text → ¬ IsWhole p → HasAnswer (Says command before now) left (code_of WantOfMemory) text
   pub printable : IsPrintable status p
-  pub whole : AskForNo prints_pieces words → IsWhole p
-  pub visits : status ≡ Done → (command : Command) → IsCommand words command → AnswersVisits command left p
+  pub whole : (command_row command).prints_pieces ≡ false → IsWhole p
+  pub shelves : ¬ IsWhole p → (command_row command).uses ≡ uses_shelf
+  pub visits : status ≡ Done → AnswersVisits command left p
+
+-- the status of a command that has something to print: done; or of one that prints in pieces, where memory was wanting for a part
+abbrev pub IsOver : Command → Status → Type 0
+IsOver command status = (status ≡ Done) ⊎ ((status ≡ WantOfMemory) × ((command_row command).prints_pieces ≡ true))
 
 -- the answer to a stop is printed whole
 abbrev pub IsStopPrinted : Stop → Status → Printed → Type 0
@@ -115,3 +101,10 @@ IsStopPrinted stop status (Whole t) = IsStopAnswer stop status (cow_slice_items 
 IsStopPrinted stop status (Tree request) = ⊥
 IsStopPrinted stop status (Bodies script scrapers page) = ⊥
 IsStopPrinted stop status (Report script) = ⊥
+
+-- the report of a run is printed whole
+abbrev pub IsReportPrinted : List ℕ → Printed → Type 0
+IsReportPrinted text (Whole t) = cow_slice_items t ≡ text
+IsReportPrinted text (Tree request) = ⊥
+IsReportPrinted text (Bodies script scrapers page) = ⊥
+IsReportPrinted text (Report script) = ⊥

@@ -38,8 +38,8 @@ pub(crate) struct Answer {
 }
 
 /// The answer where a command stops.
-pub(crate) fn stop_answer(alloc: Global, stop: Stop) -> Answer
-    ensures { IsStopPrinted stop result.status result.printed }
+pub(crate) fn stop_answer(alloc: Global, stop: &Stop) -> Answer
+    ensures { IsStopPrinted stop.now result.status result.printed }
 {
     match stop_text(alloc, stop) {
         Ok(text) => Answer {

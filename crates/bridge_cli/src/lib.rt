@@ -1,5 +1,5 @@
-//! The commands over an input and an output: what each prints, the scrapers that visit the targets of a script, and the
-//! status.
+//! The commands over an input, an output and a world: what each prints, the scrapers that visit the targets of a script,
+//! and the status.
 #![tactic(auto)]
 
 mod answer;
@@ -8,5 +8,4 @@ mod printing;
 mod program;
 mod turns;
 
-pub use program::bridge;
-pub use program_words::Status;
+pub use program::execute;

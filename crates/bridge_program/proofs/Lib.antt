@@ -1,1 +1,1 @@
-pub mod RunEnds
+mod Commands

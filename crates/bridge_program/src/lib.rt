@@ -1,8 +1,6 @@
-//! The program over a world: `run`, and the commands over an input and an output.
+//! The program: what the words of its command line ask for is done over an input, an output and a world.
 #![tactic(auto)]
 
 mod program;
-mod run_end;
-mod run_words;
 
 pub use program::bridge;

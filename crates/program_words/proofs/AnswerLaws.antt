@@ -1,8 +1,8 @@
 -- Answers to the bytes on an input, and those that are always the same.
-use Rattle.std.proofs.Common.{◌≡◌, ◌≢◌, ℕ, List, [], Option, Some, None, refl, sym, subst, ◌∙◌, arith}
+use Rattle.std.proofs.Common.{◌≡◌, ℕ, List, [], Option, Some, None, refl, sym, subst, ◌∙◌}
 use Rattle.std.specs.Prelude.{IsSome}
 use Rattle.bridge_ports.specs.Inputs.{IsInput}
-use Rattle.program_words.specs.declared.status.Status.TheVariants.{Done, NoForm}
+use Rattle.program_words.specs.declared.status.Status.TheVariants.{Done}
 use Rattle.program_words.specs.Statuses.{code_of}
 use Rattle.program_words.specs.HelpTexts.{IsFixedAnswer}
 use Rattle.program_words.specs.InputAnswers.{HasAnswer}
@@ -27,10 +27,6 @@ AreSame status other text printed = (status ≡ other) × (text ≡ printed)
 -- a command that prints always the same has one answer
 pub fixed_once : (fixed : List ℕ) (s r : ℕ) (t u : List ℕ) → IsFixedAnswer fixed s t → IsFixedAnswer fixed r u → AreSame s r t u
 fixed_once fixed s r t u a b = (a.done ∙ sym b.done, a.says ∙ sym b.says)
-
--- a command that prints always the same doesn't answer that the words fit no form
-pub fixed_form : (fixed : List ℕ) (status : ℕ) (text : List ℕ) → IsFixedAnswer fixed status text → status ≢ code_of NoForm
-fixed_form fixed status text says e = omega (arith, says.done, e)
 
 -- what an input tells is one
 pub same_input : (left : Option (List ℕ)) (bytes others : List ℕ) → IsSome left → IsInput left bytes → IsInput left others → bytes ≡ others

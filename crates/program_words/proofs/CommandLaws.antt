@@ -7,13 +7,13 @@ use Rattle.std.proofs.lemmas.Fmt.{decimal_is_IsNumeral}
 use Rattle.page_model.specs.declared.format.Format.{Format}
 use Rattle.page_model.specs.declared.format.Format.TheVariants.{Text, OpenMetrics}
 use Rattle.program_words.specs.declared.words.Command.{Command}
-use Rattle.program_words.specs.declared.words.Command.TheVariants.{Help, Version, Check, Convert, Replay, Load}
+use Rattle.program_words.specs.declared.words.Command.TheVariants.{Help, Version, Check, Convert, Replay, Run, Load}
 use Rattle.replay_script.specs.ScriptParts.{format_word}
 use Rattle.series_select.specs.declared.selector.Selector.{Selector}
 use Rattle.series_select.specs.Selectors.{SpellEach}
 use Rattle.series_select.specs.SelectorReading.{selector_in}
 use Rattle.series_select.proofs.Laws.{selector_complete}
-use Rattle.program_words.specs.CommandWords.{word_if, ArePageWords, AreScrapers, SpellsCommand, IsInLimits, IsCommand, prints_pieces, takes_memory}
+use Rattle.program_words.specs.CommandWords.{word_if, ArePageWords, AreScrapers, IsCommand, command_row, takes_memory}
 use Rattle.std.proofs.lemmas.Bool.{true≢false}
 use Rattle.program_words.proofs.WordLaws.{number_no_page}
 use Rattle.program_words.proofs.PlaceLaws.{target_of, told_target}
@@ -75,7 +75,7 @@ replay_told (Some n) page behind few are =
 -- the command other than a replay whose words these are, if they are those of one
 abbrev told_other : List (List ℕ) → Command
 told_other (word ∷ []) = lone_command word
-told_other (verb ∷ word ∷ []) = Check (told_format word)
+told_other (verb ∷ word ∷ []) = cond (bytes_eq verb (codes "run")) (Run word) (Check (told_format word))
 told_other (verb ∷ format ∷ job ∷ instance ∷ time ∷ []) = Convert (told_format format) (target_of job instance) (digits_value 10 time)
 told_other (verb ∷ number ∷ targets ∷ rounds ∷ []) = Load (digits_value 10 number) (digits_value 10 targets) (digits_value 10 rounds)
 told_other _ = Help
@@ -86,9 +86,10 @@ told_by [] = Help
 told_by (verb ∷ words) = cond (bytes_eq verb (codes "replay")) (told_replay words) (told_other (verb ∷ words))
 
 -- the words of a command tell it
-told : (command : Command) (words : List (List ℕ)) → SpellsCommand command words → IsInLimits command → told_by words ≡ command
+told : (command : Command) (words : List (List ℕ)) → (command_row command).words words → (command_row command).limits → told_by words ≡ command
 told Help words spelled limits = ap told_by spelled
 told Version words spelled limits = ap told_by spelled
+told (Run path) words spelled limits = ap told_by spelled
 told (Replay scrapers page) words spelled limits = ap told_by spelled.1 ∙ replay_told scrapers page spelled.0 limits.0 spelled.2
 told (Load number targets rounds) words spelled limits =
     let n = (decimal_is_IsNumeral number (omega (arith, limits.small))).1 in
@@ -107,7 +108,8 @@ pub one_command : (words : List (List ℕ)) (c d : Command) → IsCommand words 
 one_command words c d a b = sym (told c words a.spelled a.limits) ∙ told d words b.spelled b.limits
 
 -- what prints in pieces takes memory
-pub pieces_take : (command : Command) → takes_memory command ≡ false → prints_pieces command ≡ false
+pub pieces_take : (command : Command) → takes_memory command ≡ false → (command_row command).prints_pieces ≡ false
 pieces_take (Replay scrapers page) e = absurd (true≢false e)
+pieces_take (Run path) e = absurd (true≢false e)
 pieces_take (Load number targets rounds) e = absurd (true≢false e)
 pieces_take _ e = refl

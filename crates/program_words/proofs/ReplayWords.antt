@@ -1,5 +1,5 @@
 -- The words of a replay: when they fit its form, and what they then ask for.
-use Rattle.std.proofs.Common.{◌≡◌, ◌≢◌, ℕ, suc, ◌+◌, ◌≤◌, ◌<◌, Bool, true, false, List, [], ◌∷◌, ◌++◌, map, take, get_or, length, Option, Some, None, refl, sym, ap, subst, ◌∙◌, arith}
+use Rattle.std.proofs.Common.{◌≡◌, ◌≢◌, ℕ, suc, ◌+◌, ◌≤◌, ◌<◌, true, false, List, [], ◌∷◌, ◌++◌, map, take, get_or, length, Option, Some, None, refl, sym, ap, subst, ◌∙◌, arith}
 use Rattle.std.specs.Prelude.{zero, codes, ◌&&◌, nat_le, IfNone}
 use Rattle.std.specs.Fmt.{decimal}
 use Rattle.std.specs.List.{list_all}
@@ -7,13 +7,12 @@ use Rattle.std.specs.Str.{bytes_eq}
 use Rattle.std.proofs.lemmas.Bool.{and_parts, true≢false}
 use Rattle.std.proofs.lemmas.Bool.Decides.{nat_tests}
 use Rattle.std.proofs.lemmas.Slice.Eq.{bytes_eq-Decides}
-use Rattle.replay_script.specs.ScriptParts.{format_word}
 use Rattle.series_select.specs.declared.selector.Selector.{Selector}
 use Rattle.series_select.specs.Selectors.{SpellsSelector, IsNoSelector, SpellEach}
 use Rattle.series_select.proofs.Laws.{selector_told, selector_complete, spelled_length, spelled-more}
 use Rattle.program_words.specs.declared.words.Command.{Command}
-use Rattle.program_words.specs.declared.words.Command.TheVariants.{Help, Version, Check, Convert, Replay, Load}
-use Rattle.program_words.specs.CommandWords.{word_if, ArePageWords, AreFewSelectors, SpellsCommand, IsInLimits, IsCommand, FitNoForm, AskFor, takes_memory}
+use Rattle.program_words.specs.declared.words.Command.TheVariants.{Help, Version, Check, Convert, Replay, Run, Load}
+use Rattle.program_words.specs.CommandWords.{word_if, ArePageWords, AreFewSelectors, command_row, IsCommand, FitNoForm, AskFor, takes_memory}
 use Rattle.program_words.specs.WordSteps.{FitNoOther, AskForNoReplay, is_replay, is_selector, are_page_words, AreCutAt, SayNoScrapers}
 use Rattle.program_words.proofs.WordLaws.{number_no_page}
 
@@ -109,7 +108,7 @@ replay_asked words rest scrapers cut fits =
     (Replay scrapers page.0, replay_found words rest scrapers page.0 cut fits page.1, refl)
 
 -- what follows a number of scrapers is told by the words
-same_rest : (s t : Option ℕ) (rest behind : List (List ℕ)) (page : Option (List Selector)) → word_if s ++ rest ≡ word_if t ++ behind → (s ≡ None → SayNoScrapers rest) → IsInLimits (Replay s None) → IsInLimits (Replay t page)
+same_rest : (s t : Option ℕ) (rest behind : List (List ℕ)) (page : Option (List Selector)) → word_if s ++ rest ≡ word_if t ++ behind → (s ≡ None → SayNoScrapers rest) → (command_row (Replay s None)).limits → (command_row (Replay t page)).limits
     → ArePageWords page behind → rest ≡ behind
 same_rest None None rest behind page e no_more few limits are = e
 same_rest (Some n) (Some m) rest behind page e no_more few limits are = cc
@@ -122,25 +121,21 @@ same_rest (Some n) None rest behind (Some list) e no_more few limits are =
     absurd (true≢false (sym ((bytes_eq-Decides (decimal n) (codes "page")).1 named) ∙ number_no_page n few.0.1))
 
 -- words that begin in another way are others
-unlike : (a b : List ℕ) (xs ys : List (List ℕ)) → bytes_eq a b ≡ false → a ∷ xs ≡ b ∷ ys → ⊥
-unlike a b xs ys other e =
+unlike : (a b : List ℕ) (xs ys : List (List ℕ)) → a ∷ xs ≡ b ∷ ys → bytes_eq a b ≡ false → ⊥
+unlike a b xs ys e other =
     let same : a ≡ b = cc in
     true≢false (sym ((bytes_eq-Decides a b).1 same) ∙ other)
 
 pub no_replay : (words rest : List (List ℕ)) (scrapers : Option ℕ) → AreCutAt words scrapers rest → are_page_words rest ≡ false → FitNoForm (codes "replay" ∷ words)
 no_replay words rest scrapers cut none command asked = by command asked.spelled asked.limits
   where
-    by : (command : Command) → SpellsCommand command (codes "replay" ∷ words) → IsInLimits command → ⊥
-    by Help spelled limits = unlike (codes "replay") (codes "--help") words [] refl spelled
-    by Version spelled limits = unlike (codes "replay") (codes "--version") words [] refl spelled
-    by (Check f) spelled limits = unlike (codes "replay") (codes "check") words (format_word f ∷ []) refl spelled
-    by (Convert f target nanos) spelled limits = unlike (codes "replay") (codes "convert") words (format_word f ∷ target.job ∷ target.instance ∷ decimal nanos ∷ []) refl spelled
-    by (Load n t r) spelled limits = unlike (codes "replay") (codes "load") words (decimal n ∷ decimal t ∷ decimal r ∷ []) refl spelled
+    by : (command : Command) → (command_row command).words (codes "replay" ∷ words) → (command_row command).limits → ⊥
     by (Replay s page) spelled limits =
         let behind = spelled.0 in
         let same : words ≡ word_if s ++ behind = cc in
         let rest_is : rest ≡ behind = same_rest scrapers s rest behind page (sym cut.spelled ∙ same) cut.no_more (cut.limits, tt) limits spelled.2 in
         true≢false (sym (page_fits page behind spelled.2 limits.1) ∙ ap are_page_words (sym rest_is) ∙ none)
+    by _ spelled limits = unlike (codes "replay") _ words _ spelled refl
 
 -- ---- the words of all commands
 
@@ -149,12 +144,8 @@ no_other_form : (words : List (List ℕ)) → FitNoOther words → AskForNoRepla
 no_other_form words none no_replay command asked = by command asked
   where
     by : (command : Command) → IsCommand words command → ⊥
-    by Help asked = none Help refl asked
-    by Version asked = none Version refl asked
-    by (Check f) asked = none (Check f) refl asked
-    by (Convert f target nanos) asked = none (Convert f target nanos) refl asked
-    by (Load n t r) asked = none (Load n t r) refl asked
     by (Replay s page) asked = no_replay (word_if s ++ asked.spelled.0) asked.spelled.1
+    by _ asked = none _ refl asked
 
 -- what is not found among the others is not found at all
 pub none_at_all : (words : List (List ℕ)) (found : Option Command) → IfNone found (FitNoOther words) → AskForNoReplay words → IfNone found (FitNoForm words)
@@ -165,9 +156,10 @@ none_at_all words (Some command) none no_replay = tt
 pub other_number : (words : List (List ℕ)) → length words ≢ 1 → length words ≢ 2 → length words ≢ 4 → length words ≢ 5 → FitNoOther words
 other_number words one two four five command other asked = by command other asked.spelled
   where
-    by : (command : Command) → is_replay command ≡ false → SpellsCommand command words → ⊥
+    by : (command : Command) → is_replay command ≡ false → (command_row command).words words → ⊥
     by Help other spelled = one (ap (length {A = List ℕ}) spelled)
     by Version other spelled = one (ap (length {A = List ℕ}) spelled)
+    by (Run path) other spelled = two (ap (length {A = List ℕ}) spelled)
     by (Check f) other spelled = two (ap (length {A = List ℕ}) spelled)
     by (Convert f target nanos) other spelled = five (ap (length {A = List ℕ}) spelled)
     by (Load n t r) other spelled = four (ap (length {A = List ℕ}) spelled)

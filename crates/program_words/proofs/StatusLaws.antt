@@ -5,10 +5,6 @@ use Rattle.program_words.specs.declared.status.Status.{Status}
 use Rattle.program_words.specs.declared.status.Status.TheVariants as statuses
 use Rattle.program_words.specs.Statuses.{code_of, IsTold, IsUntold}
 
--- that status has a text
-pub form_told : (status : ℕ) → status ≡ code_of statuses.NoForm → IsTold status
-form_told status e = (λ f. omega (arith, e, f), λ f. omega (arith, e, f), λ f. omega (arith, e, f))
-
 -- each status but that of a failed write has a text or none
 pub told_or_not : (status : Status) → status ≢ statuses.WriteFailed → IsTold (code_of status) ⊎ IsUntold (code_of status)
 told_or_not statuses.ReadFailed other = inr (inl refl)
@@ -24,7 +20,7 @@ done_told status e = subst (λ s. IsTold (code_of s)) (sym e) (omega arith, omeg
 abbrev status_with : ℕ → Status
 status_with code =
     cond (nat_eq code 0) statuses.Done (cond (nat_eq code 1) statuses.Refused (cond (nat_eq code 2) statuses.NoForm (cond (nat_eq code 3) statuses.ReadFailed
-    (cond (nat_eq code 4) statuses.WriteFailed (cond (nat_eq code 6) statuses.WantOfMemory (cond (nat_eq code 7) statuses.ScriptRefused statuses.TooLong))))))
+    (cond (nat_eq code 4) statuses.WriteFailed (cond (nat_eq code 5) statuses.ConfigRefused (cond (nat_eq code 6) statuses.WantOfMemory (cond (nat_eq code 7) statuses.ScriptRefused statuses.TooLong)))))))
 
 -- its code tells it
 status_back : (s : Status) → status_with (code_of s) ≡ s

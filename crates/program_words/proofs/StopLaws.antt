@@ -7,7 +7,7 @@ use Rattle.bridge_ports.specs.Inputs.{TookAtMost, IsReadThrough}
 use Rattle.program_words.specs.declared.status.Status.{Status}
 use Rattle.program_words.specs.declared.status.Status.TheVariants as statuses
 use Rattle.program_words.specs.declared.stop.Stop.{Stop}
-use Rattle.program_words.specs.declared.stop.Stop.TheVariants.{NoForm, Refused, BadScript, TooLong, Read, Memory}
+use Rattle.program_words.specs.declared.stop.Stop.TheVariants.{Refused, BadScript, BadConfig, TooLong, Read, Memory}
 use Rattle.program_words.specs.Statuses.{code_of, IsTold, IsUntold, TellsFault}
 use Rattle.program_words.specs.Stops.{StopCause, stop_status, IsUnread}
 use Rattle.program_words.specs.StopInputs.{StopLeaves, Leaves}
@@ -29,9 +29,9 @@ stop_leaves most left after before now (Err s) stop is leaves =
 -- what is printed is the answer, at the statuses with a text
 pub stop_told : (Says : List ℕ → ℕ → List ℕ → Type 0) (left : Option (List ℕ)) (stop : Stop) (status : Status) (text : List ℕ) → IsStopAnswer stop status text → StopsAs Says left stop
     → IsTold (code_of status) → HasAnswer Says left (code_of status) text
-stop_told Says left NoForm status text said has told = has
 stop_told Says left (Refused line rule) status text said has told = has
 stop_told Says left (BadScript line) status text said has told = has
+stop_told Says left (BadConfig fault) status text said has told = has
 stop_told Says left TooLong status text said has told = has
 stop_told Says left Read status text said has told = absurd (told.0 refl)
 stop_told Says left Memory status text said has told = absurd (told.2 refl)
@@ -39,9 +39,9 @@ stop_told Says left stop status text (wanting takes) has told = absurd (told.2 r
 
 -- nothing is printed at the others
 pub stop_untold : (stop : Stop) (status : Status) (text : List ℕ) → IsStopAnswer stop status text → IsUntold (code_of status) → text ≡ []
-stop_untold NoForm status text said untold = absurd (omega (arith, untold))
 stop_untold (Refused line rule) status text said untold = absurd (omega (arith, untold))
 stop_untold (BadScript line) status text said untold = absurd (omega (arith, untold))
+stop_untold (BadConfig fault) status text said untold = absurd (omega (arith, untold))
 stop_untold TooLong status text said untold = absurd (omega (arith, untold))
 stop_untold Read status text said untold = refl
 stop_untold Memory status text said untold = refl
@@ -50,9 +50,9 @@ stop_untold stop status text (wanting takes) untold = refl
 -- at the statuses with a text the input was read through
 pub stop_through : (most : ℕ) (left after : Option (List ℕ)) (before now : ℕ) (stop : Stop) (status : Status) (text : List ℕ) → IsStopAnswer stop status text → StopLeaves most left after before now stop
     → IsTold (code_of status) → IsReadThrough most left after
-stop_through most left after before now NoForm status text said leaves told = absurd leaves.0
 stop_through most left after before now (Refused line rule) status text said leaves told = inl leaves.0
 stop_through most left after before now (BadScript line) status text said leaves told = inl leaves.0
+stop_through most left after before now (BadConfig fault) status text said leaves told = absurd leaves.0
 stop_through most left after before now TooLong status text said leaves told = inr leaves.0
 stop_through most left after before now Read status text said leaves told = absurd (told.0 refl)
 stop_through most left after before now Memory status text said leaves told = absurd (told.2 refl)
@@ -61,9 +61,9 @@ stop_through most left after before now stop status text (wanting takes) leaves 
 -- unless it was too long, no more was taken than the limit
 pub stop_in_part : (most : ℕ) (left after : Option (List ℕ)) (before now : ℕ) (stop : Stop) (status : Status) (text : List ℕ) → IsStopAnswer stop status text → StopLeaves most left after before now stop
     → status ≢ statuses.TooLong → TookAtMost most left after
-stop_in_part most left after before now NoForm status text answer leaves other = absurd leaves.0
 stop_in_part most left after before now (Refused line rule) status text answer leaves other = leaves.0.took
 stop_in_part most left after before now (BadScript line) status text answer leaves other = leaves.0.took
+stop_in_part most left after before now (BadConfig fault) status text answer leaves other = absurd leaves.0
 stop_in_part most left after before now TooLong status text said leaves other = absurd (other refl)
 stop_in_part most left after before now TooLong status text (wanting takes) leaves other = absurd takes
 stop_in_part most left after before now Read status text answer leaves other = leaves.0
@@ -74,10 +74,10 @@ stop_not : (stop : Stop) (status other : Status) (text : List ℕ) → IsStopAns
 stop_not stop status other text said own memory = own
 stop_not stop status other text (wanting takes) own memory = memory
 
--- its own is neither that of what is done nor that of a failed write
-stop_ends : (stop : Stop) → (stop_status stop ≢ statuses.Done) × (stop_status stop ≢ statuses.WriteFailed)
-stop_ends NoForm = (λ e. absurd cc, λ e. absurd cc)
-stop_ends _ = (λ e. absurd cc, λ e. absurd cc)
+-- its own is neither that of what is done, nor that of a failed write, nor that of words that fit no form
+stop_ends : (stop : Stop) → (stop_status stop ≢ statuses.Done) × (stop_status stop ≢ statuses.WriteFailed) × (stop_status stop ≢ statuses.NoForm)
+stop_ends Read = (λ e. absurd cc, λ e. absurd cc, λ e. absurd cc)
+stop_ends _ = (λ e. absurd cc, λ e. absurd cc, λ e. absurd cc)
 
 -- so it is not done
 pub stop_undone : (stop : Stop) (status : Status) (text : List ℕ) → IsStopAnswer stop status text → status ≢ statuses.Done
@@ -87,15 +87,19 @@ stop_undone stop status text is = stop_not stop status statuses.Done text is (st
 pub stop_written : (stop : Stop) (status : Status) (text : List ℕ) → IsStopAnswer stop status text → status ≢ statuses.WriteFailed
 stop_written stop status text is = stop_not stop status statuses.WriteFailed text is (stop_ends stop).1 (λ e. absurd cc)
 
+-- nor that of words that fit no form
+pub stop_formed : (stop : Stop) (status : Status) (text : List ℕ) → IsStopAnswer stop status text → status ≢ statuses.NoForm
+stop_formed stop status text is = stop_not stop status statuses.NoForm text is (stop_ends stop).2 (λ e. absurd cc)
+
 -- where nothing was read, none is of a read that failed
 pub stop_not_read : (stop : Stop) (status : Status) (text : List ℕ) → IsStopAnswer stop status text → IsUnread stop → status ≢ statuses.ReadFailed
 stop_not_read stop status text is unread = stop_not stop status statuses.ReadFailed text is (by stop unread) (λ e. absurd cc)
   where
     by : (s : Stop) → IsUnread s → stop_status s ≢ statuses.ReadFailed
-    by NoForm u e = absurd cc
     by Memory u e = absurd cc
     by (Refused line rule) u e = u
     by (BadScript line) u e = u
+    by (BadConfig fault) u e = u
     by TooLong u e = u
     by Read u e = u
 
@@ -117,8 +121,8 @@ pub stop_fault : (before now : ℕ) (stop : Stop) (status : Status) (text : List
 stop_fault before now Read status text said cause = tells_fault _ _ before now (λ _. cause) (λ other. absurd (other refl))
 stop_fault before now (Refused line rule) status text (wanting takes) cause = no_fault _ _ before now (λ e. omega (arith, e)) cause
 stop_fault before now (BadScript line) status text (wanting takes) cause = no_fault _ _ before now (λ e. omega (arith, e)) cause
+stop_fault before now (BadConfig fault) status text (wanting takes) cause = no_fault _ _ before now (λ e. omega (arith, e)) cause
 stop_fault before now Memory status text (wanting takes) cause = no_fault _ _ before now (λ e. omega (arith, e)) cause
-stop_fault before now NoForm status text (wanting takes) cause = absurd takes
 stop_fault before now TooLong status text (wanting takes) cause = absurd takes
 stop_fault before now Read status text (wanting takes) cause = absurd takes
 stop_fault before now _ status text said cause = no_fault _ _ before now (λ e. omega (arith, e)) cause

@@ -13,10 +13,10 @@ use Rattle.replay_script.specs.ScriptParts.{format_word}
 use Rattle.load_pages.specs.GeneratedScripts.{IsLoad, most_load_number}
 use Rattle.bridge_ports.specs.Targets.{most_job_bytes}
 use Rattle.program_words.specs.Limits.{most_instance_host, most_nanos, most_scrapers}
-use Rattle.program_words.specs.CommandWords.{SpellsCommand, IsCommand, IsInLimits, SaysScrapers, place_target}
+use Rattle.program_words.specs.CommandWords.{IsCommand, command_row, SaysScrapers, place_target}
 use Rattle.program_words.specs.WordSteps.{FitNoOther, is_replay}
 use Rattle.program_words.specs.declared.words.Command.{Command}
-use Rattle.program_words.specs.declared.words.Command.TheVariants.{Help, Version, Check, Convert, Replay, Load}
+use Rattle.program_words.specs.declared.words.Command.TheVariants.{Convert, Replay, Load}
 
 -- a list of five by its elements
 five : {A : Type 0} (xs : List A) (a b c d e : A) → 5 ≤ length xs → length xs < 6 → a ≡ get_or xs 0 a → b ≡ get_or xs 1 b → c ≡ get_or xs 2 c → d ≡ get_or xs 3 d → e ≡ get_or xs 4 e
@@ -58,15 +58,12 @@ pub no_format : {A : Type 0} (bytes : A → List ℕ) (xs : List A) (a b c d e :
     → a ≡ get_or xs 0 a → b ≡ get_or xs 1 b → c ≡ get_or xs 2 c → d ≡ get_or xs 3 d → e ≡ get_or xs 4 e
     → format ≡ bytes b → ((f : Format) → format ≢ format_word f) → FitNoOther (map bytes xs)
 no_format bytes xs a b c d e format low high at0 at1 at2 at3 at4 is none command other asked =
-    by command other (subst (SpellsCommand command) (sym (ap (map bytes) (five xs a b c d e low high at0 at1 at2 at3 at4))) asked.spelled)
+    by command other (subst (command_row command).words (sym (ap (map bytes) (five xs a b c d e low high at0 at1 at2 at3 at4))) asked.spelled)
   where
-    by : (command : Command) → is_replay command ≡ false → SpellsCommand command (bytes a ∷ bytes b ∷ bytes c ∷ bytes d ∷ bytes e ∷ []) → ⊥
-    by Help other spelled = absurd cc
-    by Version other spelled = absurd cc
-    by (Replay scrapers page) other spelled = true≢false other
-    by (Load n t r) other spelled = absurd cc
-    by (Check f) other spelled = absurd cc
+    by : (command : Command) → is_replay command ≡ false → (command_row command).words (bytes a ∷ bytes b ∷ bytes c ∷ bytes d ∷ bytes e ∷ []) → ⊥
     by (Convert f target nanos) other spelled = let named : bytes b ≡ format_word f = cc in none f (is ∙ named)
+    by (Replay scrapers page) other spelled = true≢false other
+    by _ other spelled = absurd cc
 
 -- a length that was tested not to be 0
 pub not_zero : (n : ℕ) (none : Bool) → none ≡ eqb n 0 → none ≡ false → 1 ≤ n
@@ -133,16 +130,13 @@ load_is number targets rounds n t r a b c is = record {
 pub no_load : (number targets rounds : List ℕ) → ((n t r : ℕ) → IsLoad n t r → number ≡ decimal n → targets ≡ decimal t → rounds ≡ decimal r → ⊥) → FitNoOther (codes "load" ∷ number ∷ targets ∷ rounds ∷ [])
 no_load number targets rounds none command other asked = by command other asked.limits asked.spelled
   where
-    by : (command : Command) → is_replay command ≡ false → IsInLimits command → SpellsCommand command (codes "load" ∷ number ∷ targets ∷ rounds ∷ []) → ⊥
-    by Help other limits spelled = absurd cc
-    by Version other limits spelled = absurd cc
+    by : (command : Command) → is_replay command ≡ false → (command_row command).limits → (command_row command).words (codes "load" ∷ number ∷ targets ∷ rounds ∷ []) → ⊥
     by (Replay scrapers page) other limits spelled = true≢false other
-    by (Check f) other limits spelled = absurd cc
-    by (Convert f target nanos) other limits spelled = absurd cc
     by (Load n t r) other limits spelled =
         let a : number ≡ decimal n = cc in
         let b : targets ≡ decimal t = cc in
         let c : rounds ≡ decimal r = cc in none n t r limits a b c
+    by _ other limits spelled = absurd cc
 
 -- numbers that are no load
 pub not_a_load : (number targets rounds : List ℕ) (n t r : ℕ) (test : Bool) → (number ≡ decimal n) × (n ≤ most_load_number) → (targets ≡ decimal t) × (t ≤ most_load_number) → (rounds ≡ decimal r) × (r ≤ most_load_number)

@@ -1,6 +1,7 @@
 -- The words of the command line. The bridge's own.
 use Rattle.std.specs.Prelude.{◌≡◌, ℕ, ◌≤◌, Bool, true, false, List, [], ◌∷◌, ◌++◌, length, codes, Option, Some, None, ⊤}
 use Rattle.std.specs.Fmt.{decimal}
+use Rattle.page_model.specs.declared.format.Format.{Format}
 use Rattle.bridge_ports.specs.Targets.{Scraped, most_job_bytes}
 use Rattle.plain_words.specs.Places.{IsHostAndPort}
 use Rattle.replay_script.specs.ScriptParts.{format_word}
@@ -8,8 +9,8 @@ use Rattle.load_pages.specs.GeneratedScripts.{IsLoad}
 use Rattle.series_select.specs.declared.selector.Selector.{Selector}
 use Rattle.series_select.specs.Selectors.{SpellEach}
 use Rattle.program_words.specs.declared.words.Command.{Command}
-use Rattle.program_words.specs.declared.words.Command.TheVariants.{Help, Version, Check, Convert, Replay, Load}
-use Rattle.program_words.specs.Limits.{most_page, most_script, most_nanos, most_instance_host, most_scrapers, most_selectors}
+use Rattle.program_words.specs.declared.words.Command.TheVariants.{Help, Version, Check, Convert, Replay, Run, Load}
+use Rattle.program_words.specs.Limits.{most_page, most_script, most_config, most_nanos, most_instance_host, most_scrapers, most_selectors}
 
 -- what is scraped of a host and a port: its metrics, whose times do not count
 unfoldable pub place_target : List ℕ → List ℕ → List ℕ → ℕ → Scraped
@@ -54,68 +55,69 @@ abbrev pub scrapers_asked : Option ℕ → ℕ
 scrapers_asked None = 1
 scrapers_asked (Some n) = n
 
--- ---- the tables of the commands
+-- ---- the table of the commands
 
--- these words ask for a command; numbers are decimal digits without a sign or a leading zero
-abbrev pub SpellsCommand : Command → List (List ℕ) → Type 0
-SpellsCommand Help words = words ≡ codes "--help" ∷ []
-SpellsCommand Version words = words ≡ codes "--version" ∷ []
-SpellsCommand (Check format) words = words ≡ codes "check" ∷ format_word format ∷ []
-SpellsCommand (Convert format target nanos) words = words ≡ codes "convert" ∷ format_word format ∷ target.job ∷ target.instance ∷ decimal nanos ∷ []
-SpellsCommand (Replay scrapers page) words = (behind : List (List ℕ)) × (words ≡ codes "replay" ∷ (word_if scrapers ++ behind)) × ArePageWords page behind
-SpellsCommand (Load number targets rounds) words = words ≡ codes "load" ∷ decimal number ∷ decimal targets ∷ decimal rounds ∷ []
+-- what a command reads: nothing; the input, and at most so many bytes of it; or the file of a path of the world, and at most so many bytes of that
+pub data Reading : Type 0 where
+  of_nothing : Reading
+  of_input : ℕ → Reading
+  of_file : List ℕ → ℕ → Reading
 
--- the ranges of a command's arguments
-abbrev pub IsInLimits : Command → Type 0
-IsInLimits Help = ⊤
-IsInLimits Version = ⊤
-IsInLimits (Check format) = ⊤
-IsInLimits (Convert format target nanos) = IsTarget target × (nanos ≤ most_nanos)
-IsInLimits (Replay scrapers page) = AreScrapers scrapers × AreFewSelectors page
-IsInLimits (Load number targets rounds) = IsLoad number targets rounds
+-- what a command uses of the world: nothing; the shelf, on which it puts the wires of what it visited; or the file of a path, the wires of targets, and a door
+pub data WorldUse : Type 0 where
+  uses_nothing : WorldUse
+  uses_shelf : WorldUse
+  uses_wires : List ℕ → WorldUse
 
--- the command reads the input
-abbrev pub reads_input : Command → Bool
-reads_input Help = false
-reads_input Version = false
-reads_input (Check format) = true
-reads_input (Convert format target nanos) = true
-reads_input (Replay scrapers page) = true
-reads_input (Load number targets rounds) = false
+-- what is said of a command: the words that ask for it, in which numbers are decimal digits without a sign or a leading zero; the ranges of its arguments; what it reads; what it uses of the world; whether it takes memory; and whether it prints in pieces, as they are made, so that a part may be printed where memory was wanting
+pub record CommandRow : Type 1 where
+  pub words : List (List ℕ) → Type 0
+  pub limits : Type 0
+  pub reads : Reading
+  pub uses : WorldUse
+  pub takes_memory : Bool
+  pub prints_pieces : Bool
 
--- the most bytes of the input that the command reads
-abbrev pub most_input : Command → ℕ
-most_input Help = 0
-most_input Version = 0
-most_input (Check format) = most_page
-most_input (Convert format target nanos) = most_page
-most_input (Replay scrapers page) = most_script
-most_input (Load number targets rounds) = 0
+-- the words of a replay: how many scrapers, and the page, where they are asked for
+abbrev pub AreReplayWords : Option ℕ → Option (List Selector) → List (List ℕ) → Type 0
+AreReplayWords scrapers page words = (behind : List (List ℕ)) × (words ≡ codes "replay" ∷ (word_if scrapers ++ behind)) × ArePageWords page behind
 
--- the command prints its text in pieces, as they are made, or part of it where memory was wanted
-abbrev pub prints_pieces : Command → Bool
-prints_pieces Help = false
-prints_pieces Version = false
-prints_pieces (Check format) = false
-prints_pieces (Convert format target nanos) = false
-prints_pieces (Replay scrapers page) = true
-prints_pieces (Load number targets rounds) = true
+-- the words of a conversion
+abbrev pub convert_words : Format → Scraped → ℕ → List (List ℕ)
+convert_words format target nanos = codes "convert" ∷ format_word format ∷ target.job ∷ target.instance ∷ decimal nanos ∷ []
+
+-- the words of a load
+abbrev pub load_words : ℕ → ℕ → ℕ → List (List ℕ)
+load_words number targets rounds = codes "load" ∷ decimal number ∷ decimal targets ∷ decimal rounds ∷ []
+
+-- a command that prints what is always the same
+abbrev pub fixed_row : List ℕ → CommandRow
+fixed_row word = record { words = λ words. words ≡ word ∷ []; limits = ⊤; reads = of_nothing; uses = uses_nothing; takes_memory = false; prints_pieces = false }
+
+-- a command over the page on the input, with these words and limits
+abbrev pub page_row : List (List ℕ) → Type 0 → CommandRow
+page_row spelled Limits = record { words = λ words. words ≡ spelled; limits = Limits; reads = of_input most_page; uses = uses_nothing; takes_memory = true; prints_pieces = false }
+
+-- the table of the commands
+abbrev pub command_row : Command → CommandRow
+command_row Help = fixed_row (codes "--help")
+command_row Version = fixed_row (codes "--version")
+command_row (Check format) = page_row (codes "check" ∷ format_word format ∷ []) ⊤
+command_row (Convert format target nanos) = page_row (convert_words format target nanos) (IsTarget target × (nanos ≤ most_nanos))
+command_row (Replay scrapers page) = record { words = AreReplayWords scrapers page; limits = AreScrapers scrapers × AreFewSelectors page; reads = of_input most_script; uses = uses_shelf; takes_memory = true; prints_pieces = true }
+command_row (Run path) = record { words = λ words. words ≡ codes "run" ∷ path ∷ []; limits = ⊤; reads = of_file path most_config; uses = uses_wires path; takes_memory = true; prints_pieces = true }
+command_row (Load number targets rounds) = record { words = λ words. words ≡ load_words number targets rounds; limits = IsLoad number targets rounds; reads = of_nothing; uses = uses_shelf; takes_memory = true; prints_pieces = true }
 
 -- the command takes memory
 abbrev pub takes_memory : Command → Bool
-takes_memory Help = false
-takes_memory Version = false
-takes_memory (Check format) = true
-takes_memory (Convert format target nanos) = true
-takes_memory (Replay scrapers page) = true
-takes_memory (Load number targets rounds) = true
+takes_memory command = (command_row command).takes_memory
 
 -- ---- what words ask for
 
 -- these words ask for this command
 pub record IsCommand (words : List (List ℕ)) (command : Command) : Type 0 where
-  pub spelled : SpellsCommand command words
-  pub limits : IsInLimits command
+  pub spelled : (command_row command).words words
+  pub limits : (command_row command).limits
 
 -- the words fit no form of the command line
 abbrev pub FitNoForm : List (List ℕ) → Type 0
@@ -124,11 +126,3 @@ FitNoForm words = (command : Command) → ¬ IsCommand words command
 -- the words ask for a command that passes a test
 abbrev pub AskFor : (Command → Bool) → List (List ℕ) → Type 0
 AskFor test words = (command : Command) × IsCommand words command × (test command ≡ true)
-
--- the words ask for no command that passes a test
-abbrev pub AskForNo : (Command → Bool) → List (List ℕ) → Type 0
-AskForNo test words = (command : Command) → IsCommand words command → test command ≡ false
-
--- of the command that the words ask for, where it reads the input, this holds at the most bytes that it reads
-abbrev pub WhereRead : List (List ℕ) → (ℕ → Type 0) → Type 0
-WhereRead words Holds = (command : Command) → IsCommand words command → reads_input command ≡ true → Holds (most_input command)

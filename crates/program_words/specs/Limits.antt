@@ -9,6 +9,10 @@ most_page = 2 ^ 26
 abbrev pub most_script : ℕ
 most_script = 2 ^ 28
 
+-- the most bytes of a configuration: 1 MiB
+abbrev pub most_config : ℕ
+most_config = 2 ^ 20
+
 -- the most scrapers that visit the targets of a script at once
 abbrev pub most_scrapers : ℕ
 most_scrapers = 4

@@ -2,7 +2,7 @@
 use Rattle.std.specs.Prelude.{◌≡◌, ◌≢◌, ◌⊎◌, ℕ, ◌<◌}
 use Rattle.bridge_ports.specs.Causes.{Rose}
 use Rattle.program_words.specs.declared.status.Status.{Status}
-use Rattle.program_words.specs.declared.status.Status.TheVariants.{Done, Refused, NoForm, ReadFailed, WriteFailed, WantOfMemory, ScriptRefused, TooLong}
+use Rattle.program_words.specs.declared.status.Status.TheVariants.{Done, Refused, NoForm, ReadFailed, WriteFailed, ConfigRefused, WantOfMemory, ScriptRefused, TooLong}
 
 -- the status of the process
 abbrev pub code_of : Status → ℕ
@@ -11,6 +11,7 @@ code_of Refused = 1
 code_of NoForm = 2
 code_of ReadFailed = 3
 code_of WriteFailed = 4
+code_of ConfigRefused = 5
 code_of WantOfMemory = 6
 code_of ScriptRefused = 7
 code_of TooLong = 8

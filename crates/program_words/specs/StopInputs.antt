@@ -7,9 +7,9 @@ use Rattle.program_words.specs.Stops.{StopCause}
 
 -- how far an input was taken by a command that stops: through, or not past its limit
 abbrev pub StopsReading : ℕ → Option (List ℕ) → Option (List ℕ) → Stop → Type 0
-StopsReading most left after stops.NoForm = ⊥
 StopsReading most left after (stops.Refused line rule) = EndsWithin most left after
 StopsReading most left after (stops.BadScript line) = EndsWithin most left after
+StopsReading most left after (stops.BadConfig fault) = ⊥
 StopsReading most left after stops.TooLong = IsOverlong most left after
 StopsReading most left after stops.Read = TookAtMost most left after
 StopsReading most left after stops.Memory = TookAtMost most left after

@@ -15,5 +15,5 @@ pub use nearest::nearest_form;
 pub use status::{Status, end_code};
 pub use stop::Stop;
 pub use stop_texts::stop_text;
-pub use usage::{help, version};
+pub use usage::{help, no_form, version};
 pub use words::{Command, command_of};

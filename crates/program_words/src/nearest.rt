@@ -1,15 +1,6 @@
 //! The form of the command line that words come nearest to.
 
-/// Each form, behind its first word.
-const FORMS: &[(&str, &str)] = &[
-    ("check", "check FORMAT"),
-    ("convert", "convert FORMAT JOB INSTANCE NANOS"),
-    ("replay", "replay [SCRAPERS] [page [SELECTOR ..]]"),
-    ("run", "run CONFIG"),
-    ("load", "load NUMBER TARGETS ROUNDS"),
-    ("--help", "--help"),
-    ("--version", "--version"),
-];
+use crate::usage::FORMS;
 
 /// The form whose first word begins most like theirs; none where each begins in another way.
 pub fn nearest_form(words: &[String]) -> Option<&'static str> {

@@ -18,6 +18,8 @@ pub enum Status {
     ReadFailed = 3,
     /// A write failed.
     WriteFailed = 4,
+    /// The configuration has a fault, which the output names.
+    ConfigRefused = 5,
     /// Memory was wanted.
     WantOfMemory = 6,
     /// The script on the input has a fault, whose line the output names.

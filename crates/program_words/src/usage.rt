@@ -1,6 +1,17 @@
-//! `--help` and `--version`.
+//! What `--help` and `--version` print, and what is printed where words fit no form.
 ghost use Rattle.std.specs.Prelude.{◌≡◌};
-ghost use Rattle.program_words.specs.HelpTexts.{help_text, version_text};
+ghost use Rattle.program_words.specs.HelpTexts.{help_text, no_form_text, version_text};
+
+/// Each form of the command line, behind its first word.
+pub(crate) const FORMS: &[(&str, &str)] = &[
+    ("check", "check FORMAT"),
+    ("convert", "convert FORMAT JOB INSTANCE NANOS"),
+    ("replay", "replay [SCRAPERS] [page [SELECTOR ..]]"),
+    ("run", "run CONFIG"),
+    ("load", "load NUMBER TARGETS ROUNDS"),
+    ("--help", "--help"),
+    ("--version", "--version"),
+];
 
 /// What `--help` prints: each form that is built, with an example.
 pub const HELP: &str = "\
@@ -48,4 +59,12 @@ pub fn version() -> &'static [u8]
     ensures { result.now ≡ version_text }
 {
     VERSION.as_bytes()
+}
+
+/// The line of words that fit no form.
+#[tactic(auto, unfolding(crate::specs::HelpTexts::no_form_text))]
+pub fn no_form() -> &'static [u8]
+    ensures { result.now ≡ no_form_text }
+{
+    b"words\n"
 }

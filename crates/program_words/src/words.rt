@@ -5,7 +5,7 @@ mod target;
 
 use bridge_ports::Target;
 pub use forms::command_of;
-use label_sets::List;
+use label_sets::{List, Text};
 use page_model::Format;
 use series_select::Selector;
 
@@ -37,6 +37,11 @@ pub enum Command {
         /// The selectors of the federation page that is printed behind the bodies, where one is asked for. Without a
         /// selector it is the whole page.
         page: Option<List<Selector>>,
+    },
+    /// The report of the run of a configuration, over the wires of the world.
+    Run {
+        /// The path of the file of the configuration.
+        path: Text,
     },
     /// The report of the visits of targets that a number stands for.
     Load {

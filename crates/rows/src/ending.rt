@@ -1,7 +1,7 @@
 //! How the bridge ends over the memory of a row.
 ghost use Rattle.std.specs.Prelude.{◌≡◌, ◌≤◌, ◌↔◌, length, IfOk, IsNone};
 ghost use Rattle.memory_world.specs.WorldParts.{outside_of};
-ghost use Rattle.bridge_program.specs.RunAnswers.{IsUnasked};
+ghost use Rattle.bridge_program.specs.Ran.{IsUnasked};
 
 use crate::row::Row;
 use bridge_ports::{MemoryFile, MemorySink, MemorySource};

@@ -4,9 +4,10 @@ use Rattle.std.specs.Prelude.{IfErr, IsErrAnd}
 use Rattle.bridge_ports.specs.Worlds.{WorldState, OpenFile}
 use Rattle.bridge_ports.specs.Outside.{Outside}
 use Rattle.bridge_ports.specs.Inputs.{EndsWithin}
-use Rattle.run_command.specs.declared.file_stop.FileStop.{FileStop}
-use Rattle.run_command.specs.declared.file_stop.FileStop.TheVariants.{TooLong, Read, Fault, Memory}
-use Rattle.run_command.specs.ConfigFiles.{IsFileAsked, LeavesFile, StopsReadingFile, left_of, most_config}
+use Rattle.program_words.specs.Limits.{most_config}
+use Rattle.program_words.specs.declared.stop.Stop.{Stop}
+use Rattle.program_words.specs.declared.stop.Stop.TheVariants.{Memory}
+use Rattle.run_command.specs.ConfigFiles.{IsFileAsked, LeavesFile, StopsReadingFile, left_of}
 use Rattle.bridge_config.specs.declared.config.Config.{Config}
 use Rattle.run_report.specs.declared.target_end.TargetEnd.{TargetEnd}
 use Rattle.world_run.specs.Serving.{IsServedRun, IsUnserved, ChangesDoorsAlone, ChangesAtMost}
@@ -14,17 +15,15 @@ use Rattle.world_run.proofs.Laws.{served_changes, unserved_changes}
 use Rattle.run_command.specs.RunReports.{IsReportOfRun, MayHaveRun, LeavesWorld, IsRunAsked}
 
 -- no configuration came of the file
-pub stopped : {T : Type 0} (r : Result T FileStop) (path : List ℕ) (before after : Outside) → IsFileAsked path before after → IfErr r (LeavesWorld path before after)
+pub stopped : {T : Type 0} (r : Result T Stop) (path : List ℕ) (before after : Outside) → IsFileAsked path before after → IfErr r (LeavesWorld path before after)
 stopped (Ok x) path before after asked = tt
-stopped (Err TooLong) path before after asked = asked
-stopped (Err Read) path before after asked = asked
-stopped (Err (Fault fault)) path before after asked = asked
 stopped (Err Memory) path before after asked = inl asked
+stopped (Err _) path before after asked = asked
 
 -- memory was wanted for a run, or for the report of one
-pub wanting : {T : Type 0} (r : Result T FileStop) (path : List ℕ) (before after : Outside) → IsErrAnd r (λ s. s ≡ Memory) → MayHaveRun path before after → IfErr r (LeavesWorld path before after)
+pub wanting : {T : Type 0} (r : Result T Stop) (path : List ℕ) (before after : Outside) → IsErrAnd r (λ s. s ≡ Memory) → MayHaveRun path before after → IfErr r (LeavesWorld path before after)
 wanting (Ok x) path before after is may = absurd is
-wanting (Err s) path before after is may = let Left : FileStop → Type 0 = LeavesWorld path before after in subst Left (sym is) (inr may)
+wanting (Err s) path before after is may = let Left : Stop → Type 0 = LeavesWorld path before after in subst Left (sym is) (inr may)
 
 -- ---- what becomes of a world
 
@@ -47,12 +46,12 @@ pub ends_on : (told : Option (List ℕ)) (old mid new : WorldState) → EndsWith
 ends_on told old mid new leaves alone =
     (subst (λ (f : Option OpenFile). EndsWithin most_config told (left_of f)) (sym (ap (λ (w : WorldState). w.file) alone)) leaves.0, ap (λ (w : WorldState). w.file_faults) alone ∙ leaves.1)
 
-pub leaves_on : {T S : Type 0} (r : Result T FileStop) (x : S) (told : Option (List ℕ)) (old mid new : WorldState) → IfErr r (λ s. s ≡ Memory) → LeavesFile {T = S} told old mid (Ok x) → ChangesDoorsAlone mid new → LeavesFile told old new r
+pub leaves_on : {T S : Type 0} (r : Result T Stop) (x : S) (told : Option (List ℕ)) (old mid new : WorldState) → IfErr r (λ s. s ≡ Memory) → LeavesFile {T = S} told old mid (Ok x) → ChangesDoorsAlone mid new → LeavesFile told old new r
 leaves_on (Ok y) x told old mid new is leaves alone = ends_on told old mid new leaves alone
 leaves_on (Err s) x told old mid new is leaves alone =
-    let on = ends_on told old mid new leaves alone in let Stops : FileStop → Type 0 = StopsReadingFile told old new in subst Stops (sym is) (on.0.took, on.1)
+    let on = ends_on told old mid new leaves alone in let Stops : Stop → Type 0 = StopsReadingFile told old new in subst Stops (sym is) (on.0.took, on.1)
 
 -- want of memory alone
-pub memory_alone : {T : Type 0} (r : Result T FileStop) → IsErrAnd r (λ s. s ≡ Memory) → IfErr r (λ s. s ≡ Memory)
+pub memory_alone : {T : Type 0} (r : Result T Stop) → IsErrAnd r (λ s. s ≡ Memory) → IfErr r (λ s. s ≡ Memory)
 memory_alone (Ok x) is = absurd is
 memory_alone (Err s) is = is

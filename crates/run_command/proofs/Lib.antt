@@ -1,3 +1,4 @@
 mod Files
-pub mod Left
+mod Left
+mod RunAnswerLaws
 pub mod Laws

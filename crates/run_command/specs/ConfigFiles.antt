@@ -1,20 +1,16 @@
 -- The configuration in a file of a world. The bridge's own.
-use Rattle.std.specs.Prelude.{◌≡◌, ℕ, ◌^◌, ◌<◌, ◌≤◌, ◌⊎◌, List, length, Option, Some, None, IsSome, Result, Ok, Err, ⊤}
+use Rattle.std.specs.Prelude.{◌≡◌, ℕ, ◌<◌, ◌≤◌, ◌⊎◌, List, length, Option, Some, None, IsSome, Result, Ok, Err, ⊤}
 use Rattle.std.specs.Io.KnownBytes.{Consumes}
 use Rattle.bridge_ports.specs.Causes.{Rose}
 use Rattle.bridge_ports.specs.Worlds.{WorldState, OpenFile}
 use Rattle.bridge_ports.specs.Outside.{Outside, with_world, with_file_at}
 use Rattle.bridge_config.specs.declared.config.Config.{Config}
 use Rattle.bridge_config.specs.declared.fault.ConfigFault.{ConfigFault}
-use Rattle.bridge_config.specs.declared.fault.ConfigFault.TheVariants as faults
 use Rattle.bridge_config.specs.ConfigFaults.{IsConfiguration, HasConfigFault}
-use Rattle.run_command.specs.declared.file_stop.FileStop.{FileStop}
-use Rattle.run_command.specs.declared.file_stop.FileStop.TheVariants.{TooLong, Read, Fault, Memory}
+use Rattle.program_words.specs.declared.stop.Stop.{Stop}
+use Rattle.program_words.specs.declared.stop.Stop.TheVariants.{TooLong, Read, BadConfig, Memory}
+use Rattle.program_words.specs.Limits.{most_config}
 use Rattle.bridge_ports.specs.Inputs.{IsInput, TookAtMost, EndsWithin, IsOverlong}
-
--- the most bytes of a configuration: 1 MiB
-abbrev pub most_config : ℕ
-most_config = 2 ^ 20
 
 -- ---- what a file says
 
@@ -42,16 +38,12 @@ pub record IsTooLong (told : Option (List ℕ)) : Type 0 where
   pub long : most_config < length bytes
 
 -- what a file has of which no configuration is read
-abbrev pub StopsAtFile : Option (List ℕ) → FileStop → Type 0
+abbrev pub StopsAtFile : Option (List ℕ) → Stop → Type 0
 StopsAtFile told TooLong = IsTooLong told
 StopsAtFile told Read = ⊤
-StopsAtFile told (Fault fault) = HoldsFault told fault
+StopsAtFile told (BadConfig fault) = HoldsFault told fault
 StopsAtFile told Memory = ⊤
-
--- want of memory has a variant of its own
-abbrev pub file_stop : ConfigFault → FileStop
-file_stop faults.Memory = Memory
-file_stop fault = Fault fault
+StopsAtFile told _ = ⊥
 
 -- ---- what becomes of the world
 
@@ -75,13 +67,14 @@ abbrev pub IsFileAsked : List ℕ → Outside → Outside → Type 0
 IsFileAsked path old new = new ≡ with_file_asked path new.world.file new.world.file_faults old
 
 -- how far a file was read where no configuration came of it
-abbrev pub StopsReadingFile : Option (List ℕ) → WorldState → WorldState → FileStop → Type 0
+abbrev pub StopsReadingFile : Option (List ℕ) → WorldState → WorldState → Stop → Type 0
 StopsReadingFile told old new TooLong = IsOverlong most_config told (left_of new.file) × (new.file_faults ≡ old.file_faults)
 StopsReadingFile told old new Read = Rose old.file_faults new.file_faults × ((new.file ≡ None) ⊎ TookAtMost most_config told (left_of new.file))
-StopsReadingFile told old new (Fault fault) = EndsWithin most_config told (left_of new.file) × (new.file_faults ≡ old.file_faults)
+StopsReadingFile told old new (BadConfig fault) = EndsWithin most_config told (left_of new.file) × (new.file_faults ≡ old.file_faults)
 StopsReadingFile told old new Memory = TookAtMost most_config told (left_of new.file) × (new.file_faults ≡ old.file_faults)
+StopsReadingFile told old new _ = ⊥
 
 -- how far a file was read, and that the count of faults rose exactly where a read failed or it could not be opened
-abbrev pub LeavesFile : {T : Type 0} → Option (List ℕ) → WorldState → WorldState → Result T FileStop → Type 0
+abbrev pub LeavesFile : {T : Type 0} → Option (List ℕ) → WorldState → WorldState → Result T Stop → Type 0
 LeavesFile told old new (Ok x) = EndsWithin most_config told (left_of new.file) × (new.file_faults ≡ old.file_faults)
 LeavesFile told old new (Err stop) = StopsReadingFile told old new stop

@@ -1,2 +1,3 @@
 pub mod ConfigFiles
 pub mod RunReports
+pub mod RunAnswers

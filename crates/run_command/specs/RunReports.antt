@@ -2,8 +2,8 @@
 use Rattle.std.specs.Prelude.{◌≡◌, ◌⊎◌, ℕ, Bool, List, ◌++◌}
 use Rattle.bridge_ports.specs.Outside.{Outside}
 use Rattle.bridge_config.specs.declared.config.Config.{Config}
-use Rattle.run_command.specs.declared.file_stop.FileStop.{FileStop}
-use Rattle.run_command.specs.declared.file_stop.FileStop.TheVariants.{TooLong, Read, Fault, Memory}
+use Rattle.program_words.specs.declared.stop.Stop.{Stop}
+use Rattle.program_words.specs.declared.stop.Stop.TheVariants.{Memory}
 use Rattle.run_command.specs.ConfigFiles.{HoldsConfig, IsFileAsked}
 use Rattle.run_report.specs.declared.target_end.TargetEnd.{TargetEnd}
 use Rattle.run_report.specs.Ends.{some_halted}
@@ -34,11 +34,9 @@ pub record MayHaveRun (path : List ℕ) (before after : Outside) : Type 0 where
   pub left : IsUnserved config asked after ⊎ ((ends : List TargetEnd) × (served : ℕ) × IsServedRun config asked after ends served)
 
 -- how a run that gives no report leaves a world: the file alone was asked for; where memory was wanted its configuration may have been run
-abbrev pub LeavesWorld : List ℕ → Outside → Outside → FileStop → Type 0
-LeavesWorld path before after TooLong = IsFileAsked path before after
-LeavesWorld path before after Read = IsFileAsked path before after
-LeavesWorld path before after (Fault fault) = IsFileAsked path before after
+abbrev pub LeavesWorld : List ℕ → Outside → Outside → Stop → Type 0
 LeavesWorld path before after Memory = IsFileAsked path before after ⊎ MayHaveRun path before after
+LeavesWorld path before after _ = IsFileAsked path before after
 
 -- a world was asked for the file of this path, which is a configuration, and behind that at most what its run may change did
 pub record IsRunAsked (path : List ℕ) (before after : Outside) : Type 0 where

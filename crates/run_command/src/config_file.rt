@@ -4,17 +4,17 @@ ghost use Rattle.bridge_config.specs.ConfigFaults.{IsConfiguration};
 ghost use Rattle.bridge_ports.specs.Outside.{with_file_at};
 ghost use Rattle.run_command.specs.ConfigFiles.{HoldsWhole, HoldsConfig, StopsAtFile, IsFileAsked, LeavesFile, left_of};
 
-use crate::file_stop::FileStop;
 use bridge_config::{Config, ConfigFault, broken_at, read};
 use bridge_ports::{BLOCK_BYTES, MILLISECOND, RunNotice, World};
 use label_sets::Text;
+use program_words::Stop;
 use std::alloc::Global;
 
 /// The most bytes of a configuration: 1 MiB.
 const MOST_CONFIG_BYTES: usize = 1 << 20;
 
 /// The bytes of the file that is open.
-fn file_bytes<W: World>(alloc: Global, world: &mut W) -> Result<Vec<u8>, FileStop>
+fn file_bytes<W: World>(alloc: Global, world: &mut W) -> Result<Vec<u8>, Stop>
     requires { IsSome (W.seen world.old).world.file }
     ensures bytes { IfOk result (λ bytes. HoldsWhole (left_of (W.seen world.old).world.file) bytes.items) }
     ensures stop { IfErr result (StopsAtFile (left_of (W.seen world.old).world.file)) }
@@ -30,14 +30,14 @@ fn file_bytes<W: World>(alloc: Global, world: &mut W) -> Result<Vec<u8>, FileSto
             return Ok(bytes);
         }
         if count > MOST_CONFIG_BYTES - bytes.len() {
-            return Err(FileStop::TooLong);
+            return Err(Stop::TooLong);
         }
         bytes.extend_from_slice(&block[..count])?;
     }
 }
 
 /// Opens the file of a path, and gives its bytes.
-fn bytes_in<W: World>(alloc: Global, path: Text, world: &mut W) -> Result<Vec<u8>, FileStop>
+fn bytes_in<W: World>(alloc: Global, path: Text, world: &mut W) -> Result<Vec<u8>, Stop>
     requires { (W.seen world.old).world.asked ≡ None }
     ensures bytes { IfOk result (λ bytes. HoldsWhole ((W.seen world.old).files path) bytes.items) }
     ensures stop { IfErr result (StopsAtFile ((W.seen world.old).files path)) }
@@ -46,7 +46,7 @@ fn bytes_in<W: World>(alloc: Global, path: Text, world: &mut W) -> Result<Vec<u8
 {
     match world.open_file(path) {
         Ok(()) => file_bytes(alloc, world),
-        Err(failed) => Err(FileStop::from(failed)),
+        Err(failed) => Err(Stop::from(failed)),
     }
 }
 
@@ -65,13 +65,9 @@ fn told(alloc: Global, bytes: &[u8], config: &Result<Config, ConfigFault>) -> Ru
 }
 
 /// The configuration in the file of a path. The file is read to its end, or up to a read that takes more than 1 MiB.
-/// It answers [`FileStop::Read`] exactly where the world's count of faults of files rose; nothing else of the world
+/// It answers [`Stop::Read`] exactly where the world's count of faults of files rose; nothing else of the world
 /// changes. The world is told that the run of a configuration begins, or where a document is none of TOML.
-pub(crate) fn config_in<W: World>(
-    alloc: Global,
-    path: Text,
-    world: &mut W,
-) -> Result<Config, FileStop>
+pub(crate) fn config_in<W: World>(alloc: Global, path: Text, world: &mut W) -> Result<Config, Stop>
     requires { (W.seen world.old).world.asked ≡ None }
     ensures config { IfOk result (HoldsConfig ((W.seen world.old).files path)) }
     ensures stop { IfErr result (StopsAtFile ((W.seen world.old).files path)) }

@@ -3,10 +3,8 @@
 #![tactic(auto)]
 
 mod config_file;
-mod file_stop;
 mod report;
 mod running;
 
-pub use file_stop::FileStop;
 pub use report::Report;
 pub use running::run;

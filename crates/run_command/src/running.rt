@@ -6,10 +6,10 @@ ghost use Rattle.world_run.specs.Unused.{AreUnused};
 ghost use Rattle.run_command.specs.RunReports.{IsReportOfRun, LeavesWorld};
 
 use crate::config_file::config_in;
-use crate::file_stop::FileStop;
 use crate::report::{Report, report_of};
 use bridge_ports::{Conn, Door, World};
 use label_sets::Text;
+use program_words::Stop;
 use std::alloc::Global;
 use std::sync::Wait;
 use std::thread::Threads;
@@ -20,7 +20,7 @@ use world_run::run_config;
 ///
 /// # Errors
 ///
-/// Each way in which the file gives no configuration, as [`FileStop`] tells it; and want of memory. Where memory is
+/// Each way in which the file gives no configuration, as [`Stop`] tells it; and want of memory. Where memory is
 /// wanted for the report alone the run is over, and its wires and its door came home.
 ///
 /// # Example
@@ -37,7 +37,7 @@ pub fn run<R: Threads + Wait + Sync, K: Conn, E: Door<Conn = K>, W: World<Door =
     alloc: Global,
     path: Text,
     world: &mut W,
-) -> Result<Report, FileStop>
+) -> Result<Report, Stop>
     requires asked { (W.seen world.old).world.asked ≡ None }
     requires no_door { (W.seen world.old).world.door_at ≡ None }
     requires unused { AreUnused (W.seen world.old).home }

@@ -1,6 +1,9 @@
 //! Runs of the commands over a world to which nothing was given.
-use bridge_cli::bridge;
+ghost use Rattle.memory_world.specs.WorldParts.{outside_of};
+ghost use Rattle.bridge_program.specs.Ran.{IsUnasked};
+
 use bridge_ports::{MemorySink, Source};
+use bridge_program::bridge;
 use label_sets::{List, Memory};
 use memory_world::MemoryWorld;
 use std::alloc::Global;
@@ -8,7 +11,9 @@ use std::sync::Wait;
 use std::thread::Threads;
 
 /// A world to which nothing was given.
-pub(crate) fn bare_world(alloc: Global) -> MemoryWorld {
+pub(crate) fn bare_world(alloc: Global) -> MemoryWorld
+    ensures { IsUnasked (outside_of result) }
+{
     MemoryWorld::new(
         alloc,
         List::new(alloc),
@@ -35,7 +40,9 @@ pub(crate) fn run_in<R: Threads + Wait + Sync, I: Source>(
     world: &mut MemoryWorld,
     input: &mut I,
     end: &[u8],
-) -> Result<(u8, usize, bool), Memory> {
+) -> Result<(u8, usize, bool), Memory>
+    requires { IsUnasked (outside_of world.old) }
+{
     let words = strings(alloc, words)?;
     let mut output = MemorySink::new(alloc, 65_536, List::new(alloc))?;
     let status = bridge(rt, alloc, words.as_slice(), world, input, &mut output);

@@ -5,7 +5,7 @@ ghost use Rattle.bridge_ports.specs.Plans.{seen_of};
 ghost use Rattle.bridge_ports.specs.WorldMaking.{IsRightListen, IsRightPair};
 ghost use Rattle.series_table.specs.Records.{IsFresh};
 ghost use Rattle.memory_world.specs.WorldParts.{fresh_pair, listen_given, outside_of};
-ghost use Rattle.bridge_program.specs.RunAnswers.{IsUnasked};
+ghost use Rattle.bridge_program.specs.Ran.{IsUnasked};
 
 use crate::calls::bare_runs::strings;
 use bridge_ports::{
@@ -112,15 +112,27 @@ fn file(alloc: Global, start: &[u8]) -> Result<List<MemoryFile>, Memory>
     List::from_vec(Vec::from_array(alloc, [file])?)
 }
 
-/// A world of a file whose configuration begins so, the wires of its two targets and a door.
-pub(crate) fn world(alloc: Global, start: &[u8]) -> Result<MemoryWorld, Memory>
+/// A world of a file whose configuration begins so, the wires of its two targets and a door, of whose calls on files and
+/// doors those of these numbers fail.
+pub(crate) fn failing_world(
+    alloc: Global,
+    start: &[u8],
+    failing: List<u64>,
+) -> Result<MemoryWorld, Memory>
     ensures { IfOk result (λ world. IsUnasked (outside_of world)) }
 {
     let (first, second) = (pair(alloc, 1)?, pair(alloc, 2)?);
     let pairs = Vec::from_array(alloc, [first, second])?;
     let doors = Vec::from_array(alloc, [listen(alloc)?])?;
     let files = file(alloc, start)?;
-    Ok(MemoryWorld::new(alloc, files, pairs, doors, List::new(alloc)))
+    Ok(MemoryWorld::new(alloc, files, pairs, doors, failing))
+}
+
+/// The same where no call fails.
+pub(crate) fn world(alloc: Global, start: &[u8]) -> Result<MemoryWorld, Memory>
+    ensures { IfOk result (λ world. IsUnasked (outside_of world)) }
+{
+    failing_world(alloc, start, List::new(alloc))
 }
 
 /// The status of a run of the configuration in a world of which nothing was asked, and whether its output is this.
@@ -171,4 +183,70 @@ served 1
 #[test]
 fn two_targets_are_visited_beside_a_door(rt: HostRuntime) {
     assert!(rt; ending_beside_a_door(&rt, rt.alloc(), TWO_VISITS) == Ok((0, true)));
+}
+
+/// The same where the door can't be had, which the world is asked for behind the three calls on the file.
+fn ending_without_its_door<R: Threads + Wait + Sync>(
+    rt: &R,
+    alloc: Global,
+    wanted: &str,
+) -> Result<(u8, bool), Memory> {
+    let failing = List::from_vec(Vec::from_array(alloc, [4])?)?;
+    let mut world = failing_world(alloc, TWO_ROUNDS.as_bytes(), failing)?;
+    let ending = ending_in(rt, alloc, &mut world, wanted);
+    drop(world);
+    ending
+}
+
+const TWO_VISITS_UNSERVED: &str =
+    "target 1 a h1:80 visits 2 failed 0 points 6 markers 0 accepted 2 refused 0 givenup 0 halted 0
+target 2 b h2:80 visits 2 failed 0 points 6 markers 0 accepted 2 refused 0 givenup 0 halted 0
+all visits 4 failed 0 points 12 markers 0 accepted 4 refused 0 givenup 0 halted 0
+served 0
+";
+
+#[test]
+fn a_door_that_fails_is_no_fault_of_a_run(rt: HostRuntime) {
+    assert!(rt; ending_without_its_door(&rt, rt.alloc(), TWO_VISITS_UNSERVED) == Ok((0, true)));
+}
+
+/// The body of the first scrape of the first target.
+const FIRST_BODY: &[u8] =
+    br#"{"resourceMetrics":[{"resource":{"attributes":[{"key":"service.name","value":{"stringValue":"a"}},{"key":"service.instance.id","value":{"stringValue":"h1:80"}},{"key":"server.address","value":{"stringValue":"h1"}},{"key":"server.port","value":{"intValue":"80"}},{"key":"url.scheme","value":{"stringValue":"http"}}]},"scopeMetrics":[{"scope":{"name":"bridge"},"metrics":[{"name":"x","gauge":{"dataPoints":[{"timeUnixNano":"10","asDouble":1}]}}]},{"scope":{"name":"bridge.target"},"metrics":[{"name":"up","gauge":{"dataPoints":[{"timeUnixNano":"10","asDouble":1}]}},{"name":"scrape_samples_scraped","gauge":{"dataPoints":[{"timeUnixNano":"10","asDouble":1}]}}]}]}]}"#;
+
+/// How many posts the wire of a target made in a world, and whether the first ended in this body.
+fn posted(world: &MemoryWorld, number: u32, body: &[u8]) -> (u64, bool) {
+    let Some(pair) = world.home(number) else {
+        return (0, false);
+    };
+    let count = pair.post.finished();
+    if count == 0 {
+        return (0, false);
+    }
+    let ends_so = match pair.post.sent(1) {
+        Some(sent) => sent.ends_with(body),
+        None => false,
+    };
+    (count, ends_so)
+}
+
+/// The same of the first target of a run that is over.
+fn posted_by_a_run<R: Threads + Wait + Sync>(
+    rt: &R,
+    alloc: Global,
+    body: &[u8],
+) -> Result<(u64, bool), Memory> {
+    let mut world = world(alloc, TWO_ROUNDS.as_bytes())?;
+    let ending = ending_in(rt, alloc, &mut world, TWO_VISITS);
+    let posted = posted(&world, 1, body);
+    drop(world);
+    match ending {
+        Ok(_) => Ok(posted),
+        Err(memory) => Err(memory),
+    }
+}
+
+#[test]
+fn a_run_posts_its_scrapes(rt: HostRuntime) {
+    assert!(rt; posted_by_a_run(&rt, rt.alloc(), FIRST_BODY) == Ok((2, true)));
 }

@@ -12,6 +12,7 @@ use super::replay::replay_of;
 use super::target::target;
 use crate::limits::{MOST_INSTANCE_HOST_BYTES, MOST_NANOS};
 use bridge_ports::MOST_JOB_BYTES;
+use label_sets::Text;
 use load_pages::{MOST_NUMBER, is_load};
 use page_model::Format;
 use plain_words::{host_and_port, number};
@@ -50,15 +51,33 @@ fn check_of(format: &str) -> Option<Command>
     }
 }
 
+/// The run of the configuration in the file of a path.
+fn run_of(alloc: Global, path: &str) -> Result<Command, AllocError>
+    ensures found { IfOk result (IsCommand (codes "run" ∷ path.now ∷ [])) }
+    ensures memory { OnErr result (AskFor takes_memory (codes "run" ∷ path.now ∷ [])) }
+{
+    match Text::from_str(alloc, path) {
+        Ok(path) => Ok(Command::Run { path }),
+        Err(AllocError) => Err(AllocError),
+    }
+}
+
 /// The command that two words ask for.
-fn two_words(verb: &str, word: &str) -> Option<Command>
-    ensures found { IfSome result (IsCommand (verb.now ∷ word.now ∷ [])) }
-    ensures none { IfNone result (FitNoOther (verb.now ∷ word.now ∷ [])) }
+fn two_words(alloc: Global, verb: &str, word: &str) -> Result<Option<Command>, AllocError>
+    ensures found { IfOk result (λ found. IfSome found (IsCommand (verb.now ∷ word.now ∷ []))) }
+    ensures none { IfOk result (λ found. IfNone found (FitNoOther (verb.now ∷ word.now ∷ []))) }
+    ensures memory { OnErr result (AskFor takes_memory (verb.now ∷ word.now ∷ [])) }
 {
     if verb == "check" {
-        return check_of(word);
+        return Ok(check_of(word));
     }
-    None
+    if verb != "run" {
+        return Ok(None);
+    }
+    match run_of(alloc, word) {
+        Ok(command) => Ok(Some(command)),
+        Err(AllocError) => Err(AllocError),
+    }
 }
 
 /// The number that a word of a load says. The greatest first number is above the most targets and rounds, so one limit
@@ -153,7 +172,7 @@ fn other_command(alloc: Global, words: &[String]) -> Result<Option<Command>, All
 {
     match words {
         [word] => Ok(lone_word(word.as_str())),
-        [verb, word] => Ok(two_words(verb.as_str(), word.as_str())),
+        [verb, word] => two_words(alloc, verb.as_str(), word.as_str()),
         [verb, number, targets, rounds] => Ok(four_words(
             verb.as_str(),
             number.as_str(),

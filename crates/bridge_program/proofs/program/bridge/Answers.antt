@@ -1,19 +1,19 @@
-use Rattle.bridge_program.proofs.RunEnds.{no_write, run_statuses, read_told, run_written, asks_at_most, files_stay, run_left}
+use Rattle.std.proofs.Common.{map}
+use Rattle.std.specs.Prelude.{string_bytes}
+use Rattle.bridge_program.proofs.Commands.{command_ran, words_refused, memory_ran}
 use Rattle.bridge_program.proofs.program.bridge.Goals as goal
 
-pub print_end-requires : goal.print_end-requires
-print_end-requires g c = no_write _ _ _ _ _ c.run_end-end.ensures.answer
+pub execute-requires-clause-limits : goal.execute-requires-clause-limits
+execute-requires-clause-limits g c κs within = (rw c.in-Ok-Some.field-0-is at c.in-Ok-Some.ensures.found).limits
 
-pub returns-in-Some-clause-statuses : goal.returns-in-Some-clause-statuses
-returns-in-Some-clause-statuses g c = run_statuses _ _ _ _ _ _ _ _ c.run_end-end.ensures.answer c.print_end.ensures.written
+pub returns-in-Ok-Some : goal.returns-in-Ok-Some
+returns-in-Ok-Some g c = command_ran (map string_bytes c.args.words.now) c.in-Ok-Some.command _ _ _ _ _ _ _ _ _ _ _ _ (rw c.in-Ok-Some.field-0-is at c.in-Ok-Some.ensures.found) c.execute.ensures
 
-pub returns-in-Some-clause-files_kept : goal.returns-in-Some-clause-files_kept
-returns-in-Some-clause-files_kept g c = files_stay _ _ _ (asks_at_most _ _ _ _ _ c.run_end-end.ensures.answer)
+pub returns-in-Ok-None : goal.returns-in-Ok-None
+returns-in-Ok-None g c =
+    words_refused (map string_bytes c.args.words.now) g.I.Source.left g.I.Source.read_faults c.args.input.now g.O.Sink.held g.O.Sink.write_faults c.args.output.now c.write_all.new.output g.W.World.seen c.args.world.now _ c.write_all.result
+    (rw c.in-Ok-None.field-0-is at c.in-Ok-None.ensures.none) (rw c.no_form.ensures at c.write_all.ensures.whole) (rw c.no_form.ensures at c.write_all.ensures.front) c.write_all.ensures.cause.kept c.write_all.ensures.cause.failed
+    c.end_code.ensures.whole c.end_code.ensures.front
 
-pub returns-in-Some-clause-run_answered : goal.returns-in-Some-clause-run_answered
-returns-in-Some-clause-run_answered g c = λ path asks. run_written _ _ _ _ _ _ _ _ _ _ path c.in-Some.ensures.found asks c.run_end-end.ensures.answer c.print_end.ensures.written
-
-pub returns-in-Some-clause-run_leaves : goal.returns-in-Some-clause-run_leaves
-returns-in-Some-clause-run_leaves g c = λ path asks.
-    run_left _ _ _ _ _ _ path c.in-Some.ensures.found asks (read_told _ _ _ _ _ _ _ _ _ _ c.run_end-end.ensures.answer c.print_end.ensures.written c.run_end-end.ensures.faults)
-    (asks_at_most _ _ _ _ _ c.run_end-end.ensures.answer)
+pub returns-in-Err : goal.returns-in-Err
+returns-in-Err g c = memory_ran (map string_bytes c.args.words.now) _ _ _ _ _ _ _ _ _ c.in-Err.ensures.memory c.code.ensures

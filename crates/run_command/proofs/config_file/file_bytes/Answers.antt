@@ -1,8 +1,9 @@
 use Rattle.std.proofs.Common.{◌∙◌, ap, arith}
 use Rattle.bridge_ports.specs.Outside.{Outside}
 use Rattle.bridge_ports.specs.declared.Failed.{Failed}
-use Rattle.run_command.specs.declared.file_stop.FileStop.TheVariants.{Memory}
-use Rattle.run_command.specs.ConfigFiles.{most_config, left_of}
+use Rattle.program_words.specs.declared.stop.Stop.TheVariants.{Memory}
+use Rattle.program_words.specs.Limits.{most_config}
+use Rattle.run_command.specs.ConfigFiles.{left_of}
 use Rattle.bridge_ports.proofs.Laws.{block_too_much, block_more}
 use Rattle.run_command.proofs.Files.{taken_of, told_too_long, leaves_as, read_off}
 use Rattle.run_command.proofs.config_file.file_bytes.Goals as goal

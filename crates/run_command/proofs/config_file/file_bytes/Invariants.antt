@@ -1,5 +1,6 @@
 use Rattle.std.proofs.Common.{◌-◌, ◌≤◌, length}
-use Rattle.run_command.specs.ConfigFiles.{most_config, ReadsFileOn}
+use Rattle.program_words.specs.Limits.{most_config}
+use Rattle.run_command.specs.ConfigFiles.{ReadsFileOn}
 use Rattle.run_command.proofs.config_file.file_bytes.Given as goal
 
 abbrev pub invariant-loop-bytes : goal.invariant-loop-bytes
