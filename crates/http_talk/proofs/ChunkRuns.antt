@@ -1,16 +1,14 @@
 -- Steps over the bytes of a body in chunks.
-use Rattle.std.proofs.Common.{◌≡◌, ℕ, ◌+◌, ◌-◌, ◌*◌, ◌^◌, ◌≤◌, ◌<◌, Bool, true, false, List, [], ◌∷◌, ◌++◌, length, take, drop, refl, sym, ap, ◌∙◌, arith, append_assoc, append-nil, subst}
-use Rattle.std.specs.Prelude.{◌||◌, zero, suc, nat_lt, if◌then◌else◌}
+use Rattle.std.proofs.Common.{◌≡◌, ℕ, ◌+◌, ◌-◌, ◌*◌, ◌^◌, ◌≤◌, ◌<◌, true, false, List, [], ◌∷◌, ◌++◌, length, take, refl, sym, ap, ◌∙◌, arith, append_assoc, append-nil}
+use Rattle.std.specs.Prelude.{zero, suc, nat_lt, if◌then◌else◌}
 use Rattle.std.proofs.Math.Nat.{pow-le-pow_right}
 use Rattle.std.proofs.lemmas.Grind.{pow_more}
 use Rattle.std.proofs.lemmas.Bool.{lt-ltb, le-ltb, ltb-true, ltb-false}
-use Rattle.std.proofs.lemmas.List.{length-append, length-drop, length-take, take_all, take-append-drop}
-use Rattle.std.proofs.lemmas.Grind.{common_steps}
-use Rattle.http_talk.proofs.GoesOn.{with_bytes-append}
+use Rattle.std.proofs.lemmas.List.{length-append}
 use Rattle.http_talk.specs.declared.chunk_place.ChunkPlace.{ChunkPlace}
 use Rattle.http_talk.specs.declared.chunk_place.ChunkPlace.TheVariants.{Bytes, BytesEnd}
-use Rattle.http_talk.specs.Chunks.{Chunks, place_after, with_bytes, is_certain, is_body_end, is_wrong}
-use Rattle.http_talk.specs.ChunkFeeding.{IsChunkPlace, behind_bytes}
+use Rattle.http_talk.specs.Chunks.{Chunks, place_after, with_bytes, is_certain}
+use Rattle.http_talk.specs.ChunkFeeding.{behind_bytes}
 
 -- one more digit fits
 pub hex_room : (count size digit : ℕ) → count < 8 → size < 16 ^ count → digit < 16 → (size * 16 + digit < 16 ^ (count + 1)) × (size * 16 + digit < 2 ^ 32)

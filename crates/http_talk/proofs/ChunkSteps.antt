@@ -1,13 +1,13 @@
 -- Steps over the bytes of a body in chunks, whose bytes are counted.
-use Rattle.std.proofs.Common.{◌≡◌, ℕ, ◌+◌, ◌-◌, ◌*◌, ◌≤◌, ◌<◌, Bool, true, false, List, [], ◌∷◌, ◌++◌, length, take, drop, refl, sym, ap, ◌∙◌, arith, append_assoc, append-nil, subst, inl, inr}
+use Rattle.std.proofs.Common.{◌≡◌, ℕ, ◌+◌, ◌-◌, ◌*◌, ◌≤◌, ◌<◌, Bool, true, false, List, [], ◌∷◌, ◌++◌, length, take, drop, refl, sym, ap, ◌∙◌, arith, append-nil, subst, inl, inr}
 use Rattle.std.specs.Prelude.{◌⊎◌, ◌||◌, zero, suc, nat_lt, slice_range, if◌then◌else◌}
 use Rattle.std.proofs.lemmas.Bool.{ltb-false, ltb-true, lt-ltb}
-use Rattle.std.proofs.lemmas.List.{length-append, length-drop, length-take, take_all, take-append-drop}
+use Rattle.std.proofs.lemmas.List.{length-append, length-drop, length-take, take_all}
 use Rattle.std.proofs.Math.Seq.{take-add}
 use Rattle.http_talk.specs.declared.chunk_place.ChunkPlace.{ChunkPlace}
 use Rattle.http_talk.specs.declared.chunk_place.ChunkPlace.TheVariants as places
-use Rattle.http_talk.specs.Chunks.{Chunks, place_after, held_after, with_byte, with_bytes, is_certain, is_body_end, is_wrong}
-use Rattle.http_talk.specs.ChunkFeeding.{Counted, holding, is_in_chunk, is_past, is_over, TakesChunks, SkipsTo, TakesRun, TakesFront, IsChunkPlace, behind_bytes}
+use Rattle.http_talk.specs.Chunks.{Chunks, place_after, held_after, with_bytes, is_body_end, is_wrong}
+use Rattle.http_talk.specs.ChunkFeeding.{Counted, holding, is_in_chunk, is_over, TakesChunks, SkipsTo, TakesRun, TakesFront, behind_bytes}
 use Rattle.http_talk.proofs.GoesOn.{with_bytes-append}
 use Rattle.http_talk.proofs.ChunkRuns.{run}
 use Rattle.http_talk.proofs.StreamSteps.{over_same}

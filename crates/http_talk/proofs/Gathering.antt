@@ -1,8 +1,7 @@
 -- A piece that is fed to a stream, and the bytes of the body that it gives.
-use Rattle.std.proofs.Common.{◌≡◌, ℕ, ◌+◌, ◌-◌, ◌*◌, ◌≤◌, ◌<◌, true, false, List, [], ◌++◌, length, take, drop, refl, sym, ap, ◌∙◌, subst, arith, append_assoc, append-nil, Option, Some, None}
-use Rattle.std.specs.Prelude.{◌≢◌, ◌⊎◌, ⊤, slice_range, Result, Ok, Err}
-use Rattle.std.proofs.lemmas.Grind.{common_steps}
-use Rattle.std.proofs.lemmas.List.{length-append, length-take, length-drop, take-append-drop, take_all, drop-take}
+use Rattle.std.proofs.Common.{◌≡◌, ℕ, ◌+◌, ◌-◌, ◌*◌, ◌≤◌, ◌<◌, false, List, ◌++◌, length, take, drop, refl, sym, ap, ◌∙◌, subst, arith, append_assoc, append-nil, Option, Some, None}
+use Rattle.std.specs.Prelude.{◌⊎◌, ⊤, slice_range, Result, Ok, Err}
+use Rattle.std.proofs.lemmas.List.{length-take, length-drop, take-append-drop, take_all}
 use Rattle.std.proofs.Math.Seq.{take-add}
 use Rattle.page_model.specs.declared.format.Format.{Format}
 use Rattle.http_talk.specs.declared.part.Part.{Part}
@@ -13,12 +12,12 @@ use Rattle.http_talk.specs.declared.fault.ReplyFault.{ReplyFault}
 use Rattle.http_talk.specs.declared.fault.ReplyFault.TheVariants as faults
 use Rattle.http_talk.specs.Replies.{Judged, waits, goes_on, decided, whole, IsJudged, HasVerdict, is_decided}
 use Rattle.http_talk.specs.ReplyReading.{Reader, HasKept, Stands, IsRefusal, FeedAnswer, FinishAnswer, kept_by, progress_of}
-use Rattle.http_talk.specs.declared.fault.Body.{Body}
-use Rattle.http_talk.specs.Streams.{Streaming, told_at, told_by, HasGiven, reader_with, reader_of, Flows, HasFlowed, GatherAnswer, IsUsedUp, EndsHead, GivesBody, IsAllGiven, EndAnswer, IsTurn, untold}
+use Rattle.http_talk.specs.Streams.{Streaming, told_at, told_of_head, HasGiven, reader_with, reader_of, Flows, HasFlowed, GatherAnswer, IsUsedUp, EndsHead, GivesBody, IsAllGiven, StreamEnd, GathersFront, heads_to_tell}
 use Rattle.http_talk.proofs.Once.{known_once}
 use Rattle.http_talk.proofs.GoesOn.{verdict_stays}
 use Rattle.http_talk.proofs.ReplySteps.{refusal_stays, end_waits, end_open}
-use Rattle.http_talk.proofs.StreamSteps.{flows_by, whole_again}
+use Rattle.http_talk.proofs.StreamGiven.{flows_by}
+use Rattle.http_talk.proofs.StreamSteps.{whole_again}
 
 -- a stream that gave all of a whole reply reads nothing more
 is_behind : (part : Part) (most : ℕ) (fed : List ℕ) (format f : Format) (kept given : List ℕ) (got : ℕ) → HasKept part most fed format kept got → HasVerdict most fed (whole f given) → part ≡ parts.Whole
@@ -49,20 +48,20 @@ turn_whole fed body piece used old new x =
     let v = verdict_stays new.most (fed ++ take used piece) (drop used piece) (whole x.format body) x.verdict in
     (subst (λ bs. Flows bs body new) bytes on, decided (whole x.format body), subst (λ bs. IsJudged new.most bs (decided (whole x.format body))) bytes v, refl)
 
-fewer : (format : Format) (taken : ℕ) (a b : Option Format) → a ≡ None → b ≡ Some format → untold b < 2 * taken + untold a
+fewer : (format : Format) (taken : ℕ) (a b : Option Format) → a ≡ None → b ≡ Some format → heads_to_tell b < 2 * taken + heads_to_tell a
 fewer format taken a b none told = rw (none, told) (omega arith)
 
-pub turn_head : (format : Format) (fed body piece : List ℕ) (used : ℕ) (old new : Streaming) → used ≤ length piece → EndsHead format fed body (take used piece) old new → IsTurn fed piece body used old new
+pub turn_head : (format : Format) (fed body piece : List ℕ) (used : ℕ) (old new : Streaming) → used ≤ length piece → EndsHead format fed body (take used piece) old new → GathersFront fed piece body used old new
 turn_head format fed body piece used old new within x = record {
   within = within;
-  some = fewer format used (told_by old) (told_by new) x.first x.told;
+  some = fewer format used (told_of_head old) (told_of_head new) x.first x.told;
   flows_on = subst (λ xs. Flows (fed ++ take used piece) xs new) (sym x.none) x.flows_on;
 }
 
-pub turn_body : (fed body piece after : List ℕ) (from to used : ℕ) (old new : Streaming) → used ≤ length piece → after ≡ body ++ slice_range piece from to → GivesBody from to fed body used piece old new → IsTurn fed piece after used old new
+pub turn_body : (fed body piece after : List ℕ) (from to used : ℕ) (old new : Streaming) → used ≤ length piece → after ≡ body ++ slice_range piece from to → GivesBody from to fed body used piece old new → GathersFront fed piece after used old new
 turn_body fed body piece after from to used old new within is x = record {
   within = within;
-  some = omega (arith, x.some, x.last, ap untold x.told);
+  some = omega (arith, x.some, x.last, ap heads_to_tell x.told);
   flows_on = subst (λ xs. Flows (fed ++ take used piece) xs new) (sym is) x.flows_on;
 }
 
@@ -88,8 +87,8 @@ rest_is : (block : List ℕ) (at : ℕ) → take (length block - at) (drop at bl
 rest_is block at = take_all (length block - at) (drop at block) (omega (arith, length-drop at block))
 
 module _ (start : Streaming) (before block rest : List ℕ) (at : ℕ) (now new : Streaming) (body after : List ℕ) (g : Gathered start before block at now body) (is : rest ≡ take (length block - at) (drop at block)) where
-  pub gathers_on : (taken : ℕ) → new.most ≡ now.most → ((fed : List ℕ) → Flows fed body now → IsTurn fed rest after taken now new) → HasFlowed start before
-      → Gathered start before block (at + taken) new after × (2 * (length block - (at + taken)) + untold (told_by new) < 2 * (length block - at) + untold (told_by now))
+  pub gathers_on : (taken : ℕ) → new.most ≡ now.most → ((fed : List ℕ) → Flows fed body now → GathersFront fed rest after taken now new) → HasFlowed start before
+      → Gathered start before block (at + taken) new after × (2 * (length block - (at + taken)) + heads_to_tell (told_of_head new) < 2 * (length block - at) + heads_to_tell (told_of_head now))
   gathers_on taken same x some =
       let one = x (some.0 ++ take at block) (g.flowed some.0 some.1) in
       let long : length rest ≡ length block - at = omega (arith, ap (length {A = ℕ}) (is ∙ rest_is block at), length-drop at block) in
@@ -161,7 +160,7 @@ pub gather_feeds : (s : Streaming) (body : List ℕ) (fed : List ℕ) (progress 
 gather_feeds s body fed progress x = record { stands = reader_stands s body fed x.0; known = x.1; judged_so = x.2; progress_is = x.3 }
 
 -- the end of a stream is that of its reader
-body_end : (part : Part) (most : ℕ) (fed body : List ℕ) (format : Format) (u : ⊤) → EndAnswer most fed (told_at part format) body (Ok u) → HasVerdict most fed (whole format body) ⊎ IsJudged most fed (goes_on format body)
+body_end : (part : Part) (most : ℕ) (fed body : List ℕ) (format : Format) (u : ⊤) → StreamEnd most fed (told_at part format) body (Ok u) → HasVerdict most fed (whole format body) ⊎ IsJudged most fed (goes_on format body)
 body_end parts.Head most fed body format u x = absurd x
 body_end (parts.Sized n) most fed body format u x = x
 body_end parts.Open most fed body format u x = x
@@ -169,11 +168,11 @@ body_end (parts.Chunked place) most fed body format u x = x
 body_end parts.Whole most fed body format u x = x
 
 pub ends_with_body : (s : Streaming) (body bytes fed : List ℕ) (stopped : Option ReplyFault) (r : Reader) (format : Format) (u : ⊤) → reader_of s body stopped ≡ r → format ≡ s.format → bytes ≡ body
-    → EndAnswer s.most fed (told_by s) body (Ok u) → HasVerdict r.most fed (whole format bytes) ⊎ IsJudged r.most fed (goes_on format bytes)
+    → StreamEnd s.most fed (told_of_head s) body (Ok u) → HasVerdict r.most fed (whole format bytes) ⊎ IsJudged r.most fed (goes_on format bytes)
 ends_with_body s body bytes fed stopped r format u is named same x =
     rw (named, same) (subst (λ m. HasVerdict m fed (whole s.format body) ⊎ IsJudged m fed (goes_on s.format body)) (ap (λ (q : Reader). q.most) is) (body_end s.part s.most fed body s.format u x))
 
-pub ends_without : (fault : ReplyFault) (s : Streaming) (body fed : List ℕ) (stopped : Option ReplyFault) (r : Reader) → reader_of s body stopped ≡ r → EndAnswer s.most fed (told_by s) body (Err fault) → FinishAnswer r.most fed (Err fault)
+pub ends_without : (fault : ReplyFault) (s : Streaming) (body fed : List ℕ) (stopped : Option ReplyFault) (r : Reader) → reader_of s body stopped ≡ r → StreamEnd s.most fed (told_of_head s) body (Err fault) → FinishAnswer r.most fed (Err fault)
 ends_without faults.Truncated s body fed stopped r is x = subst (λ m. IsJudged m fed waits) (ap (λ (q : Reader). q.most) is) x
 ends_without faults.Head s body fed stopped r is x = absurd x
 ends_without (faults.Status code) s body fed stopped r is x = absurd x

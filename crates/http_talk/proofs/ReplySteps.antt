@@ -1,8 +1,8 @@
 -- Steps of a reader of a reply.
-use Rattle.std.proofs.Common.{◌≡◌, ℕ, ◌+◌, ◌-◌, ◌*◌, ◌≤◌, ◌<◌, Bool, true, false, List, [], ◌∷◌, ◌++◌, length, take, drop, refl, sym, ap, ◌∙◌, subst, arith, append_assoc, append-nil, Option, Some, None}
+use Rattle.std.proofs.Common.{◌≡◌, ℕ, ◌+◌, ◌-◌, ◌*◌, ◌≤◌, ◌<◌, Bool, true, false, List, [], ◌∷◌, ◌++◌, length, take, drop, refl, sym, ap, ◌∙◌, subst, arith, append-nil, Option, Some, None}
 use Rattle.std.specs.Prelude.{◌≢◌, ◌||◌, ◌==◌, codes, min, if◌then◌else◌, Result, Ok, Err}
 use Rattle.std.proofs.lemmas.Bool.{le-leb, lt-leb, lt-ltb, le-ltb, eqb-true, eqb-false}
-use Rattle.std.proofs.lemmas.List.{length-append, length-take, length-drop, take-append-drop, take_all}
+use Rattle.std.proofs.lemmas.List.{length-append, take_all}
 use Rattle.httparse.specs.Grammar.{ResponseHead, print_response, lf}
 use Rattle.httparse.specs.declared.spans.HeaderSpan.{HeaderSpan}
 use Rattle.httparse.specs.declared.spans.ResponseSpans.{ResponseSpans}
@@ -13,7 +13,6 @@ use Rattle.page_model.specs.declared.format.Format.{Format}
 use Rattle.page_model.specs.declared.event.Cause.TheVariants as causes
 use Rattle.http_talk.specs.declared.part.Part.{Part}
 use Rattle.http_talk.specs.declared.part.Part.TheVariants as parts
-use Rattle.http_talk.specs.declared.part.Start.{Start}
 use Rattle.http_talk.specs.declared.chunk_place.ChunkPlace.{ChunkPlace}
 use Rattle.http_talk.specs.declared.chunk_place.ChunkPlace.TheVariants as places
 use Rattle.http_talk.specs.declared.fault.Progress.{Progress}
@@ -24,7 +23,7 @@ use Rattle.http_talk.specs.declared.seen.HeadSeen.TheVariants as seen
 use Rattle.http_talk.specs.Heads.{Shows, HeadRead, unfinished, missing, found, HeadIs, head_cause, format_of, framing_of, Framing, in_chunks, to_the_end, of_length}
 use Rattle.http_talk.specs.Chunks.{Chunks, no_chunks, with_bytes, is_certain, is_body_end, is_too_much, is_wrong}
 use Rattle.http_talk.specs.ChunkFeeding.{part_behind}
-use Rattle.http_talk.specs.HeadFacts.{IsHeadFault, IsStart, first_part, IsFirstPart}
+use Rattle.http_talk.specs.HeadFacts.{IsHeadFault, first_part, IsFirstPart}
 use Rattle.http_talk.specs.HeadFeeding.{IsHeadAt, IsBadHead}
 use Rattle.http_talk.specs.Replies.{waits, goes_on, decided, refused, whole, judged, body_judged, or_waits, chunks_verdict, IsJudged, Verdict, HasVerdict}
 use Rattle.http_talk.specs.ReplyReading.{Reader, HasBody, HasKept, Stands, IsRefusal, FeedAnswer}

@@ -1,6 +1,6 @@
 -- Readers of a reply, and which bytes they were fed.
 -- RFC 9112, sections 4 to 8; the limits are the bridge's own.
-use Rattle.std.specs.Prelude.{◌≡◌, ◌⊎◌, ℕ, ◌<◌, ◌≤◌, false, List, ◌++◌, length, Option, Some, None, Result, Ok, Err, ⊤}
+use Rattle.std.specs.Prelude.{◌≡◌, ◌⊎◌, ℕ, ◌<◌, ◌≤◌, false, List, length, Option, Some, None, Result, Ok, Err, ⊤}
 use Rattle.httparse.specs.Grammar.{ResponseHead, print_response}
 use Rattle.page_model.specs.declared.format.Format.{Format}
 use Rattle.http_talk.specs.declared.part.Part.{Part}
@@ -11,11 +11,7 @@ use Rattle.http_talk.specs.declared.fault.Body.{Body}
 use Rattle.http_talk.specs.declared.fault.ReplyFault.{ReplyFault}
 use Rattle.http_talk.specs.declared.fault.ReplyFault.TheVariants as faults
 use Rattle.page_model.specs.declared.event.Cause.{Cause}
-use Rattle.httparse.specs.declared.spans.HeaderSpan.{HeaderSpan}
-use Rattle.httparse.specs.declared.spans.ResponseSpans.{ResponseSpans}
-use Rattle.http_talk.specs.HeadFeeding.{IsHeadAt}
-use Rattle.http_talk.specs.ChunkFeeding.{IsChunkPlace}
-use Rattle.http_talk.specs.Heads.{head_limit, unfinished, found, HeadIs, head_cause, format_of, framing_of, Framing, in_chunks, to_the_end, of_length}
+use Rattle.http_talk.specs.Heads.{unfinished, found, HeadIs, head_cause, format_of, framing_of, Framing, in_chunks, to_the_end, of_length}
 use Rattle.http_talk.specs.Chunks.{no_chunks, with_bytes}
 use Rattle.http_talk.specs.Chunks as chunks
 use Rattle.http_talk.specs.Replies.{Judged, waits, goes_on, decided, refused, whole, IsJudged, HasVerdict, cause_of}

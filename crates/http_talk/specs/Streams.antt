@@ -19,7 +19,7 @@ use Rattle.http_talk.specs.HeadFacts.{IsHeadFault, first_part}
 use Rattle.http_talk.specs.Heads.{unfinished, found, HeadIs, head_cause, format_of, framing_of, Framing, in_chunks, to_the_end, of_length}
 use Rattle.http_talk.specs.Chunks.{no_chunks, with_bytes}
 use Rattle.http_talk.specs.ChunkFeeding.{IsChunkPlace}
-use Rattle.http_talk.specs.Replies.{Judged, waits, goes_on, decided, refused, whole, IsJudged, HasVerdict, is_decided}
+use Rattle.http_talk.specs.Replies.{Judged, waits, goes_on, refused, whole, IsJudged, HasVerdict, is_decided}
 use Rattle.http_talk.specs.ReplyReading.{Reader, HasBody, Stands, IsRefusal, kept_by, progress_of}
 
 -- a stream: how many bytes a body may have, what it is reading, the format of the body, what it keeps of a head that is not there yet, how many bytes of the body it gave, how many bytes came in all, and what stopped it
@@ -37,8 +37,9 @@ abbrev pub told_at : Part → Format → Option Format
 told_at parts.Head format = None
 told_at part format = Some format
 
-abbrev pub told_by : Streaming → Option Format
-told_by s = told_at s.part s.format
+-- what a stream told of the head, by what it is reading
+abbrev pub told_of_head : Streaming → Option Format
+told_of_head s = told_at s.part s.format
 
 -- the numbers of what a stream is reading are within the limits, where it gave so many bytes of the body
 abbrev pub IsSoundPart : Part → ℕ → ℕ → Type 0
@@ -67,7 +68,7 @@ reader_with s given = record { most = s.most; part = s.part; format = s.format; 
 
 -- a stream was fed these bytes, none of which is refused, and gave these bytes, which are all that came of the body
 pub record Flows (fed given : List ℕ) (s : Streaming) : Type 0 where
-  pub gave : HasGiven s.most fed (told_by s) given
+  pub gave : HasGiven s.most fed (told_of_head s) given
   pub unrefused : (cause : Cause) → HasVerdict s.most fed (refused cause) → ⊥
   pub count : s.body ≡ length given
   pub stands : Stands fed (reader_with s given)
@@ -81,7 +82,7 @@ HasEnded fault s = s.stopped ≡ Some fault
 -- the piece is used up, and nothing is certain
 pub record IsUsedUp (fed given : List ℕ) (used : ℕ) (piece : List ℕ) (old new : Streaming) : Type 0 where
   pub all : used ≡ length piece
-  pub told : told_by new ≡ told_by old
+  pub told : told_of_head new ≡ told_of_head old
   pub flows_on : Flows (fed ++ piece) given new
   pub known : Judged
   pub judged_so : IsJudged new.most (fed ++ piece) known
@@ -89,8 +90,8 @@ pub record IsUsedUp (fed given : List ℕ) (used : ℕ) (piece : List ℕ) (old 
 
 -- the bytes that were taken end with the last byte of the head, and this is told of it
 pub record EndsHead (format : Format) (fed given taken : List ℕ) (old new : Streaming) : Type 0 where
-  pub first : told_by old ≡ None
-  pub told : told_by new ≡ Some format
+  pub first : told_of_head old ≡ None
+  pub told : told_of_head new ≡ Some format
   pub none : given ≡ []
   pub head : ResponseHead
   pub ends : HeadIs (fed ++ taken) (found head [])
@@ -100,14 +101,14 @@ pub record EndsHead (format : Format) (fed given taken : List ℕ) (old new : St
 pub record GivesBody (from to : ℕ) (fed given : List ℕ) (used : ℕ) (piece : List ℕ) (old new : Streaming) : Type 0 where
   pub some : from < to
   pub last : used ≡ to
-  pub told : told_by new ≡ told_by old
+  pub told : told_of_head new ≡ told_of_head old
   pub flows_on : Flows (fed ++ take used piece) (given ++ slice_range piece from to) new
 
 -- the reply is whole, and all of its body was given before
 pub record IsAllGiven (fed given taken : List ℕ) (old new : Streaming) : Type 0 where
   pub format : Format
-  pub before : told_by old ≡ Some format
-  pub told : told_by new ≡ told_by old
+  pub before : told_of_head old ≡ Some format
+  pub told : told_of_head new ≡ told_of_head old
   pub verdict : HasVerdict new.most (fed ++ taken) (whole format given)
   pub flows_on : Flows (fed ++ taken) given new
 
@@ -120,11 +121,11 @@ FlowAnswer fed given piece used old new (Ok flows.Whole) = IsAllGiven fed given 
 FlowAnswer fed given piece used old new (Err fault) = IsRefusal new.most (fed ++ piece) fault × (fault ≢ faults.Memory)
 
 -- what the end gives: nothing is missing, or it came too soon
-abbrev pub EndAnswer : ℕ → List ℕ → Option Format → List ℕ → Result ⊤ ReplyFault → Type 0
-EndAnswer most fed None given (Ok u) = ⊥
-EndAnswer most fed (Some format) given (Ok u) = HasVerdict most fed (whole format given) ⊎ IsJudged most fed (goes_on format given)
-EndAnswer most fed told given (Err faults.Truncated) = IsJudged most fed waits
-EndAnswer most fed told given (Err fault) = ⊥
+abbrev pub StreamEnd : ℕ → List ℕ → Option Format → List ℕ → Result ⊤ ReplyFault → Type 0
+StreamEnd most fed None given (Ok u) = ⊥
+StreamEnd most fed (Some format) given (Ok u) = HasVerdict most fed (whole format given) ⊎ IsJudged most fed (goes_on format given)
+StreamEnd most fed told given (Err faults.Truncated) = IsJudged most fed waits
+StreamEnd most fed told given (Err fault) = ⊥
 
 -- ---- steps
 
@@ -146,21 +147,21 @@ BeginsBody old new h len (Ok format) =
 BeginsBody old new h len (Err fault) = IsHeadFault old.most h fault
 
 -- what a step answers to a piece
-abbrev pub StepAnswer : List ℕ → List ℕ → List ℕ → Streaming → Streaming → Result Step ReplyFault → Type 0
-StepAnswer fed given piece old new (Ok step) = FlowAnswer fed given piece step.taken old new (Ok step.flow)
-StepAnswer fed given piece old new (Err fault) = FlowAnswer fed given piece 0 old new (Err fault)
+abbrev pub StepFlow : List ℕ → List ℕ → List ℕ → Streaming → Streaming → Result Step ReplyFault → Type 0
+StepFlow fed given piece old new (Ok step) = FlowAnswer fed given piece step.taken old new (Ok step.flow)
+StepFlow fed given piece old new (Err fault) = FlowAnswer fed given piece 0 old new (Err fault)
 
 -- it takes no more bytes than there are
-abbrev pub IsWithin : List ℕ → Result Step ReplyFault → Type 0
-IsWithin piece (Ok step) = step.taken ≤ length piece
-IsWithin piece (Err fault) = ⊤
+abbrev pub IsStepWithin : List ℕ → Result Step ReplyFault → Type 0
+IsStepWithin piece (Ok step) = step.taken ≤ length piece
+IsStepWithin piece (Err fault) = ⊤
 
 -- a step over a piece
-pub record TakesStep (old new : Streaming) (piece : List ℕ) (result : Result Step ReplyFault) : Type 0 where
+pub record StepsOver (old new : Streaming) (piece : List ℕ) (result : Result Step ReplyFault) : Type 0 where
   pub same : new.most ≡ old.most
   pub working : new.stopped ≡ old.stopped
-  pub within : IsWithin piece result
-  pub answer : (fed given : List ℕ) → Flows fed given old → StepAnswer fed given piece old new result
+  pub within : IsStepWithin piece result
+  pub answer : (fed given : List ℕ) → Flows fed given old → StepFlow fed given piece old new result
 
 -- ---- a reader that keeps what a stream gives
 
@@ -178,18 +179,18 @@ GatherAnswer fed body new (Ok progress) = Flows fed body new × (known : Judged)
 GatherAnswer fed body new (Err fault) = IsRefusal new.most fed fault
 
 -- how many heads are still to be told
-abbrev pub untold : Option Format → ℕ
-untold None = 1
-untold (Some format) = 0
+abbrev pub heads_to_tell : Option Format → ℕ
+heads_to_tell None = 1
+heads_to_tell (Some format) = 0
 
 -- some bytes of a piece were fed, or a head was told
-pub record IsTurn (fed piece body : List ℕ) (taken : ℕ) (old new : Streaming) : Type 0 where
+pub record GathersFront (fed piece body : List ℕ) (taken : ℕ) (old new : Streaming) : Type 0 where
   pub within : taken ≤ length piece
-  pub some : untold (told_by new) < 2 * taken + untold (told_by old)
+  pub some : heads_to_tell (told_of_head new) < 2 * taken + heads_to_tell (told_of_head old)
   pub flows_on : Flows (fed ++ take taken piece) body new
 
 -- what feeding a front of a piece comes to
-abbrev pub TurnAnswer : List ℕ → List ℕ → List ℕ → Streaming → Streaming → Result Turn ReplyFault → Type 0
-TurnAnswer fed piece body old new (Ok (turns.On taken)) = IsTurn fed piece body taken old new
-TurnAnswer fed piece body old new (Ok (turns.Over progress)) = GatherAnswer (fed ++ piece) body new (Ok progress)
-TurnAnswer fed piece body old new (Err fault) = IsRefusal new.most (fed ++ piece) fault
+abbrev pub FrontAnswer : List ℕ → List ℕ → List ℕ → Streaming → Streaming → Result Turn ReplyFault → Type 0
+FrontAnswer fed piece body old new (Ok (turns.On taken)) = GathersFront fed piece body taken old new
+FrontAnswer fed piece body old new (Ok (turns.Over progress)) = GatherAnswer (fed ++ piece) body new (Ok progress)
+FrontAnswer fed piece body old new (Err fault) = IsRefusal new.most (fed ++ piece) fault

@@ -76,7 +76,7 @@ impl ChunkReader {
     }
 
     /// How many bytes of the reply came in all.
-    pub(crate) fn got(&self) -> u64
+    pub(crate) fn total(&self) -> u64
         ensures { result ≡ self.now.got }
     {
         self.got

@@ -1,7 +1,7 @@
 //! Readers of a reply that keep its body (RFC 9112, sections 4 to 8).
 ghost use Rattle.std.specs.Prelude.{◌≡◌, ℕ, ◌<◌, ◌^◌, List, [], ◌++◌, length, IfOk, IfErr, Err};
 ghost use Rattle.http_talk.specs.Replies.{IsBodyLimit};
-ghost use Rattle.http_talk.specs.Streams.{Flows, HasFlowed, GatherAnswer, TurnAnswer};
+ghost use Rattle.http_talk.specs.Streams.{Flows, HasFlowed, GatherAnswer, FrontAnswer};
 ghost use Rattle.http_talk.specs.declared.fault.ReplyFault.{ReplyFault as AnyFault};
 
 use crate::fault::{Body, Progress, ReplyFault};
@@ -42,7 +42,7 @@ fn turn(stream: &mut Stream, body: &mut Vec<u8>, piece: &[u8]) -> Result<Turn, R
     requires flowed { HasFlowed stream.old body.old.items }
     ensures same { stream.new.most ≡ stream.old.most }
     ensures answer { (fed : List ℕ) → Flows fed body.old.items stream.old
-        → TurnAnswer fed piece.now body.new.items stream.old stream.new result }
+        → FrontAnswer fed piece.now body.new.items stream.old stream.new result }
 {
     let mut taken = 0u32;
     match stream.feed(piece, &mut taken) {

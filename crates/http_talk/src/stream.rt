@@ -64,8 +64,8 @@ impl Model for Stream {
         × (length s.kept.items ≤ head_limit) × (head_limit ≤ vec_capacity s.kept) };
 }
 
-/// Nothing of a piece comes behind it.
-fn used_up(piece: &[u8]) -> Step
+/// Uses a piece up that tells nothing.
+fn use_up(piece: &[u8]) -> Step
     requires { length piece.now < 2 ^ 32 }
     ensures { result ≡ record { flow = More; taken = length piece.now } }
 {
@@ -75,8 +75,8 @@ fn used_up(piece: &[u8]) -> Step
     }
 }
 
-/// The bytes of a piece from a place up to another are given, where there are some, and else it is used up.
-fn given(from: usize, to: usize) -> Step
+/// Gives the bytes of a piece from a place up to another, where there are some, and else uses it up.
+fn body_step(from: usize, to: usize) -> Step
     requires order { from ≤ to }
     requires small { to < 2 ^ 32 }
     ensures { result ≡ step_to from to }
@@ -107,13 +107,13 @@ fn step_behind(progress: Result<Progress, ReplyFault>, run: Run) -> Result<Step,
             flow: Flow::Whole,
             taken: run.to as u32,
         }),
-        Ok(Progress::More) => Ok(given(run.from, run.to)),
+        Ok(Progress::More) => Ok(body_step(run.from, run.to)),
         Err(fault) => Err(fault),
     }
 }
 
 impl Stream {
-    ghost use Rattle.http_talk.specs.Streams.{Flows, TakesStep, FlowAnswer, EndAnswer, HasEnded, BeginsBody, told_by, told_at};
+    ghost use Rattle.http_talk.specs.Streams.{Flows, StepsOver, FlowAnswer, StreamEnd, HasEnded, BeginsBody, told_of_head, told_at};
 
     /// A stream that was fed nothing, of a body of at most `max_page` bytes.
     ///
@@ -122,7 +122,7 @@ impl Stream {
     /// Want of memory.
     pub fn new(alloc: Global, max_page: u32) -> Result<Stream, Memory>
         requires { IsBodyLimit max_page }
-        ensures { IfOk result (λ stream. (stream.most ≡ max_page) × (told_by stream ≡ None) × Flows [] [] stream) }
+        ensures { IfOk result (λ stream. (stream.most ≡ max_page) × (told_of_head stream ≡ None) × Flows [] [] stream) }
     {
         Ok(Stream {
             most: max_page,
@@ -176,7 +176,7 @@ impl Stream {
     /// Takes a front of a piece.
     fn take(&mut self, piece: &[u8]) -> Result<Step, ReplyFault>
         requires { length piece.now < 2 ^ 32 }
-        ensures { TakesStep self.old self.new piece.now result }
+        ensures { StepsOver self.old self.new piece.now result }
     {
         match self.part {
             Part::Head => self.take_head(piece),
@@ -194,14 +194,14 @@ impl Stream {
     fn take_head(&mut self, piece: &[u8]) -> Result<Step, ReplyFault>
         requires part { self.old.part ≡ InHead }
         requires small { length piece.now < 2 ^ 32 }
-        ensures { TakesStep self.old self.new piece.now result }
+        ensures { StepsOver self.old self.new piece.now result }
     {
         let before = self.kept.len();
         let count = (HEAD_LIMIT - before).min(piece.len());
         self.keep(&piece[..count]);
         let mut spans = [EMPTY_HEADER_SPAN; FIELD_LIMIT];
         match head_of(self.kept.as_slice(), &mut spans) {
-            Head::More => Ok(used_up(piece)),
+            Head::More => Ok(use_up(piece)),
             Head::Bad => Err(ReplyFault::Head),
             Head::Found(head) => match self.begin(head, &spans) {
                 Ok(format) => Ok(Step {
@@ -245,7 +245,7 @@ impl Stream {
     fn take_sized(&mut self, size: u64, piece: &[u8]) -> Step
         requires part { self.old.part ≡ Sized size }
         requires small { length piece.now < 2 ^ 32 }
-        ensures { TakesStep self.old self.new piece.now (Ok result) }
+        ensures { StepsOver self.old self.new piece.now (Ok result) }
     {
         let missing = size - self.body;
         let count = piece.len().min(missing as usize);
@@ -253,33 +253,33 @@ impl Stream {
         if count as u64 == missing {
             self.part = Part::Whole;
         }
-        given(0, count)
+        body_step(0, count)
     }
 
     /// Gives bytes of a body that goes to the end.
     fn take_open(&mut self, piece: &[u8]) -> Result<Step, ReplyFault>
         requires part { self.old.part ≡ Open }
         requires small { length piece.now < 2 ^ 32 }
-        ensures { TakesStep self.old self.new piece.now result }
+        ensures { StepsOver self.old self.new piece.now result }
     {
         if piece.len() as u64 > u64::from(self.most) - self.body {
             return Err(ReplyFault::TooLong);
         }
         self.body += piece.len() as u64;
-        Ok(given(0, piece.len()))
+        Ok(body_step(0, piece.len()))
     }
 
     /// Gives bytes of a body in chunks, of one of them at most.
     fn take_chunks(&mut self, place: ChunkPlace, piece: &[u8]) -> Result<Step, ReplyFault>
         requires part { self.old.part ≡ Chunked place }
         requires small { length piece.now < 2 ^ 32 }
-        ensures { TakesStep self.old self.new piece.now result }
+        ensures { StepsOver self.old self.new piece.now result }
     {
         let mut chunks = ChunkReader::at(place, self.body, self.got);
         let run = chunks.take_front(self.most, piece);
         self.part = chunks.part();
         self.body = chunks.body();
-        self.got = chunks.got();
+        self.got = chunks.total();
         step_behind(chunks.progress(self.most), run)
     }
 
@@ -297,7 +297,7 @@ impl Stream {
     ///
     /// [`ReplyFault::Truncated`], where the reply ended too early; never want of memory.
     pub fn finish(self) -> Result<(), ReplyFault>
-        ensures answer { (fed given : List ℕ) → Flows fed given self → EndAnswer self.most fed (told_by self) given result }
+        ensures answer { (fed given : List ℕ) → Flows fed given self → StreamEnd self.most fed (told_of_head self) given result }
         ensures stopped { (fault : AnyFault) → HasEnded fault self → result ≡ Err fault }
     {
         if let Some(fault) = self.stopped {

@@ -20,9 +20,9 @@ use Rattle.http_talk.specs.declared.fault.ReplyFault.{ReplyFault}
 use Rattle.http_talk.specs.declared.fault.ReplyFault.TheVariants as faults
 use Rattle.http_talk.specs.declared.fault.Progress.{Progress}
 use Rattle.http_talk.specs.declared.fault.Progress.TheVariants as progresses
-use Rattle.http_talk.specs.Replies.{Judged, waits, goes_on, decided, refused, whole, IsJudged, HasVerdict, is_decided, IsPageOutcome, IsOutcomeOf, IsOutcomeBy, IsSent, IsGot, cause_of}
+use Rattle.http_talk.specs.Replies.{Judged, waits, goes_on, decided, refused, IsJudged, is_decided, IsPageOutcome, IsOutcomeOf, IsOutcomeBy, IsSent, IsGot, cause_of}
 use Rattle.http_talk.specs.ReplyReading.{progress_of, IsRefusal}
-use Rattle.http_talk.proofs.Laws.{by_more, bare_head, known_once, undecided_is_short}
+use Rattle.http_talk.proofs.Laws.{by_more, bare_head, undecided_is_short}
 use Rattle.scrape_client.specs.declared.page_reply.PageReply.{PageReply}
 use Rattle.scrape_client.specs.PageReplies.{ReadsPage, HasRead, IsFaultOutcome, IsPeerOutcome, IsPieceRead, most_of}
 use Rattle.scrape_client.specs.Scraping.{IsWireFault}
@@ -128,8 +128,11 @@ reads_nothing limit old reply x = record {
   count_is = refl;
 }
 
+pub some_read : (limit : ℕ) (fed : List ℕ) (reply : PageReply) → ReadsPage limit fed reply → HasRead reply
+some_read limit fed reply x = (fed, subst (λ l. ReadsPage l fed reply) (sym x.limit_is) x)
+
 pub has_read : (limit most : ℕ) (old now : WireState) (reply : PageReply) (count : ℕ) → ReadsOn limit most old now reply count → HasRead reply
-has_read limit most old now reply count x = (x.fed, subst (λ l. ReadsPage l x.fed reply) (sym x.reads.limit_is) x.reads)
+has_read limit most old now reply count x = some_read limit x.fed reply x.reads
 
 -- the wire behind one more piece
 piece_read : (old now new : WireState) (fed piece : List ℕ) → now ≡ got_on fed old → 0 < length piece → new ≡ after_read piece now → new ≡ got_on (fed ++ piece) old

@@ -4,7 +4,7 @@ ghost use Rattle.bridge_ports.specs.declared.talk.End.TheVariants as ends;
 ghost use Rattle.page_model.specs.declared.event.Outcome.TheVariants.{Failed};
 ghost use Rattle.http_talk.specs.declared.fault.ReplyFault.TheVariants.{Memory as WantsMemory};
 ghost use Rattle.http_talk.specs.Replies.{Judged, IsJudged, IsBodyLimit, IsOutcomeOf};
-ghost use Rattle.scrape_client.specs.PageReplies.{ReadsPage, HasRead, TurnAnswer, PieceAnswer, IsFaultOutcome, IsPeerOutcome, most_of};
+ghost use Rattle.scrape_client.specs.PageReplies.{ReadsPage, HasRead, ReadStepAnswer, ReadAnswer, IsFaultOutcome, IsPeerOutcome, most_of};
 
 use crate::page_so_far::PageSoFar;
 use crate::turn::Turn;
@@ -65,7 +65,7 @@ impl PageReply {
         requires reads { HasRead self.old }
         ensures same { most_of self.new ≡ most_of self.old }
         ensures answer { (limit : ℕ) (fed : List ℕ) → ReadsPage limit fed self.old
-            → TurnAnswer limit fed piece.now self.old self.new result }
+            → ReadStepAnswer limit fed piece.now self.old self.new result }
     {
         let mut taken = 0u32;
         match self.stream.feed(piece, &mut taken) {
@@ -90,7 +90,7 @@ impl PageReply {
         requires reads { HasRead self.old }
         ensures same { most_of self.new ≡ most_of self.old }
         ensures answer { (limit : ℕ) (fed : List ℕ) → ReadsPage limit fed self.old
-            → PieceAnswer limit (fed ++ block.now) self.new result }
+            → ReadAnswer limit (fed ++ block.now) self.new result }
     {
         let mut at = 0;
         loop {
@@ -107,7 +107,7 @@ impl PageReply {
         requires { HasRead self.old }
         ensures same { most_of self.new ≡ most_of self.old }
         ensures answer { (limit : ℕ) (fed : List ℕ) → ReadsPage limit fed self.old
-            → PieceAnswer limit (fed ++ piece.now) self.new result }
+            → ReadAnswer limit (fed ++ piece.now) self.new result }
     {
         let mut at = 0;
         while piece.len() - at > MOST_BLOCK {
@@ -122,9 +122,10 @@ impl PageReply {
 
     /// What the reply comes to, of which no more bytes come.
     pub(crate) fn finish(self) -> Result<Outcome, Memory>
+        requires { HasRead self }
         ensures outcome { (limit : ℕ) (fed : List ℕ) → ReadsPage limit fed self → (known : Judged) → IsJudged (most_of self) fed known
             → IfOk result (IsOutcomeOf ends.Ended limit known) }
-        ensures peer { HasRead self → IfOk result IsPeerOutcome }
+        ensures peer { IfOk result IsPeerOutcome }
     {
         let PageReply {
             alloc: _,

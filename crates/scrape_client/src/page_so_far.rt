@@ -5,7 +5,7 @@ ghost use Rattle.page_model.specs.declared.format.Treatment.TheVariants.{Scraped
 ghost use Rattle.page_feeding.specs.PageFeeding.{Answers};
 ghost use Rattle.line_scan.specs.LineReading.{setting_of};
 ghost use Rattle.http_talk.specs.Replies.{IsPageOutcome};
-ghost use Rattle.scrape_client.specs.PageReplies.{IsRead, HasRoomFor, FeedsOn};
+ghost use Rattle.scrape_client.specs.PageReplies.{PageHasRead, PageHasRoom, IsPageBegun, FeedsOn};
 
 use label_sets::Memory;
 use page_model::{Cause, Format, Outcome, Page, PageFault, Treatment};
@@ -26,7 +26,7 @@ pub(crate) enum PageSoFar {
 impl PageSoFar {
     /// A page in this format of which no byte came. `limit` is the most samples that it may have.
     pub(crate) fn begin(alloc: Global, format: Format, limit: u32) -> PageSoFar
-        ensures { IsRead limit format [] result }
+        ensures { PageHasRead limit format [] result }
     {
         match AnyReader::new(alloc, format, Treatment::Scraped, limit) {
             Ok(reader) => PageSoFar::Reading(reader),
@@ -36,8 +36,8 @@ impl PageSoFar {
 
     /// Feeds the next bytes to the reader, where there is one.
     fn feed(&mut self, piece: &[u8]) -> Result<(), PageFault>
-        requires { HasRoomFor (length piece.now) self.old }
-        ensures { (limit : ℕ) (format : AnyFormat) (bytes : List ℕ) → IsRead limit format bytes self.old
+        requires { PageHasRoom (length piece.now) self.old }
+        ensures { (limit : ℕ) (format : AnyFormat) (bytes : List ℕ) → PageHasRead limit format bytes self.old
             → FeedsOn limit format bytes piece.now self.new result }
     {
         match self {
@@ -49,9 +49,9 @@ impl PageSoFar {
 
     /// Takes the next bytes of the page. Behind its first fault they are let go.
     pub(crate) fn take(&mut self, piece: &[u8])
-        requires { HasRoomFor (length piece.now) self.old }
-        ensures { (limit : ℕ) (format : AnyFormat) (bytes : List ℕ) → IsRead limit format bytes self.old
-            → IsRead limit format (bytes ++ piece.now) self.new }
+        requires { PageHasRoom (length piece.now) self.old }
+        ensures { (limit : ℕ) (format : AnyFormat) (bytes : List ℕ) → PageHasRead limit format bytes self.old
+            → PageHasRead limit format (bytes ++ piece.now) self.new }
     {
         match self.feed(piece) {
             Ok(()) => {}
@@ -61,11 +61,12 @@ impl PageSoFar {
 
     /// The page, or its first fault, once all of its bytes were taken.
     fn finish(self) -> Result<Page, PageFault>
-        ensures { (limit : ℕ) (format : AnyFormat) (bytes : List ℕ) → IsRead limit format bytes self
+        requires { IsPageBegun self }
+        ensures { (limit : ℕ) (format : AnyFormat) (bytes : List ℕ) → PageHasRead limit format bytes self
             → Answers (setting_of format Scraped limit) bytes result }
     {
         match self {
-            PageSoFar::Unbegun => Err(PageFault::Memory),
+            PageSoFar::Unbegun => unreachable!(),
             PageSoFar::Reading(reader) => reader.finish(),
             PageSoFar::Stopped(fault) => Err(fault),
         }
@@ -73,7 +74,8 @@ impl PageSoFar {
 
     /// What the page comes to, once all of its bytes were taken.
     pub(crate) fn end(self) -> Result<Outcome, Memory>
-        ensures { (limit : ℕ) (format : AnyFormat) (bytes : List ℕ) → IsRead limit format bytes self
+        requires { IsPageBegun self }
+        ensures { (limit : ℕ) (format : AnyFormat) (bytes : List ℕ) → PageHasRead limit format bytes self
             → IfOk result (IsPageOutcome limit format bytes) }
     {
         match self.finish() {

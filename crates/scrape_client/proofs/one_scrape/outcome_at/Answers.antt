@@ -1,14 +1,24 @@
-use Rattle.std.proofs.Common.{◌≡◌, ◌∙◌, Ok, refl, sym, subst}
+use Rattle.std.proofs.Common.{refl, sym, subst}
 use Rattle.bridge_ports.specs.declared.talk.End.TheVariants as ends
 use Rattle.page_model.specs.declared.event.Cause.TheVariants as causes
 use Rattle.http_talk.specs.declared.fault.Progress.{Progress}
 use Rattle.http_talk.specs.ReplyReading.{IsRefusal}
-use Rattle.scrape_client.specs.PageReplies.{IsPieceRead, PieceAnswer, most_of}
+use Rattle.scrape_client.specs.PageReplies.{IsPieceRead, most_of}
 use Rattle.std.specs.Prelude.{IfOk}
 use Rattle.bridge_ports.specs.declared.talk.End.{End}
 use Rattle.scrape_client.specs.Exchanges.{IsOutcomeAt}
-use Rattle.scrape_client.proofs.Exchanging.{not_left, whole_at, failed_at_end, ended_at, refused_at}
+use Rattle.scrape_client.proofs.Exchanging.{some_read, not_left, whole_at, failed_at_end, ended_at, refused_at}
 use Rattle.scrape_client.proofs.one_scrape.outcome_at.Goals as goal
+
+pub finish-requires : goal.finish-requires
+finish-requires c =
+    let t = subst (λ (p : Progress). IsPieceRead c.args.reply.limit c.args.got.now c.feed_all.new.self p) c.in-Ok-Whole.field-0-is (c.in-Ok-Whole.ensures.answer c.args.reply.limit _ c.requires.fresh) in
+    some_read c.args.reply.limit c.args.got.now c.feed_all.new.self t.reads
+
+pub finish-requires-in-Ended : goal.finish-requires-in-Ended
+finish-requires-in-Ended c =
+    let t = subst (λ (p : Progress). IsPieceRead c.args.reply.limit c.args.got.now c.feed_all.new.self p) c.in-Ok-More.field-0-is (c.in-Ok-More.ensures.answer c.args.reply.limit _ c.requires.fresh) in
+    some_read c.args.reply.limit c.args.got.now c.feed_all.new.self t.reads
 
 pub returns-in-Ok-Whole : goal.returns-in-Ok-Whole
 returns-in-Ok-Whole c =

@@ -1,4 +1,4 @@
-use Rattle.std.proofs.Common.{◌≡◌, ◌∙◌, ℕ, Ok, ap, subst, length}
+use Rattle.std.proofs.Common.{◌≡◌, ◌∙◌, ℕ, ap, length}
 use Rattle.bridge_ports.specs.Talks.{made_ready, begun_at}
 use Rattle.http_talk.specs.Requests.{get_request}
 use Rattle.scrape_client.proofs.Scrapes.{is_scrape, exchange_by}

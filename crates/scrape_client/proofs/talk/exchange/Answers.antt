@@ -4,7 +4,6 @@ use Rattle.bridge_ports.specs.declared.talk.Stage.TheVariants as stages
 use Rattle.bridge_ports.specs.Causes.{Rose}
 use Rattle.bridge_ports.specs.Talks.{WireState, sent_on, failed_at}
 use Rattle.scrape_client.specs.PageReplies.{most_of}
-use Rattle.scrape_client.specs.Exchanges.{IsExchange}
 use Rattle.scrape_client.proofs.Exchanging.{no_connection, no_write, reply_read, connected_at}
 use Rattle.scrape_client.proofs.talk.exchange.Goals as goal
 

@@ -1,11 +1,10 @@
-use Rattle.std.proofs.Common.{rules, ◌≡◌, ◌∙◌, ◌+◌, ◌<◌, ◌++◌, ℕ, Ok, take, length, sym, subst, arith}
+use Rattle.std.proofs.Common.{rules, ◌≡◌, ◌∙◌, ◌+◌, ◌<◌, ◌++◌, ℕ, take, length, sym, subst, arith}
 use Rattle.std.proofs.lemmas.List.{length-take-le}
 use Rattle.bridge_ports.specs.Talks.{after_read}
 use Rattle.http_talk.specs.declared.fault.Progress.{Progress}
-use Rattle.page_model.specs.declared.event.Outcome.{Outcome}
-use Rattle.scrape_client.specs.PageReplies.{IsPieceRead, ReadsPage, most_of}
+use Rattle.scrape_client.specs.PageReplies.{IsPieceRead, most_of}
 use Rattle.http_talk.specs.Replies.{IsJudged}
-use Rattle.scrape_client.proofs.Exchanging.{reads_nothing, reads_more, reads_few, reads_keep, whole_read, refused_read, ended_read, read_failed, has_read, peer_is}
+use Rattle.scrape_client.proofs.Exchanging.{reads_nothing, reads_more, reads_few, reads_keep, whole_read, refused_read, ended_read, has_read, some_read, peer_is}
 use Rattle.scrape_client.proofs.talk.read_reply.Goals as goal
 
 pub loop-reply-init : goal.loop-reply-init
@@ -13,6 +12,16 @@ loop-reply-init g c = reads_nothing c.args.reply.limit (g.W.Wire.state c.args.wi
 
 pub feed-requires-clause-reads : goal.feed-requires-clause-reads
 feed-requires-clause-reads g c = has_read c.args.reply.limit (most_of c.args.reply) (g.W.Wire.state c.args.wire.now) (g.W.Wire.state c.loop-reply.wire) c.loop-reply.reply c.loop-reply.got c.loop-reply.invariant
+
+pub finish-requires : goal.finish-requires
+finish-requires g c = has_read c.args.reply.limit (most_of c.args.reply) (g.W.Wire.state c.args.wire.now) (g.W.Wire.state c.loop-reply.wire) c.loop-reply.reply c.loop-reply.got c.loop-reply.invariant
+
+pub finish-requires-in-Ok-Whole : goal.finish-requires-in-Ok-Whole
+finish-requires-in-Ok-Whole g c =
+    let x = c.loop-reply.invariant in
+    let piece = take c.in-Ok.count c.read.new.into in
+    let t = subst (λ (p : Progress). IsPieceRead c.args.reply.limit (x.fed ++ piece) c.feed.new.self p) c.in-Ok-Whole.field-0-is (c.in-Ok-Whole.ensures.answer c.args.reply.limit x.fed x.reads) in
+    some_read c.args.reply.limit (x.fed ++ piece) c.feed.new.self t.reads
 
 pub loop-reply-preserved : goal.loop-reply-preserved
 loop-reply-preserved g c =
@@ -63,7 +72,7 @@ returns-in-Ok-Whole g c =
     whole_read c.args.reply.limit (most_of c.args.reply) (g.W.Wire.state c.args.wire.now) (g.W.Wire.state c.loop-reply.wire) (g.W.Wire.state c.read.new.self) (g.W.Wire.state c.leave.new.self)
     c.loop-reply.reply c.feed.new.self c.loop-reply.got piece done.result x (kept.1 ∙ c.requires.connected) some c.in-Ok.ensures.done c.leave.ensures c.feed.ensures.same t
     (done.ensures.outcome c.args.reply.limit (x.fed ++ piece) t.reads t.known t.judged_so)
-    (peer_is done.result (done.ensures.peer (x.fed ++ piece, subst (λ (l : ℕ). ReadsPage l (x.fed ++ piece) c.feed.new.self) (sym t.reads.limit_is) t.reads)))
+    (peer_is done.result done.ensures.peer)
 
 pub returns-in-Err-feed : goal.returns-in-Err-feed
 returns-in-Err-feed g c =
@@ -82,4 +91,4 @@ returns-in-Ok-eq0 g c =
     let none : c.in-Ok-eq0.field-0 ≡ 0 = search rules in
     ended_read c.args.reply.limit (most_of c.args.reply) (g.W.Wire.state c.args.wire.now) (g.W.Wire.state c.loop-reply.wire) (g.W.Wire.state c.read.new.self) c.loop-reply.reply c.loop-reply.got c.finish.result x
     (subst (λ (n : ℕ). g.W.Wire.state c.read.new.self ≡ after_read (take n c.read.new.into) (g.W.Wire.state c.loop-reply.wire)) none c.in-Ok-eq0.ensures.done) (c.finish.ensures.outcome c.args.reply.limit x.fed x.reads x.known (subst (λ (m : ℕ). IsJudged m x.fed x.known) (sym x.most_is) x.judged_so))
-    (peer_is c.finish.result (c.finish.ensures.peer (has_read c.args.reply.limit (most_of c.args.reply) (g.W.Wire.state c.args.wire.now) (g.W.Wire.state c.loop-reply.wire) c.loop-reply.reply c.loop-reply.got x)))
+    (peer_is c.finish.result c.finish.ensures.peer)

@@ -1,5 +1,5 @@
 -- Where the bytes between chunks end.
-use Rattle.std.proofs.Common.{◌≡◌, ◌∙◌, ◌+◌, true, false, [], length, take, slice_index_or, sym, ap, subst, inl, inr, arith}
+use Rattle.std.proofs.Common.{◌≡◌, ◌∙◌, ◌+◌, false, [], take, slice_index_or, sym, ap, subst, inl, inr, arith}
 use Rattle.std.proofs.lemmas.List.{take_more}
 use Rattle.http_talk.specs.Chunks.{place_after}
 use Rattle.http_talk.specs.ChunkFeeding.{is_in_chunk, is_over, TakesChunks}

@@ -1,5 +1,5 @@
 -- A run of the bytes of a chunk.
-use Rattle.std.proofs.Common.{◌<◌, ◌+◌, ◌≡◌, ap, subst, sym, ◌∙◌, length, arith}
+use Rattle.std.proofs.Common.{◌<◌, ◌+◌, ◌≡◌, ap, subst, ◌∙◌, arith}
 use Rattle.http_talk.specs.declared.chunk_place.ChunkPlace.TheVariants.{Bytes}
 use Rattle.http_talk.specs.ChunkFeeding.{TakesRun, IsChunkPlace}
 use Rattle.http_talk.proofs.ChunkSteps.{took_run, going_room, counted}

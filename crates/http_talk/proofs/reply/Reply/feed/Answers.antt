@@ -1,6 +1,6 @@
 -- What a piece gives.
-use Rattle.std.proofs.Common.{◌∙◌, sym, subst, ap, ◌++◌}
-use Rattle.http_talk.specs.ReplyReading.{Stands, FeedAnswer, IsRefusal}
+use Rattle.std.proofs.Common.{sym, subst, ◌++◌}
+use Rattle.http_talk.specs.ReplyReading.{Stands}
 use Rattle.http_talk.proofs.Gathering.{stream_stands, gather_feeds_as}
 use Rattle.http_talk.proofs.reply.Reply.feed.Goals as goal
 

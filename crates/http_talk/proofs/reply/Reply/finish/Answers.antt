@@ -1,5 +1,5 @@
 -- The end of a reply.
-use Rattle.std.proofs.Common.{◌∙◌, sym, ap, subst}
+use Rattle.std.proofs.Common.{sym, subst}
 use Rattle.http_talk.specs.ReplyReading.{Stands}
 use Rattle.http_talk.proofs.Gathering.{stream_stands, ends_with_body, ends_without}
 use Rattle.http_talk.proofs.reply.Reply.finish.Goals as goal

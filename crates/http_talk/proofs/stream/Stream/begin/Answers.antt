@@ -1,10 +1,8 @@
 -- The head's cause, or how the body begins.
-use Rattle.std.proofs.Common.{◌≡◌, ◌∙◌, sym, ap, subst, take, [], None, map}
-use Rattle.httparse.specs.Spans.{header_bytes}
-use Rattle.http_talk.specs.HeadFacts.{facts_by, IsHeadFault, first_part}
-use Rattle.http_talk.specs.Heads.{head_cause, framing_of}
-use Rattle.http_talk.proofs.FactLaws.{are_facts}
-use Rattle.http_talk.proofs.StreamSteps.{begun_so, head_facts_of}
+use Rattle.std.proofs.Common.{◌≡◌, ◌∙◌, ap, subst, None}
+use Rattle.http_talk.specs.HeadFacts.{IsHeadFault}
+use Rattle.http_talk.specs.Heads.{head_cause}
+use Rattle.http_talk.proofs.StreamHeads.{begun_so, head_facts_of}
 use Rattle.http_talk.proofs.stream.Stream.begin.Goals as goal
 
 pub returns-in-Err-clause-begun : goal.returns-in-Err-clause-begun

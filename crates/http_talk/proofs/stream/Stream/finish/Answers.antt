@@ -1,6 +1,6 @@
 -- The end of a stream.
-use Rattle.std.proofs.Common.{◌∙◌, sym, ap, inl, inr}
-use Rattle.http_talk.proofs.StreamSteps.{ends_well, waits_of, part_of}
+use Rattle.std.proofs.Common.{◌∙◌, ap}
+use Rattle.http_talk.proofs.StreamGiven.{ends_well, waits_of, part_of}
 use Rattle.http_talk.proofs.stream.Stream.finish.Goals as goal
 
 pub returns-in-Open-clause-answer : goal.returns-in-Open-clause-answer

@@ -1,6 +1,6 @@
 -- Nothing came.
 use Rattle.std.proofs.Common.{refl}
-use Rattle.http_talk.proofs.StreamSteps.{new_flows}
+use Rattle.http_talk.proofs.StreamGiven.{new_flows}
 use Rattle.http_talk.proofs.stream.Stream.new.Goals as goal
 
 pub returns : goal.returns

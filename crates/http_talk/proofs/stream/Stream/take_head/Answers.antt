@@ -1,9 +1,7 @@
 -- Bytes of a head.
-use Rattle.std.proofs.Common.{rules, ◌≡◌, ℕ, ◌≤◌, ◌++◌, ◌-◌, ◌∙◌, sym, ap, subst, arith, take, length}
+use Rattle.std.proofs.Common.{◌≡◌, ℕ, ◌++◌, ◌-◌, ◌∙◌, sym, ap, arith, take, length}
 use Rattle.std.specs.Prelude.{min, Ok}
-use Rattle.http_talk.specs.HeadFeeding.{IsHeadAt}
-use Rattle.http_talk.specs.Heads.{HeadIs, found}
-use Rattle.http_talk.proofs.StreamSteps.{head_goes_at, head_refuses_at, head_caused_at, head_ends_at, kept_count, found_in}
+use Rattle.http_talk.proofs.StreamHeads.{head_goes_at, head_refuses_at, head_caused_at, head_ends_at, kept_count, found_in}
 use Rattle.http_talk.proofs.stream.Stream.take_head.Goals as goal
 
 pub returns-in-More : goal.returns-in-More
@@ -13,7 +11,7 @@ returns-in-More c =
     let count = c.min-count.result in
     let counted : count ≡ min (16384 - length s.kept) (length piece) = kept_count c.self.inside.kept.items s.kept piece count (ap (λ v. v.kept) c.self.view_is) (omega (arith, c.self.inside.kept.ok.0)) in
     let front : c.as_slice.result.now ≡ s.kept ++ take count piece = c.as_slice.ensures.value ∙ ap (λ v. v.kept) c.self-2.view_is ∙ ap (λ v. v.kept) c.keep.ensures in
-    head_goes_at s c.keep.new.self piece count c.requires.part counted c.keep.ensures (Ok c.used_up.result) (ap (λ a. Ok a) c.used_up.ensures)
+    head_goes_at s c.keep.new.self piece count c.requires.part counted c.keep.ensures (Ok c.use_up.result) (ap (λ a. Ok a) c.use_up.ensures)
     (λ g is. let told = c.in-More.ensures.head g (front ∙ is) in (told.0, sym front ∙ told.1))
 
 pub returns-in-Bad : goal.returns-in-Bad

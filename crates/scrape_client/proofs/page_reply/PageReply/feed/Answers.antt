@@ -1,7 +1,7 @@
 -- One step more.
 use Rattle.std.proofs.Common.{Ok, Err, refl, subst, take, drop, length, ◌-◌}
 use Rattle.scrape_client.specs.declared.turn.Turn.{Turn}
-use Rattle.scrape_client.specs.PageReplies.{TurnAnswer}
+use Rattle.scrape_client.specs.PageReplies.{ReadStepAnswer}
 use Rattle.scrape_client.proofs.PageReading.{reads_on, reads_last, still_read}
 use Rattle.scrape_client.proofs.page_reply.PageReply.feed.Goals as goal
 
@@ -14,7 +14,7 @@ loop-taken-preserved c =
     let at = c.loop-taken.at in
     let rest = take (length block - at) (drop at block) in
     (reads_on c.args.self.now block rest at c.loop-taken.self c.turn.new.self c.loop-taken.invariant refl c.in-Ok-On.taken c.turn.ensures.same
-    (λ limit fed f. subst (λ (t : Turn). TurnAnswer limit fed rest c.loop-taken.self c.turn.new.self (Ok t)) c.in-Ok-On.field-0-is (c.in-Ok-On.ensures.answer limit fed f)) c.requires.reads).0
+    (λ limit fed f. subst (λ (t : Turn). ReadStepAnswer limit fed rest c.loop-taken.self c.turn.new.self (Ok t)) c.in-Ok-On.field-0-is (c.in-Ok-On.ensures.answer limit fed f)) c.requires.reads).0
 
 pub loop-taken-smaller : goal.loop-taken-smaller
 loop-taken-smaller c =
@@ -22,7 +22,7 @@ loop-taken-smaller c =
     let at = c.loop-taken.at in
     let rest = take (length block - at) (drop at block) in
     (reads_on c.args.self.now block rest at c.loop-taken.self c.turn.new.self c.loop-taken.invariant refl c.in-Ok-On.taken c.turn.ensures.same
-    (λ limit fed f. subst (λ (t : Turn). TurnAnswer limit fed rest c.loop-taken.self c.turn.new.self (Ok t)) c.in-Ok-On.field-0-is (c.in-Ok-On.ensures.answer limit fed f)) c.requires.reads).1
+    (λ limit fed f. subst (λ (t : Turn). ReadStepAnswer limit fed rest c.loop-taken.self c.turn.new.self (Ok t)) c.in-Ok-On.field-0-is (c.in-Ok-On.ensures.answer limit fed f)) c.requires.reads).1
 
 pub returns-in-Ok-Over-clause-answer : goal.returns-in-Ok-Over-clause-answer
 returns-in-Ok-Over-clause-answer c =
@@ -30,7 +30,7 @@ returns-in-Ok-Over-clause-answer c =
     let at = c.loop-taken.at in
     let rest = take (length block - at) (drop at block) in
     reads_last c.args.self.now block rest at c.loop-taken.self c.turn.new.self c.loop-taken.invariant refl (Ok c.in-Ok-Over.progress)
-    (λ limit fed f. subst (λ (t : Turn). TurnAnswer limit fed rest c.loop-taken.self c.turn.new.self (Ok t)) c.in-Ok-Over.field-0-is (c.in-Ok-Over.ensures.answer limit fed f))
+    (λ limit fed f. subst (λ (t : Turn). ReadStepAnswer limit fed rest c.loop-taken.self c.turn.new.self (Ok t)) c.in-Ok-Over.field-0-is (c.in-Ok-Over.ensures.answer limit fed f))
 
 pub returns-in-Err-clause-answer : goal.returns-in-Err-clause-answer
 returns-in-Err-clause-answer c =

@@ -1,5 +1,5 @@
 -- What the stream tells is handed to the page.
-use Rattle.std.proofs.Common.{Ok, ℕ, List, refl, subst}
+use Rattle.std.proofs.Common.{Ok, refl, subst}
 use Rattle.http_talk.specs.declared.flow.Flow.{Flow}
 use Rattle.http_talk.specs.Streams.{FlowAnswer}
 use Rattle.scrape_client.proofs.PageReading.{turn_body, turn_whole, body_room}
