@@ -22,6 +22,10 @@ some_of {X} {Y} h xs = some_list (filter_map h xs)
     some_list [] = None
     some_list (y ∷ ys) = Some (y ∷ ys)
 
+-- what a function gives of values, where it gives something, and behind that what another makes of markers
+abbrev pub some_marked : {X Y : Type 0} → (X → Option Y) → (Marker → Y) → List X → List Marker → Option (List Y)
+some_marked h mark xs ms = option_map (λ ys. ys ++ map mark ms) (some_of h xs)
+
 -- points of a kind, as sum, gauge, histogram or summary, where there is one; gauge histograms have none.
 -- That info and state sets are sums that may fall is the bridge's own
 unfoldable pub shape_of : Kind → List Point → Option Shape

@@ -1,13 +1,10 @@
 //! The metrics of families with the places of their readings and with markers.
-ghost use Rattle.std.specs.Prelude.{◌≡◌, [], List, Option, take, drop, map, All, IfOk};
-ghost use Rattle.page_model.specs.declared.page.Reading.{Reading as AnyReading};
+ghost use Rattle.std.specs.Prelude.{◌≡◌, [], List, take, drop, All, IfOk};
 ghost use Rattle.page_model.specs.declared.page.Family.{Family as AnyFamily};
-ghost use Rattle.start_times.specs.declared.row.Placed.{Placed as AnyPlaced};
 ghost use Rattle.family_metrics.specs.Points.{MayAllBeLaidOut, MayAllBeScoped};
 ghost use Rattle.family_metrics.specs.declared.markers.Marker.{Marker as AnyMarker};
 ghost use Rattle.family_metrics.specs.MarkerGroups.{marker_groups};
-ghost use Rattle.family_metrics.specs.PlacedMarkers.{PlacesMetric, PlacesMetrics, family_readings, families_page};
-ghost use Rattle.family_metrics.specs.Metrics as by_family;
+ghost use Rattle.family_metrics.specs.PlacedMarkers.{AreEventMetrics, PlacesMetric, PlacesMetrics};
 
 use crate::markers::{Marker, MarkerGroups};
 use crate::metrics::{family_metric, push_alone};
@@ -88,8 +85,7 @@ fn grouped_metrics(
 ) -> Result<Vec<Metric>, Memory>
     requires layout { All (λ (f : AnyFamily). MayAllBeLaidOut f.readings) families.now }
     requires scope { All (λ (f : AnyFamily). MayAllBeScoped scoped f.readings) families.now }
-    ensures { (place : AnyReading → Option AnyPlaced) (ms : List AnyMarker) → places.now ≡ map place (family_readings families.now)
-        → groups.old ≡ marker_groups [] ms → IfOk result (λ metrics. metrics.items ≡ by_family.event_metrics place ms (families_page families.now)) }
+    ensures { (ms : List AnyMarker) → groups.old ≡ marker_groups [] ms → IfOk result (λ metrics. AreEventMetrics families.now places.now ms metrics.items) }
 {
     let mut metrics = page_metrics(alloc, scoped, families, places, groups)?;
     push_alone(alloc, groups.as_slice(), &mut metrics)?;
@@ -111,8 +107,7 @@ pub fn event_metrics(
 ) -> Result<Vec<Metric>, Memory>
     requires layout { All (λ (f : AnyFamily). MayAllBeLaidOut f.readings) families.now }
     requires scope { All (λ (f : AnyFamily). MayAllBeScoped scoped f.readings) families.now }
-    ensures { (place : AnyReading → Option AnyPlaced) → places.now ≡ map place (family_readings families.now)
-        → IfOk result (λ metrics. metrics.items ≡ by_family.event_metrics place markers.items (families_page families.now)) }
+    ensures { IfOk result (λ metrics. AreEventMetrics families.now places.now markers.items metrics.items) }
 {
     let mut groups = MarkerGroups::of(alloc, markers)?;
     let metrics = grouped_metrics(alloc, scoped, families, places, &mut groups);

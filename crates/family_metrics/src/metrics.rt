@@ -1,12 +1,11 @@
 //! The metrics of families, with the markers of their series, and of markers alone.
-ghost use Rattle.std.specs.Prelude.{◌≡◌, ◌++◌, Option, map, filter_map, option_map, option_and_then, IfOk, OnOk};
-ghost use Rattle.page_model.specs.declared.page.Reading.{Reading as AnyReading};
-ghost use Rattle.start_times.specs.declared.row.Placed.{Placed as AnyPlaced};
+ghost use Rattle.std.specs.Prelude.{◌≡◌, ◌++◌, map, filter_map, option_map, option_and_then, IfOk, OnOk};
 ghost use Rattle.family_metrics.specs.Points as spec;
 ghost use Rattle.family_metrics.specs.Points.{MayBeLaidOut, MayAllBeLaidOut, MayBeScoped, MayAllBeScoped};
 ghost use Rattle.family_metrics.specs.Markers as marks;
 ghost use Rattle.family_metrics.specs.MarkerGroups as grouped;
 ghost use Rattle.family_metrics.specs.Metrics as by_family;
+ghost use Rattle.family_metrics.specs.PlacedMarkers.{IsFamilyMetric};
 
 use crate::forms::PointForm;
 use crate::markers::{Marker, MarkerGroup};
@@ -81,8 +80,7 @@ fn points<F: PointForm + Drop>(
 ) -> Result<Option<List<F>>, Memory>
     requires layout { MayAllBeLaidOut readings.now }
     requires scope { MayAllBeScoped scoped readings.now }
-    ensures { IfOk result (λ points. points ≡ option_map (λ ps. ps ++ map F.marked_by markers.now)
-        (by_family.some_of F.form_of (spec.points_with readings.now places.now))) }
+    ensures { IfOk result (λ points. points ≡ by_family.some_marked F.form_of F.marked_by (spec.points_with readings.now places.now) markers.now) }
 {
     let mut points = all_points(alloc, scoped, readings, places)?;
     if points.is_empty() {
@@ -174,8 +172,7 @@ pub(crate) fn family_metric(
 ) -> Result<Option<Metric>, Memory>
     requires layout { MayAllBeLaidOut family.now.readings }
     requires scope { MayAllBeScoped scoped family.now.readings }
-    ensures { (place : AnyReading → Option AnyPlaced) → places.now ≡ map place family.now.readings
-        → IfOk result (λ metric. metric ≡ by_family.family_metric_with markers.now place family.now) }
+    ensures { IfOk result (λ metric. IsFamilyMetric family.now places.now markers.now metric) }
 {
     let readings = family.readings.as_slice();
     let Some(first) = readings.first() else {

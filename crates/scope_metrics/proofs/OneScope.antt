@@ -19,7 +19,7 @@ use Rattle.scope_metrics.specs.ScopeParts.{family_holding}
 use Rattle.family_metrics.specs.PlacedMarkers.{family_readings, families_page}
 use Rattle.scope_metrics.specs.PageScopes.{has_point, is_in_scope, reading_scopes, marker_scopes, scopes_in, scope_metrics, scope_with, series_scopes}
 use Rattle.family_metrics.specs.Metrics.{event_metrics}
-use Rattle.scope_metrics.specs.Laws.{names_none, OneScopeOfMarker, OneScopeOfReading, OneScopeAlone}
+use Rattle.scope_metrics.specs.Laws.{names_none, readings_name_none, families_name_none, markers_name_none, OneScopeOfMarker, OneScopeOfReading, OneScopeAlone}
 
 -- ---- one scope
 
@@ -133,10 +133,10 @@ module _ {A : Type 0} (labels_in : A → LabelSet) where
       by true e ih = ap (λ b. b && list_all (λ y. names_none (labels_in y)) (filter test xs)) e ∙ ih
       by false e ih = ih
 
-families_kept : (fs : List Family) → list_all (λ (r : Reading). names_none r.key.labels) (family_readings fs) ≡ true → map (λ (f : Family). family_holding f (filter (is_in_scope bridge_scope) f.readings)) fs ≡ fs
+families_kept : (fs : List Family) → readings_name_none (family_readings fs) ≡ true → map (λ (f : Family). family_holding f (filter (is_in_scope bridge_scope) f.readings)) fs ≡ fs
 families_kept [] h = refl
 families_kept (f ∷ fs) h =
-    let both = and_parts (list_all (λ (r : Reading). names_none r.key.labels) f.readings) (list_all (λ (r : Reading). names_none r.key.labels) (family_readings fs))
+    let both = and_parts (readings_name_none f.readings) (readings_name_none (family_readings fs))
     (sym (list_all-append (λ (r : Reading). names_none r.key.labels) f.readings (family_readings fs)) ∙ h) in
     λ i. family_holding f (all_kept (λ (r : Reading). r.key.labels) f.readings both.0 i) ∷ families_kept fs both.1 i
 
@@ -161,15 +161,15 @@ one_scope_alone place ms page readings markers =
     ∙ (λ i. scope_with bridge_scope (event_metrics place (all_kept (λ (m : Marker). m.key.labels) ms markers i) (record { families = families_kept page.families readings i; samples = page.samples })))
 
 -- the readings of families, one family after the other
-by_families : (fs : List Family) → list_all (λ (r : Reading). names_none r.key.labels) (family_readings fs) ≡ list_all (λ (f : Family). list_all (λ (r : Reading). names_none r.key.labels) f.readings) fs
+by_families : (fs : List Family) → readings_name_none (family_readings fs) ≡ families_name_none fs
 by_families [] = refl
 by_families (f ∷ fs) = list_all-append (λ (r : Reading). names_none r.key.labels) f.readings (family_readings fs)
-    ∙ ap (λ b. list_all (λ (r : Reading). names_none r.key.labels) f.readings && b) (by_families fs)
+    ∙ ap (λ b. readings_name_none f.readings && b) (by_families fs)
 
 -- the same, as it is asked for
 pub alone_here : (place : Reading → Option Placed) (fs : List Family) (ms seen : List Marker) → seen ≡ ms
-    → (list_all (λ (f : Family). list_all (λ (r : Reading). names_none r.key.labels) f.readings) fs && list_all (λ (m : Marker). names_none m.key.labels) seen) ≡ true
+    → (families_name_none fs && markers_name_none seen) ≡ true
     → scope_with bridge_scope (event_metrics place ms (families_page fs)) ≡ series_scopes place ms (families_page fs)
 alone_here place fs ms seen told none =
-    let both = and_parts (list_all (λ (f : Family). list_all (λ (r : Reading). names_none r.key.labels) f.readings) fs) (list_all (λ (m : Marker). names_none m.key.labels) seen) none in
-    sym (one_scope_alone place ms (families_page fs) (by_families fs ∙ both.0) (ap (list_all (λ (m : Marker). names_none m.key.labels)) (sym told) ∙ both.1))
+    let both = and_parts (families_name_none fs) (markers_name_none seen) none in
+    sym (one_scope_alone place ms (families_page fs) (by_families fs ∙ both.0) (ap markers_name_none (sym told) ∙ both.1))

@@ -14,7 +14,7 @@ use Rattle.family_metrics.specs.declared.markers.Marker.{Marker}
 use Rattle.family_metrics.specs.Scopes.{Scope}
 use Rattle.scope_metrics.specs.PageScopes.{is_in_scope, is_marked_in, has_point}
 use Rattle.family_metrics.specs.PlacedMarkers.{family_readings}
-use Rattle.scope_metrics.specs.ScopeParts.{LastOfScope, OfScope, no_series, family_holding, all_families, is_last, part_started, part_at, reading_behind, marker_behind, Item, of_reading, of_marker, item_behind, items_in_scope, placed_items, all_placed_items, HasOwnPlaces}
+use Rattle.scope_metrics.specs.ScopeParts.{LastOfScope, OfScope, no_series, family_holding, all_families, is_last, part_started, part_with_last, reading_behind, marker_behind, Item, of_reading, of_marker, item_behind, items_in_scope, placed_items, all_placed_items, HasOwnPlaces}
 use Rattle.scope_metrics.proofs.ScopeItems.{is_of}
 
 -- a family with these readings, where there are some
@@ -61,7 +61,7 @@ module _ (place : Reading → Option Placed) where
 
   more_readings : (n : ℕ) (f : Family) (rs gs : List Reading) (s : Scope) (fs : List Family) (ps : List (Option Placed)) (ms : List Marker)
       → fold item_behind (reached n f s fs gs ps ms) (map (item n f) rs) ≡ reached n f s fs (gs ++ rs) (ps ++ map place rs) ms
-  unfolding part_at reading_behind
+  unfolding part_with_last reading_behind
   more_readings n f [] gs s fs ps ms = λ i. reached n f s fs (sym (append-nil gs) i) (sym (append-nil ps) i) ms
   more_readings n f (r ∷ rs) gs s fs ps ms =
       ap (λ b. fold item_behind (reading_behind r (place r) (if b then reached n f s fs gs ps ms else part_started n f (reached n f s fs gs ps ms))) (map (item n f) rs)) (same_number n)
@@ -70,7 +70,7 @@ module _ (place : Reading → Option Placed) where
 
   first_reading : (n : ℕ) (f : Family) (r : Reading) (q : OfScope) → IsBefore n q.last
       → item_behind q (item n f r) ≡ reached n f q.scope (all_families q) (r ∷ []) (q.places ++ place r ∷ []) q.markers
-  unfolding part_at reading_behind
+  unfolding part_with_last reading_behind
   first_reading n f r q before = ap (λ b. reading_behind r (place r) (if b then q else part_started n f q)) (not_last n q.last before)
 
   all_readings_behind : (n : ℕ) (f : Family) (r : Reading) (rs : List Reading) (q : OfScope) → IsBefore n q.last

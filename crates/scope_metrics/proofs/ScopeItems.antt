@@ -16,7 +16,7 @@ use Rattle.label_sets.specs.declared.label_set.LabelSet.{LabelSet}
 use Rattle.label_sets.specs.Lists.{first_of_each}
 use Rattle.label_sets.proofs.Laws.{any-map}
 use Rattle.family_metrics.specs.Scopes.{Scope, scope_eq, scope_of, scope_name, bridge_scope}
-use Rattle.scope_metrics.specs.ScopeParts.{OfScope, no_series, is_last, part_started, part_at, reading_behind, marker_behind, Item, of_reading, of_marker, item_scope, item_behind, items_in_scope, items_by_scope, scope_bytes, part_identity, IsPartFor}
+use Rattle.scope_metrics.specs.ScopeParts.{OfScope, no_series, is_last, part_started, part_with_last, reading_behind, marker_behind, Item, of_reading, of_marker, item_scope, item_behind, items_in_scope, items_by_scope, scope_bytes, part_identity, IsPartFor}
 use Rattle.family_metrics.proofs.Laws.{by_bytes, firsts, firsts-snoc, any_first, any_turned, own_none, one_changed, firsts_distinct}
 
 -- two scopes are one just where their bytes are
@@ -54,7 +54,7 @@ part_grown items x s e = part_more items x s
 -- ---- the scope of a part
 
 scope_behind : (q : OfScope) (x : Item) → (item_behind q x).scope ≡ q.scope
-unfolding part_at reading_behind marker_behind
+unfolding part_with_last reading_behind marker_behind
 scope_behind q (of_reading n f r p) = by (is_last n q.last)
   where
     by : (b : Bool) → (cond b q (part_started n f q)).scope ≡ q.scope
@@ -74,7 +74,7 @@ bytes_in : (items : List Item) (ss : List Scope) → map part_identity (map (ite
 bytes_in items [] = refl
 bytes_in items (s ∷ ss) = ap (λ c. scope_bytes c ∷ map part_identity (map (items_in_scope items) ss)) (part_scope items s) ∙ ap (λ l. scope_bytes s ∷ l) (bytes_in items ss)
 
--- ---- the part of a scope, which is part_at where there was none
+-- ---- the part of a scope, which is part_with_last where there was none
 
 -- a scope of none of these has no series
 none_yet : (items : List Item) (c : Scope) → list_any (λ x. bytes_eq (scope_bytes c) (scope_bytes x)) (bridge_scope ∷ map item_scope items) ≡ false → items_in_scope items c ≡ no_series c

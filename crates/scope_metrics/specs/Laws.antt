@@ -4,6 +4,7 @@ use Rattle.std.specs.Prelude.{◌≡◌, Bool, true, List, filter, length, Optio
 use Rattle.std.specs.List.{list_all, list_any}
 use Rattle.label_sets.specs.declared.label_set.LabelSet.{LabelSet}
 use Rattle.page_model.specs.declared.page.Reading.{Reading}
+use Rattle.page_model.specs.declared.page.Family.{Family}
 use Rattle.page_model.specs.declared.page.Page.{Page}
 use Rattle.page_model.specs.Presence.{all_readings}
 use Rattle.start_times.specs.declared.row.Placed.{Placed}
@@ -30,8 +31,20 @@ OneScopeOfReading = (place : Reading → Option Placed) (ms : List Marker) (page
 abbrev pub names_none : LabelSet → Bool
 names_none labels = is_none (scope_name labels)
 
+-- no reading names a scope
+abbrev pub readings_name_none : List Reading → Bool
+readings_name_none readings = list_all (λ (r : Reading). names_none r.key.labels) readings
+
+-- no reading of families names a scope
+abbrev pub families_name_none : List Family → Bool
+families_name_none fs = list_all (λ (f : Family). readings_name_none f.readings) fs
+
+-- no marker names a scope
+abbrev pub markers_name_none : List Marker → Bool
+markers_name_none ms = list_all (λ (m : Marker). names_none m.key.labels) ms
+
 -- where neither a reading nor a marker names a scope, all metrics are in the bridge's own
 abbrev pub OneScopeAlone : Type 0
 OneScopeAlone = (place : Reading → Option Placed) (ms : List Marker) (page : Page)
-    → list_all (λ (r : Reading). names_none r.key.labels) (all_readings page) ≡ true → list_all (λ (m : Marker). names_none m.key.labels) ms ≡ true
+    → readings_name_none (all_readings page) ≡ true → markers_name_none ms ≡ true
     → series_scopes place ms page ≡ scope_with bridge_scope (event_metrics place ms page)

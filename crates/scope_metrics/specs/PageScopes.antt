@@ -1,9 +1,10 @@
 -- The scopes of a page and of markers, each with the metrics of its own series.
 -- "Prometheus and OpenMetrics Compatibility", "Instrumentation Scope". The order of scopes is the bridge's own.
-use Rattle.std.specs.Prelude.{Bool, List, [], ◌∷◌, ◌++◌, map, filter, Option, is_some}
+use Rattle.std.specs.Prelude.{◌≡◌, Bool, List, [], ◌∷◌, ◌++◌, map, filter, Option, is_some}
 use Rattle.std.specs.List.{flat_map}
 use Rattle.label_sets.specs.Lists.{first_of_each}
 use Rattle.page_model.specs.declared.page.Reading.{Reading}
+use Rattle.page_model.specs.declared.page.Family.{Family}
 use Rattle.page_model.specs.declared.page.Page.{Page}
 use Rattle.page_model.specs.Presence.{all_readings}
 use Rattle.otlp_tree.specs.declared.tree.ScopeMetrics.{ScopeMetrics}
@@ -14,6 +15,7 @@ use Rattle.family_metrics.specs.declared.markers.Marker.{Marker}
 use Rattle.family_metrics.specs.Scopes.{Scope, scope_eq, scope_of, bridge_scope}
 use Rattle.family_metrics.specs.Points.{point_of}
 use Rattle.family_metrics.specs.Metrics.{event_metrics}
+use Rattle.family_metrics.specs.PlacedMarkers.{family_readings, families_page}
 
 -- a scope with its metrics, left out where it has none
 abbrev pub scope_with : Scope → List Metric → List ScopeMetrics
@@ -51,3 +53,13 @@ scope_metrics place ms page s = scope_with s (event_metrics place (filter (is_ma
 -- the scopes of a page and of markers, with their metrics
 unfoldable pub series_scopes : (Reading → Option Placed) → List Marker → Page → List ScopeMetrics
 series_scopes place ms page = flat_map (scope_metrics place ms page) (scopes_in place ms page)
+
+-- ---- families, with the places of their readings
+
+-- where these are the places of their readings, this is the bridge's own scope with the metrics of families and of markers, left out where it has none
+abbrev pub IsBridgeScopeAlone : List Family → List (Option Placed) → List Marker → List ScopeMetrics → Type 0
+IsBridgeScopeAlone fs places ms scopes = (place : Reading → Option Placed) → places ≡ map place (family_readings fs) → scopes ≡ scope_with bridge_scope (event_metrics place ms (families_page fs))
+
+-- where these are the places of their readings, these are the scopes of families and of markers, with their metrics
+abbrev pub AreSeriesScopes : List Family → List (Option Placed) → List Marker → List ScopeMetrics → Type 0
+AreSeriesScopes fs places ms scopes = (place : Reading → Option Placed) → places ≡ map place (family_readings fs) → scopes ≡ series_scopes place ms (families_page fs)

@@ -1,7 +1,7 @@
 -- The readings of a page that have points, and the markers of a scrape, by their scopes, as the tree is made of them.
 -- The bridge's own.
 use Rattle.std.specs.Prelude.{◌≡◌, ℕ, suc, Bool, true, false, ◌==◌, Option, Some, None, option_map, slice_get, if◌then◌else◌, List, [], ◌∷◌, ◌++◌, map, filter}
-use Rattle.std.specs.List.{AllByRecursion, fold, list_any}
+use Rattle.std.specs.List.{AllByRecursion, flat_map, fold, list_any}
 use Rattle.std.specs.Str.{bytes_eq}
 use Rattle.label_sets.specs.declared.kind.Kind.TheVariants.{Unknown}
 use Rattle.label_sets.specs.Lists.{first_of_each, when_true}
@@ -68,9 +68,9 @@ part_started n f q = record {
   markers = q.markers;
 }
 
--- the same, unless it is the last one already
-unfoldable pub part_at : ℕ → Family → OfScope → OfScope
-part_at n f q = if is_last n q.last then q else part_started n f q
+-- the same, unless that family is the last one already
+unfoldable pub part_with_last : ℕ → Family → OfScope → OfScope
+part_with_last n f q = if is_last n q.last then q else part_started n f q
 
 -- a family with one reading more
 abbrev pub last_grown : Reading → LastOfScope → LastOfScope
@@ -98,7 +98,7 @@ item_scope (of_marker m) = scope_of m.key.labels
 
 -- one more of a scope
 abbrev pub item_behind : OfScope → Item → OfScope
-item_behind q (of_reading n f r p) = reading_behind r p (part_at n f q)
+item_behind q (of_reading n f r p) = reading_behind r p (part_with_last n f q)
 item_behind q (of_marker m) = marker_behind m q
 
 -- what is of a scope among these
@@ -112,6 +112,10 @@ item_scopes items = first_of_each scope_eq (bridge_scope ∷ map item_scope item
 -- all of these by their scopes
 unfoldable pub items_by_scope : List Item → List OfScope
 items_by_scope items = map (items_in_scope items) (item_scopes items)
+
+-- where the parts before are those of some items, the parts after are those of the same items with these behind them
+abbrev pub PutsBehind : List OfScope → List Item → List OfScope → Type 0
+PutsBehind before more after = (items : List Item) → before ≡ items_by_scope items → after ≡ items_by_scope (items ++ more)
 
 -- ---- those of a page and of markers
 
@@ -133,6 +137,14 @@ abbrev pub all_placed_items : (Reading → Option Placed) → ℕ → List Famil
 all_placed_items place n [] = []
 all_placed_items place n (f ∷ fs) = placed_items place n f ++ all_placed_items place (suc n) fs
 
+-- where these are the places of their readings, the parts are those of the readings of families that have points
+abbrev pub AreReadingsByScope : List Family → List (Option Placed) → List OfScope → Type 0
+AreReadingsByScope fs places parts = (place : Reading → Option Placed) → places ≡ map place (family_readings fs) → parts ≡ items_by_scope (all_placed_items place 0 fs)
+
+-- where these are the places of their readings, the parts are those of the readings of families that have points, and of markers behind them
+abbrev pub AreAllByScope : List Family → List (Option Placed) → List Marker → List OfScope → Type 0
+AreAllByScope fs places ms parts = (place : Reading → Option Placed) → places ≡ map place (family_readings fs) → parts ≡ items_by_scope (all_placed_items place 0 fs ++ map of_marker ms)
+
 -- ---- the scopes of the tree
 
 -- the places are those of all readings of the scope
@@ -142,6 +154,10 @@ HasOwnPlaces place q = q.places ≡ map place (family_readings (all_families q))
 -- a scope with the metrics of its series, left out where it has none
 unfoldable pub scope_of_part : (Reading → Option Placed) → OfScope → List ScopeMetrics
 scope_of_part place q = scope_with q.scope (event_metrics place q.markers (families_page (all_families q)))
+
+-- where parts have the places of their own readings, these are their scopes
+abbrev pub AreScopesOfParts : List OfScope → List ScopeMetrics → Type 0
+AreScopesOfParts parts scopes = (place : Reading → Option Placed) → AllByRecursion (HasOwnPlaces place) parts → scopes ≡ flat_map (scope_of_part place) parts
 
 -- ---- scopes as bytes
 

@@ -1,15 +1,12 @@
 //! The scopes of the families of a page and of markers.
-ghost use Rattle.std.specs.Prelude.{◌≡◌, ◌++◌, Option, false, map, All, IfOk, OnOk};
-ghost use Rattle.std.specs.List.{AllByRecursion, flat_map};
+ghost use Rattle.std.specs.Prelude.{◌≡◌, ◌++◌, Option, false, All, IfOk, OnOk};
+ghost use Rattle.std.specs.List.{AllByRecursion};
 ghost use Rattle.page_model.specs.declared.page.Reading.{Reading as AnyReading};
 ghost use Rattle.page_model.specs.declared.page.Family.{Family as AnyFamily};
 ghost use Rattle.start_times.specs.declared.row.Placed.{Placed as AnyPlaced};
 ghost use Rattle.family_metrics.specs.Points.{MayAllBeLaidOut, MayAllBeScoped};
-ghost use Rattle.family_metrics.specs.Scopes.{bridge_scope};
-ghost use Rattle.family_metrics.specs.Metrics.{event_metrics as metrics_of};
-ghost use Rattle.family_metrics.specs.PlacedMarkers.{family_readings, families_page};
 ghost use Rattle.scope_metrics.specs.PageScopes as spec;
-ghost use Rattle.scope_metrics.specs.ScopeParts.{AreAlike, HasOwnPlaces, scope_of_part};
+ghost use Rattle.scope_metrics.specs.ScopeParts.{AreAlike, AreScopesOfParts, HasOwnPlaces, scope_of_part};
 
 use crate::scope_parts::{ScopePart, ScopeParts};
 use crate::scopes::all_name_none;
@@ -54,8 +51,7 @@ fn bridge_scope_alone(
 ) -> Result<Vec<ScopeMetrics>, Memory>
     requires layout { All (λ (f : AnyFamily). MayAllBeLaidOut f.readings) families.now }
     requires scope { All (λ (f : AnyFamily). MayAllBeScoped false f.readings) families.now }
-    ensures { (place : AnyReading → Option AnyPlaced) → places.now ≡ map place (family_readings families.now)
-        → IfOk result (λ scopes. scopes.items ≡ spec.scope_with bridge_scope (metrics_of place markers.items (families_page families.now))) }
+    ensures { IfOk result (λ scopes. spec.IsBridgeScopeAlone families.now places.now markers.items scopes.items) }
 {
     let metrics = event_metrics(alloc, false, families, places, markers)?;
     let name = Text::from_str(alloc, "bridge")?;
@@ -91,8 +87,7 @@ fn push_part(alloc: Global, scopes: &mut Vec<ScopeMetrics>, part: ScopePart) -> 
 
 /// The scopes of parts, without those that have no metric.
 fn scopes_of_parts(alloc: Global, parts: Vec<ScopePart>) -> Result<Vec<ScopeMetrics>, Memory>
-    ensures { (place : AnyReading → Option AnyPlaced) → AllByRecursion (HasOwnPlaces place) parts.items
-        → IfOk result (λ scopes. scopes.items ≡ flat_map (scope_of_part place) parts.items) }
+    ensures { IfOk result (λ scopes. AreScopesOfParts parts.items scopes.items) }
 {
     let mut scopes = Vec::with_capacity(alloc, parts.len())?;
     for part in parts {
@@ -110,8 +105,7 @@ fn parted_scopes(
 ) -> Result<Vec<ScopeMetrics>, Memory>
     requires layout { All (λ (f : AnyFamily). MayAllBeLaidOut f.readings) families.now }
     requires alike { AllByRecursion AreAlike families.now }
-    ensures { (place : AnyReading → Option AnyPlaced) → places.now ≡ map place (family_readings families.now)
-        → IfOk result (λ scopes. scopes.items ≡ spec.series_scopes place markers.items (families_page families.now)) }
+    ensures { IfOk result (λ scopes. spec.AreSeriesScopes families.now places.now markers.items scopes.items) }
 {
     let parts = ScopeParts::of(alloc, families, places, markers)?;
     scopes_of_parts(alloc, parts.into_parts())
@@ -132,8 +126,7 @@ pub fn series_scopes(
 ) -> Result<Vec<ScopeMetrics>, Memory>
     requires layout { All (λ (f : AnyFamily). MayAllBeLaidOut f.readings) families.now }
     requires alike { AllByRecursion AreAlike families.now }
-    ensures { (place : AnyReading → Option AnyPlaced) → places.now ≡ map place (family_readings families.now)
-        → IfOk result (λ scopes. scopes.items ≡ spec.series_scopes place markers.items (families_page families.now)) }
+    ensures { IfOk result (λ scopes. spec.AreSeriesScopes families.now places.now markers.items scopes.items) }
 {
     if all_name_none(families, markers.as_slice()) {
         bridge_scope_alone(alloc, families, places, markers)

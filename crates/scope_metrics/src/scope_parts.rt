@@ -1,12 +1,9 @@
 //! The readings of a page that have points, and markers, by their scopes.
-ghost use Rattle.std.specs.Prelude.{◌≡◌, ◌++◌, ◌∷◌, [], List, Option, Some, None, map, All, IfOk, OnOk};
+ghost use Rattle.std.specs.Prelude.{◌≡◌, ◌∷◌, [], map, All, IfOk, OnOk};
 ghost use Rattle.std.specs.List.{filter_map, zip};
-ghost use Rattle.page_model.specs.declared.page.Reading.{Reading as AnyReading};
 ghost use Rattle.page_model.specs.declared.page.Family.{Family as AnyFamily};
-ghost use Rattle.start_times.specs.declared.row.Placed.{Placed as AnyPlaced};
 ghost use Rattle.family_metrics.specs.Points.{MayBeLaidOut, MayAllBeLaidOut};
 ghost use Rattle.family_metrics.specs.Scopes.{bridge_scope, scope_of};
-ghost use Rattle.family_metrics.specs.PlacedMarkers.{family_readings};
 ghost use Rattle.scope_metrics.specs.ScopeParts as spec;
 
 use crate::scopes::{scope_bytes, scope_texts};
@@ -154,9 +151,9 @@ impl ScopePart {
     }
 
     /// Makes the family of this number the last one.
-    #[tactic(auto, unfolding(crate::specs::ScopeParts::closed_part, crate::specs::ScopeParts::part_at))]
+    #[tactic(auto, unfolding(crate::specs::ScopeParts::closed_part, crate::specs::ScopeParts::part_with_last))]
     fn begin(&mut self, alloc: Global, number: usize, family: &Family) -> Result<(), Memory>
-        ensures part_at { OnOk result (self.new ≡ spec.part_at number family.now self.old) }
+        ensures begun { OnOk result (self.new ≡ spec.part_with_last number family.now self.old) }
         ensures scope { self.new.scope ≡ self.old.scope }
     {
         if self.is_last(number) {
@@ -277,7 +274,7 @@ impl ScopeParts {
         place: Option<Placed>,
     ) -> Result<(), Memory>
         requires { MayBeLaidOut reading.now.value }
-        ensures { OnOk result ((items : List spec.Item) → self.old ≡ spec.items_by_scope items → self.new ≡ spec.items_by_scope (items ++ spec.of_reading number family.now reading.now place ∷ [])) }
+        ensures { OnOk result (spec.PutsBehind self.old (spec.of_reading number family.now reading.now place ∷ []) self.new) }
     {
         let at = self.place_for(alloc, &reading.key.labels)?;
         self.parts[at].add_reading(alloc, number, family, reading, place)?;
@@ -286,7 +283,7 @@ impl ScopeParts {
 
     /// Puts a marker behind those of its scope.
     fn add_marker(&mut self, alloc: Global, marker: Marker) -> Result<(), Memory>
-        ensures { OnOk result ((items : List spec.Item) → self.old ≡ spec.items_by_scope items → self.new ≡ spec.items_by_scope (items ++ spec.of_marker marker ∷ [])) }
+        ensures { OnOk result (spec.PutsBehind self.old (spec.of_marker marker ∷ []) self.new) }
     {
         let at = self.place_for(alloc, &marker.key.labels)?;
         self.parts[at].add_marker(marker)?;
@@ -302,8 +299,7 @@ impl ScopeParts {
         places: &[Option<Placed>],
     ) -> Result<(), Memory>
         requires { MayAllBeLaidOut family.now.readings }
-        ensures { OnOk result ((items : List spec.Item) → self.old ≡ spec.items_by_scope items
-            → self.new ≡ spec.items_by_scope (items ++ filter_map (spec.placed_item number family.now) (zip family.now.readings places.now))) }
+        ensures { OnOk result (spec.PutsBehind self.old (filter_map (spec.placed_item number family.now) (zip family.now.readings places.now)) self.new) }
     {
         for (reading, place) in family.readings.as_slice().iter().zip(places) {
             if is_at(*place) {
@@ -321,8 +317,7 @@ impl ScopeParts {
         places: &[Option<Placed>],
     ) -> Result<(), Memory>
         requires { All (λ (f : AnyFamily). MayAllBeLaidOut f.readings) families.now }
-        ensures { OnOk result ((place : AnyReading → Option AnyPlaced) → places.now ≡ map place (family_readings families.now)
-            → self.old ≡ spec.items_by_scope [] → self.new ≡ spec.items_by_scope (spec.all_placed_items place 0 families.now)) }
+        ensures { OnOk result (self.old ≡ spec.items_by_scope [] → spec.AreReadingsByScope families.now places.now self.new) }
     {
         let mut left = places;
         for (number, family) in families.iter().enumerate() {
@@ -335,7 +330,7 @@ impl ScopeParts {
 
     /// Puts markers behind those of their scopes.
     fn add_markers(&mut self, alloc: Global, markers: Vec<Marker>) -> Result<(), Memory>
-        ensures { OnOk result ((items : List spec.Item) → self.old ≡ spec.items_by_scope items → self.new ≡ spec.items_by_scope (items ++ map spec.of_marker markers.items)) }
+        ensures { OnOk result (spec.PutsBehind self.old (map spec.of_marker markers.items) self.new) }
     {
         for marker in markers {
             self.add_marker(alloc, marker)?;
@@ -352,9 +347,7 @@ impl ScopeParts {
         markers: Vec<Marker>,
     ) -> Result<(), Memory>
         requires { All (λ (f : AnyFamily). MayAllBeLaidOut f.readings) families.now }
-        ensures { OnOk result ((place : AnyReading → Option AnyPlaced) → places.now ≡ map place (family_readings families.now)
-            → self.old ≡ spec.items_by_scope []
-            → self.new ≡ spec.items_by_scope (spec.all_placed_items place 0 families.now ++ map spec.of_marker markers.items)) }
+        ensures { OnOk result (self.old ≡ spec.items_by_scope [] → spec.AreAllByScope families.now places.now markers.items self.new) }
     {
         match self.add_families(alloc, families, places) {
             Ok(()) => self.add_markers(alloc, markers),
@@ -373,8 +366,7 @@ impl ScopeParts {
         markers: Vec<Marker>,
     ) -> Result<ScopeParts, Memory>
         requires { All (λ (f : AnyFamily). MayAllBeLaidOut f.readings) families.now }
-        ensures { IfOk result (λ parts. (place : AnyReading → Option AnyPlaced) → places.now ≡ map place (family_readings families.now)
-            → parts ≡ spec.items_by_scope (spec.all_placed_items place 0 families.now ++ map spec.of_marker markers.items)) }
+        ensures { IfOk result (λ parts. spec.AreAllByScope families.now places.now markers.items parts) }
     {
         let mut parts = ScopeParts::new(alloc)?;
         match parts.fill(alloc, families, places, markers) {

@@ -1,9 +1,5 @@
 //! The scopes that series name by their labels, as bytes and as texts, and whether any is named.
 ghost use Rattle.std.specs.Prelude.{◌≡◌, ◌&&◌, IfOk};
-ghost use Rattle.std.specs.List.{list_all};
-ghost use Rattle.page_model.specs.declared.page.Reading.{Reading as AnyReading};
-ghost use Rattle.page_model.specs.declared.page.Family.{Family as AnyFamily};
-ghost use Rattle.family_metrics.specs.declared.markers.Marker.{Marker as AnyMarker};
 ghost use Rattle.family_metrics.specs.Scopes as spec;
 ghost use Rattle.scope_metrics.specs.Laws as laws;
 
@@ -70,7 +66,7 @@ fn name_none(labels: &LabelSet) -> bool
 
 /// Whether readings name no scope.
 fn readings_name_none(readings: &[Reading]) -> bool
-    ensures { result ≡ list_all (λ (r : AnyReading). laws.names_none r.key.labels) readings.now }
+    ensures { result ≡ laws.readings_name_none readings.now }
 {
     for reading in readings {
         if !name_none(&reading.key.labels) {
@@ -82,7 +78,7 @@ fn readings_name_none(readings: &[Reading]) -> bool
 
 /// Whether the readings of families name no scope.
 fn families_name_none(families: &[Family]) -> bool
-    ensures { result ≡ list_all (λ (f : AnyFamily). list_all (λ (r : AnyReading). laws.names_none r.key.labels) f.readings) families.now }
+    ensures { result ≡ laws.families_name_none families.now }
 {
     for family in families {
         if !readings_name_none(family.readings.as_slice()) {
@@ -94,7 +90,7 @@ fn families_name_none(families: &[Family]) -> bool
 
 /// Whether markers name no scope.
 fn markers_name_none(markers: &[Marker]) -> bool
-    ensures { result ≡ list_all (λ (m : AnyMarker). laws.names_none m.key.labels) markers.now }
+    ensures { result ≡ laws.markers_name_none markers.now }
 {
     for marker in markers {
         if !name_none(&marker.key.labels) {
@@ -106,8 +102,7 @@ fn markers_name_none(markers: &[Marker]) -> bool
 
 /// Whether neither the readings of families nor markers name a scope.
 pub(crate) fn all_name_none(families: &[Family], markers: &[Marker]) -> bool
-    ensures { result ≡ (list_all (λ (f : AnyFamily). list_all (λ (r : AnyReading). laws.names_none r.key.labels) f.readings) families.now
-        && list_all (λ (m : AnyMarker). laws.names_none m.key.labels) markers.now) }
+    ensures { result ≡ (laws.families_name_none families.now && laws.markers_name_none markers.now) }
 {
     families_name_none(families) && markers_name_none(markers)
 }

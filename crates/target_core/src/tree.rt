@@ -1,11 +1,9 @@
 //! The request tree of one event.
-ghost use Rattle.std.specs.Prelude.{◌≡◌, ◌++◌, ◌∷◌, [], Option, None, map, IfOk, OnOk};
-ghost use Rattle.page_model.specs.declared.page.Reading.{Reading as AnyReading};
-ghost use Rattle.page_model.specs.Presence.{all_readings, empty_page};
-ghost use Rattle.start_times.specs.declared.row.Placed.{Placed as AnyPlaced};
+ghost use Rattle.std.specs.Prelude.{◌≡◌, ◌++◌, ◌∷◌, [], IfOk, OnOk};
 ghost use Rattle.family_metrics.specs.Scopes.{target_scope};
 ghost use Rattle.scope_metrics.specs.PageScopes as by_scope;
 ghost use Rattle.target_core.specs.Trees as trees;
+ghost use Rattle.target_core.specs.Trees.{IsOwnPart, IsRequest, gone_part};
 
 use crate::resource::resource;
 use bridge_ports::Target;
@@ -94,10 +92,7 @@ fn marked_part(
     attributes: &LabelSet,
     markers: Vec<Marker>,
 ) -> Result<ResourceMetrics, Memory>
-    ensures { IfOk result (λ part. part ≡ record {
-      resource = trees.resource_of target.now attributes.now;
-      scopes = by_scope.series_scopes (λ r. None) markers.items empty_page;
-    }) }
+    ensures { IfOk result (λ part. part ≡ trees.marked_part target.now attributes.now markers.items) }
 {
     let scopes = series_scopes(alloc, &[], &[], markers)?;
     let scopes = List::from_vec(scopes)?;
@@ -134,11 +129,7 @@ fn own_part(
     places: &[Option<Placed>],
     markers: Vec<Marker>,
 ) -> Result<ResourceMetrics, Memory>
-    ensures { (place : AnyReading → Option AnyPlaced) → places.now ≡ map place (all_readings page.now)
-        → IfOk result (λ part. part ≡ record {
-          resource = trees.resource_of target.now attributes.now;
-          scopes = by_scope.series_scopes place markers.items page.now ++ by_scope.scope_with target_scope (trees.target_metrics moment up page.now.samples);
-        }) }
+    ensures { IfOk result (IsOwnPart target.now attributes.now places.now markers.items moment up page.now) }
 {
     let resource = resource(alloc, target, attributes)?;
     let families = page.families().as_slice();
@@ -164,8 +155,7 @@ fn request(
     markers: Vec<Marker>,
     further: Vec<ResourceMetrics>,
 ) -> Result<Request, Memory>
-    ensures { (place : AnyReading → Option AnyPlaced) → places.now ≡ map place (all_readings page.now)
-        → IfOk result (λ request. request ≡ trees.request_of target.now attributes.now place markers.items moment up page.now further.items) }
+    ensures { IfOk result (IsRequest target.now attributes.now places.now markers.items moment up page.now further.items) }
 {
     let own = own_part(alloc, target, attributes, moment, up, page, places, markers)?;
     let mut parts = further;
@@ -184,8 +174,7 @@ pub(crate) fn request_alone(
     places: &[Option<Placed>],
     markers: Vec<Marker>,
 ) -> Result<Request, Memory>
-    ensures { (place : AnyReading → Option AnyPlaced) → places.now ≡ map place (all_readings seen.now.series)
-        → IfOk result (λ request. request ≡ trees.request_of target.now attributes.now place markers.items moment seen.now.up seen.now.series []) }
+    ensures { IfOk result (IsRequest target.now attributes.now places.now markers.items moment seen.now.up seen.now.series []) }
 {
     let further = Vec::new(alloc);
     let (up, series) = (seen.up, &seen.series);
@@ -205,9 +194,7 @@ pub(crate) fn request_anew(
     places: &[Option<Placed>],
     gone: Vec<Marker>,
 ) -> Result<Request, Memory>
-    ensures { (place : AnyReading → Option AnyPlaced) → places.now ≡ map place (all_readings seen.now.series)
-        → IfOk result (λ request. request ≡ trees.request_of target.now seen.now.resource place [] moment seen.now.up seen.now.series
-        (trees.gone_part target.now before.now gone.items)) }
+    ensures { IfOk result (IsRequest target.now seen.now.resource places.now [] moment seen.now.up seen.now.series (gone_part target.now before.now gone.items)) }
 {
     let further = gone_part(alloc, target, before, gone)?;
     let unmarked = Vec::new(alloc);

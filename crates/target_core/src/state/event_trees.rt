@@ -1,20 +1,10 @@
 //! The trees of a target's events, and the rows behind them.
-ghost use Rattle.std.specs.Prelude.{◌≡◌, [], false, map, Option, IfOk};
+ghost use Rattle.std.specs.Prelude.{◌≡◌, [], IfOk};
 ghost use Rattle.std.specs.Option.{option_copied};
-ghost use Rattle.page_model.specs.declared.event.Event.{Event as AnyEvent};
-ghost use Rattle.page_model.specs.declared.event.Outcome.{Outcome as AnyOutcome};
-ghost use Rattle.page_model.specs.declared.page.Reading.{Reading as AnyReading};
-ghost use Rattle.page_model.specs.Presence.{all_readings};
 ghost use Rattle.staleness.specs.Vanished.{page_or_empty};
-ghost use Rattle.start_times.specs.declared.row.Placed.{Placed as AnyPlaced};
 ghost use Rattle.start_times.specs.Starts.{Tracking};
 ghost use Rattle.start_times.specs.Rows.{Tracks};
-ghost use Rattle.target_pages.specs.Outcomes.{IsSeen};
-ghost use Rattle.target_pages.specs.Stretches.{without_info};
-ghost use Rattle.target_core.specs.Events.{first_place};
-ghost use Rattle.target_core.specs.States.{Steps};
-ghost use Rattle.target_core.specs.Stepping.{AdvancesAnew, AreMarkersLacked, AreMarkersMissed, IsEventNext, IsToldBehind, IsTreeAnew, IsTreeWithin, ReadsWithin, ReadsAnew, keys_lacked, next_state};
-ghost use Rattle.target_core.specs.Trees.{request_of};
+ghost use Rattle.target_core.specs.Stepping.{AdvancesAnew, AreKeysLacked, AreMarkersLacked, AreMarkersMissed, IsToldBehind, IsTreeAnew, IsTreeWithin, ReadsWithin, ReadsAnew, StepsBySeen, first_request};
 
 use super::TargetState;
 use crate::gone::markers_of;
@@ -54,8 +44,7 @@ impl TargetState {
 
     /// The series of the last page that a page now lacks; all of them where there is none.
     fn keys_lacked(&self, alloc: Global, now: Option<&Page>) -> Result<List<SeriesKey>, Memory>
-        ensures { IfOk result (λ keys. (t : Tracking) → t.honor ≡ self.now.target.honor
-            → keys ≡ keys_lacked t self.now.marks (without_info self.now.page) (page_or_empty (option_copied now.entry))) }
+        ensures { IfOk result (AreKeysLacked self.now (page_or_empty (option_copied now.entry))) }
     {
         match &self.marks {
             Some(marks) => vanished_marks(alloc, marks, now),
@@ -104,7 +93,7 @@ impl TargetState {
         moment: u64,
         seen: &Seen,
     ) -> Result<Request, Memory>
-        ensures { IfOk result (λ tree. tree ≡ request_of self.now.target seen.now.resource (first_place self.now.target.honor moment) [] moment seen.now.up seen.now.series []) }
+        ensures { IfOk result (λ tree. tree ≡ first_request self.now.target moment seen.now) }
     {
         let places = first_places(alloc, self.target.honor(), moment, &seen.series)?;
         let markers = Vec::new(alloc);
@@ -128,8 +117,7 @@ impl TargetState {
         seen: &Seen,
         starts: &Starts,
     ) -> Result<Request, Memory>
-        ensures { (place : AnyReading → Option AnyPlaced) → starts.now.list ≡ map place (all_readings seen.now.series)
-            → IfOk result (IsTreeWithin self.now tracker.now.rows place starts.now.misses moment seen.now.up seen.now.series) }
+        ensures { IfOk result (IsTreeWithin self.now tracker.now.rows starts.now.list starts.now.misses moment seen.now.up seen.now.series) }
     {
         let markers = self.markers_missed(alloc, starts.misses, tracker, &seen.series, moment)?;
         let places = starts.list.as_slice();
@@ -191,8 +179,7 @@ impl TargetState {
         seen: &Seen,
         places: &[Option<Placed>],
     ) -> Result<Request, Memory>
-        ensures { (place : AnyReading → Option AnyPlaced) → places.now ≡ map place (all_readings seen.now.series)
-            → IfOk result (IsTreeAnew self.now tracker.now.rows place moment seen.now.up seen.now.resource seen.now.series) }
+        ensures { IfOk result (IsTreeAnew self.now tracker.now.rows places.now moment seen.now.up seen.now.resource seen.now.series) }
     {
         let gone = self.markers(alloc, tracker, None, moment)?;
         let before = &self.resource;
@@ -229,9 +216,7 @@ impl TargetState {
         moment: u64,
         seen: &Seen,
     ) -> Result<(Request, Tracker), Memory>
-        ensures { (e : AnyEvent) (outcome : AnyOutcome) → IsEventNext self.now.moment e outcome moment
-            → IsSeen self.now.resource outcome seen.now.up seen.now.resource seen.now.series seen.now.last
-            → IfOk result (λ r. Steps self.now e r.0 (next_state self.now seen.now.resource r.1 false seen.now.last moment)) }
+        ensures { IfOk result (λ r. StepsBySeen self.now moment seen.now r.0 r.1) }
     {
         let tracker = self.told_tracker(alloc)?;
         if seen.leaves(&self.resource) {

@@ -1,6 +1,6 @@
-use Rattle.std.proofs.Common.{List, sym, subst, ◌≡◌}
-use Rattle.std.specs.Prelude.{IfOk}
-use Rattle.otlp_tree.specs.declared.tree.ScopeMetrics.{ScopeMetrics}
+use Rattle.std.proofs.Common.{sym, ◌∙◌}
+use Rattle.std.proofs.lemmas.Result.{IfOk-weaker}
+use Rattle.scope_metrics.specs.PageScopes.{IsBridgeScopeAlone, AreSeriesScopes}
 use Rattle.scope_metrics.proofs.OneScope.{alone_here}
 use Rattle.scope_metrics.proofs.Unnamed.{none_named}
 use Rattle.scope_metrics.proofs.page_scopes.series_scopes.Goals as goal
@@ -10,6 +10,9 @@ bridge_scope_alone-requires c =
     record { layout = c.requires.layout; scope = none_named c.args.families.now c.as_slice.result.now (sym c.if-all_name_none.ensures) }
 
 pub returns-then-all_name_none : goal.returns-then-all_name_none
-returns-then-all_name_none c = λ place own.
-    subst (λ (l : List ScopeMetrics). IfOk c.bridge_scope_alone.result (λ scopes. scopes.items ≡ l))
-    (alone_here place c.args.families.now c.args.markers.items c.as_slice.result.now c.as_slice.ensures.value (sym c.if-all_name_none.ensures)) (c.bridge_scope_alone.ensures place own)
+returns-then-all_name_none c =
+    let fs = c.args.families.now in
+    let places = c.args.places.now in
+    let ms = c.args.markers.items in
+    IfOk-weaker c.bridge_scope_alone.result (λ scopes. IsBridgeScopeAlone fs places ms scopes.items) (λ scopes. AreSeriesScopes fs places ms scopes.items)
+    (λ scopes alone place own. alone place own ∙ alone_here place fs ms c.as_slice.result.now c.as_slice.ensures.value (sym c.if-all_name_none.ensures)) c.bridge_scope_alone.ensures

@@ -7,5 +7,5 @@ use Rattle.scope_metrics.proofs.scope_parts.ScopeParts.add_families.Given as goa
 
 -- the readings of the families so far are put, and the places of the others are left
 abbrev pub invariant-loop-number : goal.invariant-loop-number
-invariant-loop-number l = (place : Reading → Option Placed) → l.fn.places ≡ map place (family_readings l.families) → l.initial.self ≡ items_by_scope []
+invariant-loop-number l = l.initial.self ≡ items_by_scope [] → (place : Reading → Option Placed) → l.fn.places ≡ map place (family_readings l.families)
     → (l.self ≡ items_by_scope (all_placed_items place 0 (take l.number l.families))) × (l.left ≡ map place (family_readings (drop l.number l.families)))
