@@ -1,6 +1,5 @@
 pub mod Laws
 pub mod Escapes
-pub mod Keeping
 pub mod LineCounts
 pub mod Places
 pub mod Parts

@@ -3,4 +3,3 @@ pub mod FamilyKeys
 pub mod Forms
 pub mod OpenForms
 pub mod Pieces
-pub mod Kept

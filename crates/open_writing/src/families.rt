@@ -7,8 +7,7 @@ ghost use Rattle.page_model.specs.OpenItems.{kind_word as word_of};
 ghost use Rattle.open_writing.specs.Pieces.{family_text, help_line_text, readings_text, type_text, unit_text};
 ghost use Rattle.open_writing.specs.Writing.{line_text, page_items};
 
-use crate::kept::{Kept, emit_at_once};
-use crate::readings::ReadingText;
+use crate::readings::emit_reading;
 use crate::strings::emit_escaped;
 use label_sets::{Kind, List, Name, Text};
 use page_model::{Family, Reading};
@@ -72,49 +71,32 @@ fn emit_help<E: Emitter>(out: &mut E, name: &Name, text: &Text)
     out.put(b"\n");
 }
 
-/// Emits the samples of a family's readings, those of each at once where they are short.
+/// Emits the samples of a family's readings.
 #[tactic(auto, unfolding(crate::specs::Pieces::readings_text))]
-fn emit_readings<E: Emitter>(
-    out: &mut E,
-    kept: &mut Kept,
-    kind: Kind,
-    family: &Name,
-    readings: &[Reading],
-)
+fn emit_readings<E: Emitter>(out: &mut E, kind: Kind, family: &Name, readings: &[Reading])
     ensures { out.new ≡ fold E.push out.old (readings_text kind family.now readings.now) }
 {
     for reading in readings {
-        let text = ReadingText {
-            kind,
-            family,
-            reading,
-        };
-        emit_at_once(out, kept, &text);
+        emit_reading(out, kind, family, reading);
     }
 }
 
 /// Emits a family.
-fn emit_family<E: Emitter>(out: &mut E, kept: &mut Kept, family: &Family)
+fn emit_family<E: Emitter>(out: &mut E, family: &Family)
     ensures { out.new ≡ fold E.push out.old (family_text family.now) }
 {
     emit_type(out, &family.name, family.kind);
     emit_unit(out, &family.name, &family.unit);
     emit_help(out, &family.name, &family.help);
-    emit_readings(
-        out,
-        kept,
-        family.kind,
-        &family.name,
-        family.readings.as_slice(),
-    );
+    emit_readings(out, family.kind, &family.name, family.readings.as_slice());
 }
 
 /// Emits families.
-fn emit_families<E: Emitter>(out: &mut E, kept: &mut Kept, families: &[Family])
+fn emit_families<E: Emitter>(out: &mut E, families: &[Family])
     ensures { out.new ≡ fold E.push out.old (flat_map family_text families.now) }
 {
     for family in families {
-        emit_family(out, kept, family);
+        emit_family(out, family);
     }
 }
 
@@ -126,8 +108,7 @@ impl Emit for FamiliesText<'_> {
     ghost text = { λ families. flat_map line_text (page_items families.0.now) };
 
     fn emit<E: Emitter>(&self, out: &mut E) {
-        let mut kept = Kept::new();
-        emit_families(out, &mut kept, self.0.as_slice());
+        emit_families(out, self.0.as_slice());
         out.put(b"# EOF\n");
     }
 }

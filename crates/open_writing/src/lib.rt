@@ -7,7 +7,6 @@ ghost use Rattle.open_writing.specs.Writing.{page_with, sample_lines, written_te
 
 mod counting;
 mod families;
-mod kept;
 mod labels;
 mod readings;
 mod samples;

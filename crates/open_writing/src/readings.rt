@@ -14,7 +14,7 @@ use crate::samples::{SampleName, emit_option, emit_placed, emit_sample};
 use exact_decimal::Number;
 use label_sets::{Kind, LabelSet, List, Name};
 use page_model::{Bucket, Quantile, Reading, Suffix, Value};
-use text_emitter::{Emit, Emitter};
+use text_emitter::Emitter;
 
 /// What the samples of a reading share.
 #[derive(Clone, Copy)]
@@ -209,24 +209,15 @@ fn emit_value<E: Emitter>(out: &mut E, metric: &Metric<'_>, value: &Value)
     }
 }
 
-/// A reading with the text of its samples, in a family of this kind and name.
-#[derive(Clone, Copy)]
-pub(crate) struct ReadingText<'a> {
-    pub(crate) kind: Kind,
-    pub(crate) family: &'a Name,
-    pub(crate) reading: &'a Reading,
-}
-
-impl Emit for ReadingText<'_> {
-    ghost text = { λ r. samples_text (reading_samples r.kind r.family.now r.reading.now) };
-
-    fn emit<E: Emitter>(&self, out: &mut E) {
-        let metric = Metric {
-            kind: self.kind,
-            family: self.family,
-            labels: &self.reading.key.labels,
-        };
-        emit_value(out, &metric, &self.reading.value);
-        emit_created(out, &metric, &self.reading.created);
-    }
+/// Emits the samples of a reading, in a family of this kind and name.
+pub(crate) fn emit_reading<E: Emitter>(out: &mut E, kind: Kind, family: &Name, reading: &Reading)
+    ensures { out.new ≡ fold E.push out.old (samples_text (reading_samples kind family.now reading.now)) }
+{
+    let metric = Metric {
+        kind,
+        family,
+        labels: &reading.key.labels,
+    };
+    emit_value(out, &metric, &reading.value);
+    emit_created(out, &metric, &reading.created);
 }

@@ -1,4 +1,5 @@
 pub mod Escapes
+pub mod Labels
 pub mod LastDigits
 pub mod Lists
 pub mod Written

@@ -2,8 +2,9 @@
 -- JSON (RFC 8259), sections 4 and 5 (value-separator); the bridge's own where it splits a text.
 use Rattle.std.specs.Prelude.{ℕ, List, ◌++◌, codes, Option}
 use Rattle.std.specs.List.{flat_map}
+use Rattle.label_sets.specs.declared.label.Label.{Label}
 use Rattle.label_sets.specs.declared.label_set.LabelSet.{LabelSet}
-use Rattle.otlp_json.specs.Json.{json_integer}
+use Rattle.otlp_json.specs.Json.{json_byte, json_integer}
 use Rattle.otlp_json.specs.Texts.{attributes_member, start_member, value_members}
 
 -- a text with a comma in front, as each but the first of a list has it
@@ -25,6 +26,14 @@ behind_comma text = codes "," ++ text
 -- the members behind another one
 abbrev pub each_behind_comma : List (List ℕ) → List ℕ
 each_behind_comma members = flat_map behind_comma members
+
+-- a label from the front of its name to the end of its value, without the quotes around both
+unfoldable pub open_label : Label → List ℕ
+open_label l = flat_map json_byte l.name ++ codes "\",\"value\":{\"stringValue\":\"" ++ flat_map json_byte l.value
+
+-- a label behind another one, from the end of the value of that
+unfoldable pub next_label : Label → List ℕ
+next_label l = codes "\"}},{\"key\":\"" ++ open_label l
 
 -- a point from its first member up to its time
 unfoldable pub point_front : LabelSet → Option ℕ → ℕ → List ℕ

@@ -57,7 +57,6 @@ pub(crate) fn emit_pair<A: Json, B: Json, E: Emitter>(
 
 /// Emits the elements behind the first.
 #[tactic(auto, unfolding(crate::specs::Pieces::next_text))]
-#[inline(always)]
 fn emit_rest<T: Json, E: Emitter>(out: &mut E, items: &[T])
     ensures { out.new ≡ fold E.push out.old (flat_map (next_text T.text) items.now) }
 {
@@ -69,11 +68,9 @@ fn emit_rest<T: Json, E: Emitter>(out: &mut E, items: &[T])
 
 /// Emits an array.
 #[tactic(auto, unfolding(crate::specs::Json::json_array))]
-#[inline(always)]
 pub(crate) fn emit_array<T: Json, E: Emitter>(out: &mut E, items: &[T])
     ensures { out.new ≡ fold E.push out.old (json_array (map T.text items.now)) }
 {
-    // In line, as are the elements behind the first, so that a point has no calls for its labels.
     let [first, rest @ ..] = items else {
         return out.put(b"[]");
     };

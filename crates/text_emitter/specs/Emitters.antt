@@ -19,8 +19,12 @@ appended bytes start = record { bytes = bytes; start = start }
 abbrev pub append_push : Appended → ℕ → Appended
 append_push a byte = appended (a.bytes ++ byte ∷ []) a.start
 
--- a vector holds all bytes unless memory failed, and always those that stood there before
-pub record Holds (items : List ℕ) (failed : Bool) (all : Appended) : Type 0 where
-  pub whole : failed ≡ false → items ≡ all.bytes
+-- a vector and a room behind it hold all bytes unless memory failed, and the vector always those that stood there before
+pub record Holds (items room : List ℕ) (failed : Bool) (all : Appended) : Type 0 where
+  pub whole : failed ≡ false → items ++ room ≡ all.bytes
   pub within : all.start ≤ length items
   pub front : take all.start items ≡ take all.start all.bytes
+
+-- what is held before is held after with these bytes behind it
+abbrev pub HoldsMore : (Appended → Type 0) → (Appended → Type 0) → List ℕ → Type 0
+HoldsMore before after bytes = (all : Appended) → before all → after (appended (all.bytes ++ bytes) all.start)

@@ -1,21 +1,28 @@
 //! Bytes that are appended to a vector.
 
-ghost use Rattle.std.specs.Prelude.{◌≡◌, fold, length, take, OnOk, OnErr};
-ghost use Rattle.text_emitter.specs.Emitters.{append_push};
+ghost use Rattle.std.specs.Prelude.{◌≡◌, [], length, take, OnOk, OnErr};
+ghost use Rattle.text_emitter.specs.Emitters.{append_push, Appended, Holds, HoldsMore};
 
 use crate::byte_emitter::Pieces;
+use arrayvec::ArrayVec;
 use bridge_ports::{AllBytes, Piece};
 use std::alloc::AllocError;
 use std::marker::Model;
 use std::mem;
 
+/// How many bytes are appended at once; a piece that is longer is appended alone.
+const ROOM: usize = 2_048;
+
 /// A vector behind whose bytes those of a text are appended.
 ///
 /// It grows where it has to. Where there is no memory for that, some of the text is missing; so it is
-/// taken away in the end.
+/// taken away in the end. Pieces are gathered in a room of a fixed size, where a short one costs few
+/// instructions: a vector may have to grow for each.
 #[derive(Drop)]
 pub(crate) struct Growing {
     bytes: Vec<u8>,
+    /// What stands behind the bytes, and is not yet appended to them.
+    room: ArrayVec<u8, ROOM>,
     /// How many bytes stood there before the text.
     start: usize,
     failed: bool,
@@ -29,7 +36,29 @@ impl Model for Growing {
 
     ghost view = { λ g. appended g.all.bytes g.start };
 
-    ghost invariant = { λ g. Holds g.bytes.items g.failed (appended g.all.bytes g.start) };
+    ghost invariant = { λ g. Holds g.bytes.items g.room.items g.failed (appended g.all.bytes g.start) };
+}
+
+/// Appends what is in the room. Where there is no memory for it, that is told through `failed`.
+fn flush(bytes: &mut Vec<u8>, room: &mut ArrayVec<u8, ROOM>, failed: &mut bool)
+    ensures empty { room.new.items ≡ [] }
+    ensures holds { (all : Appended) → Holds bytes.old.items room.old.items failed.old all → Holds bytes.new.items [] failed.new all }
+{
+    if bytes.extend_from_slice(room.as_slice()).is_err() {
+        *failed = true;
+    }
+    room.clear();
+}
+
+/// Appends a piece for which there is no room behind what is in it, or puts it there.
+#[cold]
+fn put_long(bytes: &mut Vec<u8>, room: &mut ArrayVec<u8, ROOM>, failed: &mut bool, piece: &[u8])
+    ensures { HoldsMore (Holds bytes.old.items room.old.items failed.old) (Holds bytes.new.items room.new.items failed.new) piece.now }
+{
+    flush(bytes, room, failed);
+    if room.try_extend_from_slice(piece).is_err() && bytes.extend_from_slice(piece).is_err() {
+        *failed = true;
+    }
 }
 
 impl Growing {
@@ -47,6 +76,7 @@ impl Growing {
         Growing {
             start: bytes.len(),
             bytes,
+            room: ArrayVec::new(),
             failed: false,
             all,
         }
@@ -57,9 +87,16 @@ impl Growing {
         ensures ok { OnOk result (out.new.items ≡ self.bytes) }
         ensures err { OnErr result (out.new.items ≡ take self.start self.bytes) }
     {
-        let mut bytes = self.bytes;
-        if self.failed {
-            bytes.truncate(self.start);
+        let Growing {
+            mut bytes,
+            mut room,
+            start,
+            mut failed,
+            all: _,
+        } = self;
+        flush(&mut bytes, &mut room, &mut failed);
+        if failed {
+            bytes.truncate(start);
             *out = bytes;
             return Err(AllocError);
         }
@@ -72,9 +109,10 @@ impl Pieces for Growing {
     ghost push = { append_push };
 
     #[tactic(auto, using(crate::proofs::Folds::append_folded))]
+    #[inline(always)]
     fn append(&mut self, piece: &[u8]) {
-        if self.bytes.extend_from_slice(piece).is_err() {
-            self.failed = true;
+        if self.room.try_extend_from_slice(piece).is_err() {
+            put_long(&mut self.bytes, &mut self.room, &mut self.failed, piece);
         }
         self.all = self.all.and(&Piece { bytes: piece });
     }

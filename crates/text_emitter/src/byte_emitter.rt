@@ -3,7 +3,7 @@
 ghost use Rattle.std.specs.Prelude.{◌≡◌, fold};
 
 use crate::emitter::Emitter;
-use crate::last_integer::LastInteger;
+use crate::last_integers::LastIntegers;
 use exact_decimal::Number;
 use std::marker::Model;
 
@@ -23,7 +23,7 @@ pub(crate) trait Pieces {
 #[derive(Drop)]
 pub(crate) struct ByteEmitter<P> {
     pieces: P,
-    last: LastInteger,
+    last: LastIntegers,
 }
 
 impl<P> Model for ByteEmitter<P> {
@@ -39,7 +39,7 @@ impl<P> ByteEmitter<P> {
     {
         ByteEmitter {
             pieces,
-            last: LastInteger::new(),
+            last: LastIntegers::new(),
         }
     }
 
@@ -54,6 +54,8 @@ impl<P> ByteEmitter<P> {
 impl<P: Pieces> Emitter for ByteEmitter<P> {
     ghost push = { P.push };
 
+    // In line, so that a piece whose length is known is put by a few moves.
+    #[inline(always)]
     fn put(&mut self, piece: &[u8]) {
         self.pieces.append(piece);
     }

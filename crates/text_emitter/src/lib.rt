@@ -10,7 +10,7 @@ mod byte_emitter;
 mod count;
 mod emit;
 mod emitter;
-mod last_integer;
+mod last_integers;
 mod print;
 
 pub use emit::{Emit, length, print_line, write};
