@@ -19,6 +19,7 @@ use Rattle.start_times.specs.declared.sighting.Sighting.{Sighting}
 use Rattle.start_times.specs.Scrapes.{Scrape}
 use Rattle.start_times.specs.Starts.{Tracking, has_points, time_of, time_where, placed, reading_place}
 use Rattle.start_times.specs.Rows.{Tracked, Tracks, kept_row, placed_beside, row_now, older_row}
+use Rattle.start_times.specs.Filling.{Filled, with_entries}
 use Rattle.start_times.specs.Sightings.{Saw, placed_in, sighted_entry, is_kept_reading, is_read, missed_entry}
 use Rattle.start_times.specs.Advancing.{HasDistinctKeys, scrape_of}
 use Rattle.start_times.proofs.RowLaws.{reading_is_of, row_is_enough, row_of_sight, row_of_miss, none_is, some_is}
@@ -262,10 +263,10 @@ places_stand t k past moment (r ∷ rs) tracks = rw (one_place t k past moment r
 
 -- a page that was seen, and the rows that it leaves
 pub advanced : (t : Tracking) (k after : Tracked) (past : List Scrape) (page : Page) (moment : ℕ) (starts : List (Option Placed)) (s : Sighting) → Tracks t k past → HasDistinctKeys page → Saw k.honor k.rows moment (all_readings page) s
-    → starts ≡ s.starts.items → after.keep ≡ k.keep → after.honor ≡ k.honor → after.rows ≡ s.entries ++ filter_map (missed_entry k.keep (is_read (filter is_kept_reading (all_readings page)))) k.rows
+    → starts ≡ s.starts.items → after.keep ≡ k.keep → after.honor ≡ k.honor → after.rows ≡ s.entries.list ++ filter_map (missed_entry k.keep (is_read (filter is_kept_reading (all_readings page)))) k.rows
     → (starts ≡ map (reading_place t past moment) (all_readings page)) × Tracks t after (scrape_of page moment ∷ past)
 advanced t k after past page moment starts s tracks distinct saw is keep honor rows =
-    let all : after.rows ≡ rows_behind k page moment = rows ∙ ap (λ (es : List (SeriesKey × Row)). es ++ filter_map (missed_entry k.keep (is_read (filter is_kept_reading (all_readings page)))) k.rows) saw.entries in (
+    let all : after.rows ≡ rows_behind k page moment = rows ∙ ap (λ (es : List (SeriesKey × Row)). es ++ filter_map (missed_entry k.keep (is_read (filter is_kept_reading (all_readings page)))) k.rows) (ap (λ (f : Filled). f.list) saw.entries) in (
       is ∙ (saw.starts ∙ places_stand t k past moment (all_readings page) tracks),
       record {
         keep = keep ∙ tracks.keep;
@@ -299,10 +300,10 @@ mark_read keys found now at key mark key_at e mark_is =
     mark_is ∙ (ap (λ (bs : List Bool). get_or bs at false) e ∙ get_or_from_slice_get (map now keys) at (now key) false (slice_get-map now keys at ∙ ap (option_map now) key_at))
 
 -- one row more, which was found or was missed
-pub row_passed : (keep : ℕ) (keys : List SeriesKey) (rows : List Row) (found : List Bool) (now : SeriesKey → Bool) (at : ℕ) (key : SeriesKey) (row : Row) (start before after : List (SeriesKey × Row)) (mark : Bool)
+pub row_passed : (keep : ℕ) (keys : List SeriesKey) (rows : List Row) (found : List Bool) (now : SeriesKey → Bool) (at : ℕ) (key : SeriesKey) (row : Row) (start before after : Filled) (mark : Bool)
     → slice_get keys at ≡ Some key → slice_get rows at ≡ Some row → found ≡ map now keys → mark ≡ get_or found at false
-    → before ≡ start ++ filter_map (missed_entry keep now) (take at (zip keys rows)) → after ≡ before ++ (if mark then [] else option_to_list (missed_entry keep (λ _. false) (key, row)))
-    → after ≡ start ++ filter_map (missed_entry keep now) (take (at + 1) (zip keys rows))
+    → before ≡ with_entries start (filter_map (missed_entry keep now) (take at (zip keys rows))) → after ≡ with_entries before (if mark then [] else option_to_list (missed_entry keep (λ _. false) (key, row)))
+    → after ≡ with_entries start (filter_map (missed_entry keep now) (take (at + 1) (zip keys rows)))
 row_passed keep keys rows found now at key row start before after mark key_at row_at e mark_is b a =
     let marked : mark ≡ now key = mark_read keys found now at key mark key_at e mark_is in
     let entry_at : slice_get (zip keys rows) at ≡ Some (key, row) = both_at keys rows at key row key_at row_at in
@@ -312,29 +313,31 @@ row_passed keep keys rows found now at key row start before after mark key_at ro
     let test = missed_entry keep now in
     let all : filter_map test (take (at + 1) (zip keys rows)) ≡ filter_map test (take at (zip keys rows)) ++ option_to_list (test (key, row))
     = ap (filter_map test) more ∙ (filter_map-append test (take at (zip keys rows)) ((key, row) ∷ []) ∙ ap (λ (es : List (SeriesKey × Row)). filter_map test (take at (zip keys rows)) ++ es) (one_listed (test (key, row)))) in
-    a ∙ (ap (λ (m : Bool). before ++ (if m then [] else option_to_list (missed_entry keep (λ _. false) (key, row)))) marked
-    ∙ (ap (λ (es : List (SeriesKey × Row)). before ++ es) (by (now key) refl)
-    ∙ (ap (λ (es : List (SeriesKey × Row)). es ++ option_to_list (test (key, row))) b
-    ∙ (append_assoc start (filter_map test (take at (zip keys rows))) (option_to_list (test (key, row)))
-    ∙ ap (λ (es : List (SeriesKey × Row)). start ++ es) (sym all)))))
+    a ∙ (ap (λ (m : Bool). with_entries before (if m then [] else option_to_list (missed_entry keep (λ _. false) (key, row)))) marked
+    ∙ (ap (with_entries before) (by (now key) refl)
+    ∙ (ap (λ (f : Filled). with_entries f (option_to_list (test (key, row)))) b
+    ∙ (ap (λ (es : List (SeriesKey × Row)). record { before = start.before; list = es }) (append_assoc start.list (filter_map test (take at (zip keys rows))) (option_to_list (test (key, row))))
+    ∙ ap (with_entries start) (sym all)))))
   where
     by : (m : Bool) → now key ≡ m → (if now key then [] else option_to_list (missed_entry keep (λ _. false) (key, row))) ≡ option_to_list (missed_entry keep now (key, row))
     by true p = rw p refl
     by false p = rw p refl
 
-pub row_missed : (keep : ℕ) (keys ks : List SeriesKey) (rows rs : List Row) (found : List Bool) (now : SeriesKey → Bool) (at : ℕ) (key : SeriesKey) (row : Row) (start before after next : List (SeriesKey × Row)) (mark : Bool)
+pub row_missed : (keep : ℕ) (keys ks : List SeriesKey) (rows rs : List Row) (found : List Bool) (now : SeriesKey → Bool) (at : ℕ) (key : SeriesKey) (row : Row) (start before after next : Filled) (mark : Bool)
     → ks ≡ keys → rs ≡ rows → at < length keys → at < length rows → key ≡ get_or ks at key → row ≡ get_or rs at row → found ≡ map now keys → mark ≡ get_or found at false → mark ≡ false
-    → before ≡ start ++ filter_map (missed_entry keep now) (take at (zip keys rows)) → next ≡ after → after ≡ before ++ option_to_list (missed_entry keep (λ _. false) (key, row))
-    → next ≡ start ++ filter_map (missed_entry keep now) (take (at + 1) (zip keys rows))
-row_missed keep keys ks rows rs found now at key row start before after next mark k r in_keys in_rows key_is row_is e mark_is unmarked b n a =
-    row_passed keep keys rows found now at key row start before next mark (slice_get_read keys (length keys) at key refl in_keys (key_is ∙ ap (λ (xs : List SeriesKey). get_or xs at key) k)) (slice_get_read rows (length rows) at row refl in_rows (row_is ∙ ap (λ (xs : List Row). get_or xs at row) r)) e mark_is b
-    (n ∙ (a ∙ ap (λ (m : Bool). before ++ (if m then [] else option_to_list (missed_entry keep (λ _. false) (key, row)))) (sym unmarked)))
+    → before ≡ with_entries start (filter_map (missed_entry keep now) (take at (zip keys rows))) → next ≡ after → start.before ≡ keys → (slice_get before.before at ≡ Some key → after ≡ with_entries before (option_to_list (missed_entry keep (λ _. false) (key, row))))
+    → next ≡ with_entries start (filter_map (missed_entry keep now) (take (at + 1) (zip keys rows)))
+row_missed keep keys ks rows rs found now at key row start before after next mark k r in_keys in_rows key_is row_is e mark_is unmarked b n same a =
+    let key_at : slice_get keys at ≡ Some key = slice_get_read keys (length keys) at key refl in_keys (key_is ∙ ap (λ (xs : List SeriesKey). get_or xs at key) k) in
+    let there : slice_get before.before at ≡ Some key = ap (λ (ks : List SeriesKey). slice_get ks at) (ap (λ (f : Filled). f.before) b ∙ same) ∙ key_at in
+    row_passed keep keys rows found now at key row start before next mark key_at (slice_get_read rows (length rows) at row refl in_rows (row_is ∙ ap (λ (xs : List Row). get_or xs at row) r)) e mark_is b
+    (n ∙ (a there ∙ ap (λ (m : Bool). with_entries before (if m then [] else option_to_list (missed_entry keep (λ _. false) (key, row)))) (sym unmarked)))
 
-pub row_marked : (keep : ℕ) (keys : List SeriesKey) (rows : List Row) (found : List Bool) (now : SeriesKey → Bool) (at : ℕ) (start before next : List (SeriesKey × Row)) (mark : Bool)
+pub row_marked : (keep : ℕ) (keys : List SeriesKey) (rows : List Row) (found : List Bool) (now : SeriesKey → Bool) (at : ℕ) (start before next : Filled) (mark : Bool)
     → at < length keys → at < length rows → found ≡ map now keys → mark ≡ get_or found at false → mark ≡ true
-    → before ≡ start ++ filter_map (missed_entry keep now) (take at (zip keys rows)) → next ≡ before → next ≡ start ++ filter_map (missed_entry keep now) (take (at + 1) (zip keys rows))
+    → before ≡ with_entries start (filter_map (missed_entry keep now) (take at (zip keys rows))) → next ≡ before → next ≡ with_entries start (filter_map (missed_entry keep now) (take (at + 1) (zip keys rows)))
 row_marked keep keys rows found now at start before next mark in_keys in_rows e mark_is marked b n =
     let key = some_at keys at in_keys in
     let row = some_at rows at in_rows in
     row_passed keep keys rows found now at key.0 row.0 start before next mark key.1 row.1 e mark_is b
-    (n ∙ (sym (append-nil before) ∙ ap (λ (m : Bool). before ++ (if m then [] else option_to_list (missed_entry keep (λ _. false) (key.0, row.0)))) (sym marked)))
+    (n ∙ (sym (ap (λ (es : List (SeriesKey × Row)). record { before = before.before; list = es }) (append-nil before.list)) ∙ ap (λ (m : Bool). with_entries before (if m then [] else option_to_list (missed_entry keep (λ _. false) (key.0, row.0)))) (sym marked)))

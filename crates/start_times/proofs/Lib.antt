@@ -1,6 +1,7 @@
 pub mod Advance
 mod Cases
 pub mod FewRows
+pub mod Filling
 pub mod Found
 pub mod KeptRows
 pub mod KeyOrder

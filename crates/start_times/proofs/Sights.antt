@@ -1,6 +1,6 @@
 -- Readings that were seen, one more and one more.
 use Rattle.std.proofs.Common.{◌≡◌, ℕ, Bool, true, false, List, [], ◌∷◌, ◌++◌, map, zip, filter, length, replicate, cond, Option, Some, None, option_and_then, refl, sym, ap, subst, ◌∙◌}
-use Rattle.std.specs.Prelude.{MatchOption, slice_get, slice_set}
+use Rattle.std.specs.Prelude.{MatchOption, IfSome, slice_get, slice_set}
 use Rattle.std.specs.List.{IsDistinct}
 use Rattle.std.specs.Map.{lookup, keys_of}
 use Rattle.std.proofs.lemmas.List.{append-nil, map-append}
@@ -15,17 +15,27 @@ use Rattle.start_times.specs.declared.row.Placed.{Placed}
 use Rattle.start_times.specs.declared.sighting.Sighting.{Sighting}
 use Rattle.start_times.specs.Starts.{has_points, time_where}
 use Rattle.start_times.specs.Rows.{placed_beside, row_now, row_start, kept_start}
+use Rattle.start_times.specs.Filling.{Filled, with_entries}
 use Rattle.start_times.specs.Sightings.{Saw, Sees, placed_in, sighted_entry, is_kept_reading, is_read}
 use Rattle.start_times.proofs.Found.{marked, is_among, row_found}
 
+-- these entries, behind these series
+abbrev filled : List SeriesKey → List (SeriesKey × Row) → Filled
+filled before list = record { before = before; list = list }
+
 -- ---- nothing seen
 
-no_marks : (rows : List (SeriesKey × Row)) → replicate (length rows) false ≡ map (is_read []) (keys_of rows)
+no_marks : (keys : List SeriesKey) → replicate (length keys) false ≡ map (is_read []) keys
 no_marks [] = refl
-no_marks (e ∷ rows) = ap (λ (bs : List Bool). false ∷ bs) (no_marks rows)
+no_marks (key ∷ keys) = ap (λ (bs : List Bool). false ∷ bs) (no_marks keys)
 
-pub saw_nothing : (honor : Bool) (rows : List (SeriesKey × Row)) (moment n : ℕ) (s : Sighting) → n ≡ length rows → s.starts.items ≡ [] → s.entries ≡ [] → s.found.items ≡ replicate n false → Saw honor rows moment [] s
-saw_nothing honor rows moment n s long starts entries found = record { starts = starts; entries = entries; found = found ∙ (ap (λ (m : ℕ). replicate m false) long ∙ no_marks rows) }
+pub saw_nothing : (honor : Bool) (rows : List (SeriesKey × Row)) (moment : ℕ) (keys : List SeriesKey) (s : Sighting) → keys ≡ keys_of rows → s.starts.items ≡ [] → s.entries ≡ record { before = keys; list = [] }
+    → s.found.items ≡ replicate (length keys) false → Saw honor rows moment [] s
+saw_nothing honor rows moment keys s same starts entries found = record {
+  starts = starts;
+  entries = entries ∙ ap (λ (ks : List SeriesKey). filled ks []) same;
+  found = found ∙ (no_marks keys ∙ ap (map (is_read [])) same);
+}
 
 -- ---- one reading more
 
@@ -41,7 +51,7 @@ pub saw_without : (honor : Bool) (rows : List (SeriesKey × Row)) (moment : ℕ)
 unfolding placed_in
 saw_without honor rows moment front r s next e starts entries found saw = record {
   starts = starts ∙ (ap (λ (os : List (Option Placed)). os ++ None ∷ []) saw.starts ∙ (ap (λ (o : Option Placed). map (placed_in honor rows moment) front ++ o ∷ []) none ∙ sym (map-append (placed_in honor rows moment) front (r ∷ []))));
-  entries = entries ∙ (saw.entries ∙ ap (map (sighted_entry honor rows moment)) (sym (passed front r e)));
+  entries = entries ∙ (saw.entries ∙ ap (λ (rs : List Reading). filled (keys_of rows) (map (sighted_entry honor rows moment) rs)) (sym (passed front r e)));
   found = found ∙ (saw.found ∙ ap (λ (rs : List Reading). map (is_read rs) (keys_of rows)) (sym (passed front r e)));
 }
   where
@@ -51,12 +61,12 @@ saw_without honor rows moment front r s next e starts entries found saw = record
 -- a reading of a kind with points
 pub saw_with : (honor : Bool) (rows : List (SeriesKey × Row)) (moment : ℕ) (front : List Reading) (r : Reading) (s next : Sighting) (placed : Placed) (row : Row) (at : Option ℕ) → has_points r.key.kind ≡ true → IsDistinct key_eq (keys_of rows)
     → IsPlace (keys_of rows) r.key at → placed ≡ placed_beside (lookup (key_eq r.key) rows) (time_where honor moment r) r → row ≡ row_now (lookup (key_eq r.key) rows) (time_where honor moment r) r
-    → next.starts.items ≡ s.starts.items ++ Some placed ∷ [] → next.entries ≡ s.entries ++ (r.key, row) ∷ []
+    → next.starts.items ≡ s.starts.items ++ Some placed ∷ [] → next.entries ≡ with_entries s.entries ((r.key, row) ∷ [])
     → MatchOption at (next.found.items ≡ s.found.items) (λ place. next.found.items ≡ slice_set s.found.items place true) → Saw honor rows moment front s → Saw honor rows moment (front ++ r ∷ []) next
 unfolding placed_in
 saw_with honor rows moment front r s next placed row at e once place placed_is row_is starts entries found saw = record {
   starts = starts ∙ (ap (λ (os : List (Option Placed)). os ++ Some placed ∷ []) saw.starts ∙ (ap (λ (o : Option Placed). map (placed_in honor rows moment) front ++ o ∷ []) given ∙ sym (map-append (placed_in honor rows moment) front (r ∷ []))));
-  entries = entries ∙ (ap (λ (es : List (SeriesKey × Row)). es ++ (r.key, row) ∷ []) saw.entries ∙ (ap (λ (x : Row). map (sighted_entry honor rows moment) (filter is_kept_reading front) ++ (r.key, x) ∷ []) row_is
+  entries = entries ∙ (ap (λ (f : Filled). with_entries f ((r.key, row) ∷ [])) saw.entries ∙ ap (filled (keys_of rows)) (ap (λ (x : Row). map (sighted_entry honor rows moment) (filter is_kept_reading front) ++ (r.key, x) ∷ []) row_is
       ∙ (sym (map-append (sighted_entry honor rows moment) (filter is_kept_reading front) (r ∷ [])) ∙ ap (map (sighted_entry honor rows moment)) (sym (counted front r e)))));
   found = marked (keys_of rows) fresh r.key at s.found.items next.found.items once place saw.found found
       ∙ (ap (λ (ks : List SeriesKey). map (is_among ks) (keys_of rows)) (sym (map-append (λ (q : Reading). q.key) (filter is_kept_reading front) (r ∷ [])))
@@ -79,7 +89,7 @@ passed_by honor places rows moment r s next pointed is e starts entries found = 
 -- a reading of a kind with points, behind any that were seen
 pub seen : (honor : Bool) (places : List SeriesKey) (rows : List Row) (moment : ℕ) (r : Reading) (s next : Sighting) (placed : Placed) (row : Row) (beside : Option Row) (at : Option ℕ) (time : ℕ) (pointed : Bool) (key : SeriesKey) → length places ≡ length rows
     → pointed ≡ has_points r.key.kind → pointed ≡ true → time ≡ time_where honor moment r → IsPlace places r.key at → beside ≡ option_and_then (slice_get rows) at → placed ≡ placed_beside beside time r → row ≡ row_now beside time r → key ≡ r.key
-    → next.starts.items ≡ s.starts.items ++ Some placed ∷ [] → next.entries ≡ s.entries ++ (key, row) ∷ [] → MatchOption at (next.found.items ≡ s.found.items) (λ place. next.found.items ≡ slice_set s.found.items place true)
+    → next.starts.items ≡ s.starts.items ++ Some placed ∷ [] → (IfSome at (λ place. slice_get s.entries.before place ≡ Some key) → next.entries ≡ with_entries s.entries ((key, row) ∷ [])) → MatchOption at (next.found.items ≡ s.found.items) (λ place. next.found.items ≡ slice_set s.found.items place true)
     → Sees honor (zip places rows) moment (r ∷ []) s next
 seen honor places rows moment r s next placed row beside at time pointed key even is e time_is place b placed_is row_is key_is starts entries found = λ once front saw.
     let keys : keys_of (zip places rows) ≡ places = keys_of-zip places rows (sym even) in
@@ -87,7 +97,10 @@ seen honor places rows moment r s next placed row beside at time pointed key eve
     saw_with honor (zip places rows) moment front r s next placed row at (sym is ∙ e) once (subst (λ (ks : List SeriesKey). IsPlace ks r.key at) (sym keys) place)
     (placed_is ∙ (ap (λ (o : Option Row). placed_beside o time r) kept ∙ ap (λ (n : ℕ). placed_beside (lookup (key_eq r.key) (zip places rows)) n r) time_is))
     (row_is ∙ (ap (λ (o : Option Row). row_now o time r) kept ∙ ap (λ (n : ℕ). row_now (lookup (key_eq r.key) (zip places rows)) n r) time_is))
-    starts (entries ∙ ap (λ (k : SeriesKey). s.entries ++ (k, row) ∷ []) key_is) found saw
+    starts (entries (there s.entries.before (ap (λ (f : Filled). f.before) saw.entries ∙ keys) key key_is (place.place (subst (IsDistinct key_eq) keys once))) ∙ ap (λ (k : SeriesKey). with_entries s.entries ((k, row) ∷ [])) key_is) found saw
+  where
+    there : (before : List SeriesKey) → before ≡ places → (k : SeriesKey) → k ≡ r.key → IfSome at (λ p. slice_get places p ≡ Some r.key) → IfSome at (λ p. slice_get before p ≡ Some k)
+    there before same k is h = subst (λ (ks : List SeriesKey). IfSome at (λ p. slice_get ks p ≡ Some k)) (sym same) (subst (λ (x : SeriesKey). IfSome at (λ p. slice_get places p ≡ Some x)) (sym is) h)
 
 -- the start of the row at a place is the one that is kept
 pub start_found : (places : List SeriesKey) (rows : List Row) (key : SeriesKey) (at start : Option ℕ) → length places ≡ length rows → IsDistinct key_eq places → IsPlace places key at

@@ -51,12 +51,12 @@ pub(crate) fn listed(
 
 /// Series with their rows, in the order of a list.
 pub(crate) fn collected(alloc: Global, rows: &[Kept]) -> Result<Entries, Memory>
-    ensures { IfOk result (λ entries. entries ≡ entries_of rows.now) }
+    ensures { IfOk result (λ entries. entries.list ≡ entries_of rows.now) }
 {
-    let mut entries = Entries::with_capacity(alloc, rows.len())?;
+    let mut entries = Entries::behind(alloc, List::new(alloc), rows.len())?;
     for kept in rows {
         let row = at_age(&kept.row, kept.row.age)?;
-        entries.push(&kept.key, row)?;
+        entries.push(alloc, None, &kept.key, row)?;
     }
     Ok(entries)
 }

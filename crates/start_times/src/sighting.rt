@@ -1,11 +1,12 @@
 //! What one page makes of the rows, reading by reading.
-ghost use Rattle.std.specs.Prelude.{◌≡◌, ◌++◌, [], ◌∷◌, true, false, zip, map, replicate, slice_set, slice_index_or, length, slice_get, option_and_then, MatchOption, IfOk, OnOk};
+ghost use Rattle.std.specs.Prelude.{◌≡◌, ◌++◌, [], ◌∷◌, true, false, zip, map, replicate, slice_set, slice_index_or, length, slice_get, option_and_then, MatchOption, Some, IfOk, OnOk};
 ghost use Rattle.std.specs.List.{IsDistinct, flat_map};
-ghost use Rattle.std.specs.Option.{option_copied, option_to_list};
+ghost use Rattle.std.specs.Option.{option_copied};
 ghost use Rattle.label_sets.specs.Keys.{key_eq};
 ghost use Rattle.page_model.specs.declared.page.Family.{Family as OneFamily};
 ghost use Rattle.start_times.specs.Rows.{kept_start, row_start as start_of_row};
-ghost use Rattle.start_times.specs.Sightings.{Sees, KeepsMissed, TellsMisses, missed_entry};
+ghost use Rattle.start_times.specs.Filling.{IsKeyAt, none_behind, with_entries};
+ghost use Rattle.start_times.specs.Sightings.{Sees, KeepsMissed, TellsMisses, missed_entries};
 
 use crate::entries::Entries;
 use crate::row::{Placed, Row, next_beside, older_row};
@@ -26,13 +27,15 @@ pub(crate) struct Sighting {
     pub(crate) found: Vec<bool>,
 }
 
-/// Nothing seen of a page, before which there were so many rows: most pages make about as many again.
-pub(crate) fn nothing(alloc: Global, rows: usize) -> Result<Sighting, Memory>
-    ensures { IfOk result (λ s. (s.starts.items ≡ []) × (s.entries ≡ []) × (s.found.items ≡ replicate rows false)) }
+/// Nothing seen of a page, before which there were rows of these series: most pages make about as many again.
+pub(crate) fn nothing(alloc: Global, keys: &List<SeriesKey>) -> Result<Sighting, Memory>
+    ensures { IfOk result (λ s. (s.starts.items ≡ []) × (s.entries ≡ none_behind keys.now) × (s.found.items ≡ replicate (length keys.now) false)) }
 {
+    let rows = keys.len();
+    let before = keys.copy()?;
     Ok(Sighting {
         starts: Vec::with_capacity(alloc, rows)?,
-        entries: Entries::with_capacity(alloc, rows)?,
+        entries: Entries::behind(alloc, before, rows)?,
         found: vec![in alloc; false; rows]?,
     })
 }
@@ -133,7 +136,7 @@ pub(crate) fn see(
     let at = places.find(alloc, &reading.key)?;
     let next = next_beside(alloc, row_at(rows, at), time, reading)?;
     seen.starts.push(Some(next.placed))?;
-    seen.entries.push(&reading.key, next.row)?;
+    seen.entries.push(alloc, at, &reading.key, next.row)?;
     mark(&mut seen.found, at);
     Ok(())
 }
@@ -213,12 +216,19 @@ fn is_marked(found: &[bool], at: usize) -> bool
     }
 }
 
-/// Keeps the row of a series one scrape longer, where it may be kept.
-fn keep_missed(keep: u32, entries: &mut Entries, key: &SeriesKey, row: &Row) -> Result<(), Memory>
-    ensures { OnOk result (entries.new ≡ entries.old ++ option_to_list (missed_entry keep (λ _. false) (key.now, row.now))) }
+/// Keeps the row of a series, which stands at this place of the list before, one scrape longer, where it may be kept.
+fn keep_missed(
+    alloc: Global,
+    keep: u32,
+    entries: &mut Entries,
+    at: usize,
+    key: &SeriesKey,
+    row: &Row,
+) -> Result<(), Memory>
+    ensures { IsKeyAt entries.old.before (Some at) key.now → OnOk result (entries.new ≡ with_entries entries.old (missed_entries keep (key.now, row.now))) }
 {
     if let Some(row) = older_row(keep, row)? {
-        entries.push(key, row)?;
+        entries.push(alloc, Some(at), key, row)?;
     }
     Ok(())
 }
@@ -226,6 +236,7 @@ fn keep_missed(keep: u32, entries: &mut Entries, key: &SeriesKey, row: &Row) -> 
 /// Keeps the rows that were not found one scrape longer, where they may be kept, and tells whether the scrape before
 /// had the series of one of them: such a row has age 0.
 pub(crate) fn keep_others(
+    alloc: Global,
     keep: u32,
     keys: &List<SeriesKey>,
     rows: &List<Row>,
@@ -242,7 +253,7 @@ pub(crate) fn keep_others(
     for at in 0..rows.len() {
         if !is_marked(found, at) {
             misses |= rows[at].age == 0;
-            keep_missed(keep, entries, &keys[at], &rows[at])?;
+            keep_missed(alloc, keep, entries, at, &keys[at], &rows[at])?;
         }
     }
     Ok(misses)

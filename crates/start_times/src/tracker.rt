@@ -102,14 +102,15 @@ impl Tracker {
     ) -> Result<(Starts, Tracker), Memory>
         ensures { IfOk result (λ r. Advances self.now page.now moment r.0 r.1) }
     {
-        let mut seen = nothing(alloc, self.rows.len())?;
+        let mut seen = nothing(alloc, &self.keys)?;
         let families = page.families().as_slice();
         see_beside(
             alloc, self.honor, moment, &self.keys, &self.rows, &mut seen, families,
         )?;
         let found = seen.found.as_slice();
-        let misses = keep_others(self.keep, &self.keys, &self.rows, found, &mut seen.entries)?;
-        behind(self.keep, self.honor, seen, misses)
+        let entries = &mut seen.entries;
+        let misses = keep_others(alloc, self.keep, &self.keys, &self.rows, found, entries)?;
+        behind(alloc, self.keep, self.honor, seen, misses)
     }
 
     /// How many rows there are.
@@ -160,7 +161,7 @@ impl Tracker {
         ensures { IfOk result (λ tracker. tracker ≡ record { keep = keep; honor = honor; rows = entries_of rows.now }) }
     {
         let entries = collected(alloc, rows.as_slice())?;
-        let (keys, rows) = entries.into_lists()?;
+        let (keys, rows) = entries.into_lists(alloc)?;
         Ok(Tracker {
             keep,
             honor,
@@ -171,10 +172,16 @@ impl Tracker {
 }
 
 /// What was seen of a page and what it misses, and the rows behind it.
-fn behind(keep: u32, honor: bool, seen: Sighting, misses: bool) -> Result<(Starts, Tracker), Memory>
-    ensures { IfOk result (λ r. (r.0.list ≡ seen.starts.items) × (r.1.keep ≡ keep) × (r.1.honor ≡ honor) × (r.1.rows ≡ seen.entries) × (r.0.misses ≡ misses)) }
+fn behind(
+    alloc: Global,
+    keep: u32,
+    honor: bool,
+    seen: Sighting,
+    misses: bool,
+) -> Result<(Starts, Tracker), Memory>
+    ensures { IfOk result (λ r. (r.0.list ≡ seen.starts.items) × (r.1.keep ≡ keep) × (r.1.honor ≡ honor) × (r.1.rows ≡ seen.entries.list) × (r.0.misses ≡ misses)) }
 {
-    let (keys, rows) = seen.entries.into_lists()?;
+    let (keys, rows) = seen.entries.into_lists(alloc)?;
     let list = List::from_vec(seen.starts)?;
     Ok((
         Starts { list, misses },

@@ -4,4 +4,4 @@ use Rattle.start_times.proofs.listing.collected.Given as goal
 
 -- the rows passed are the entries
 abbrev pub invariant-loop-kept : goal.invariant-loop-kept
-invariant-loop-kept l = l.entries ≡ entries_of (take l.kept-index l.fn.rows)
+invariant-loop-kept l = l.entries.list ≡ entries_of (take l.kept-index l.fn.rows)
