@@ -4,4 +4,6 @@ pub mod Cutting
 pub mod Tables
 pub mod LineFaults
 pub mod NoLabels
+pub mod KnownLists
+pub mod LabelSteps
 pub mod Laws

@@ -2,3 +2,4 @@ pub mod Cuts
 pub mod Marks
 pub mod LabelReading
 pub mod LineReading
+pub mod LineLabels

@@ -36,6 +36,17 @@ pub enum AfterLabel<'a> {
     Broken,
 }
 
+/// What comes next in a list.
+#[derive(Clone, Copy)]
+pub enum NextLabel<'a> {
+    /// The closing brace, and what stands behind it.
+    End(&'a [u8]),
+    /// A label, and what follows it.
+    Label(LabelParts<'a>, AfterLabel<'a>),
+    /// Neither.
+    Broken,
+}
+
 /// The label that written parts make.
 ///
 /// # Errors
@@ -73,7 +84,7 @@ pub fn after_label(bytes: &[u8]) -> AfterLabel<'_>
 ///
 /// Want of memory.
 #[inline(always)]
-pub fn own_labels(alloc: Global, labels: &mut Vec<Label>) -> Result<Vec<Label>, Memory>
+pub(crate) fn own_labels(alloc: Global, labels: &mut Vec<Label>) -> Result<Vec<Label>, Memory>
     ensures { IfOk result (λ items. items.items ≡ labels.old.items) }
 {
     let mut items = Vec::with_capacity(alloc, labels.len())?;
@@ -82,7 +93,7 @@ pub fn own_labels(alloc: Global, labels: &mut Vec<Label>) -> Result<Vec<Label>, 
 }
 
 /// The most labels of a list.
-fn label_limit(treatment: Treatment) -> u32
+pub(crate) fn label_limit(treatment: Treatment) -> u32
     ensures { result ≡ label_limit treatment }
 {
     match treatment {

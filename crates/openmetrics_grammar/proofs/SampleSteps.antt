@@ -205,17 +205,17 @@ module _ (t : Treatment) (w : WrittenSample) where
       → says_fault OpenMetrics t (Some (sample w)) ≡ (if a then Some rules.Range else (if not b || c then Some rules.Labels else None))
   fault_of a b c e f g = rw (e, f, g) refl
 
-  module _ (s : SampleRead) (i : IsSampleOf w s) where
+  module _ (labels : List Label) (s : SampleRead) (i : IsSampleOf w labels s) where
     module _ (e : s.in_range ≡ true) where
       ranged : has_out_of_range OpenMetrics (sample w) ≡ false
       ranged = not_both s.in_range (has_out_of_range OpenMetrics (sample w)) i.in_range ∙ ap not e
 
-      module _ (set : LabelSet) (h : Some set ≡ when_true (is_label_list t s.labels.items) (label_set s.labels.items)) where
-        good_set : (is_label_list t s.labels.items ≡ true) × (set ≡ label_set s.labels.items)
-        good_set = a_set (is_label_list t s.labels.items) set (label_set s.labels.items) h
+      module _ (set : LabelSet) (h : Some set ≡ when_true (is_label_list t labels) (label_set labels)) where
+        good_set : (is_label_list t labels ≡ true) × (set ≡ label_set labels)
+        good_set = a_set (is_label_list t labels) set (label_set labels) h
 
         listed : is_label_list t w.labels ≡ true
-        listed = ap (is_label_list t) (sym i.labels) ∙ good_set.0
+        listed = ap (is_label_list t) (sym i.labels_are) ∙ good_set.0
 
         pub said-exemplar : None ≡ exemplar_made t w.exemplar → says_fault OpenMetrics t (Some (sample w)) ≡ Some rules.Labels
         said-exemplar g = fault_of false true true ranged listed (no_made (has_bad_exemplar_labels t w.exemplar) (option_map (exemplar_of OpenMetrics) w.exemplar) g)
@@ -225,7 +225,7 @@ module _ (t : Treatment) (w : WrittenSample) where
         said-sample exemplar g name n =
             let made = a_made (has_bad_exemplar_labels t w.exemplar) exemplar (option_map (exemplar_of OpenMetrics) w.exemplar) g in (
               fault_of false true false ranged listed made.0,
-              ap (λ (x : Sample). Some (items.Sample x)) (sym (same_sample name set exemplar n (good_set.1 ∙ ap label_set i.labels) made.1)),
+              ap (λ (x : Sample). Some (items.Sample x)) (sym (same_sample name set exemplar n (good_set.1 ∙ ap label_set i.labels_are) made.1)),
             )
           where
             same_sample : (nm : List ℕ) (st : LabelSet) (ex : Option Exemplar) → nm ≡ s.name.now → st ≡ label_set w.labels → ex ≡ option_map (exemplar_of OpenMetrics) w.exemplar

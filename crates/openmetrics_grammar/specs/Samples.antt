@@ -2,6 +2,7 @@
 -- OpenMetrics 1.0, "ABNF" (sample, exemplar).
 use Rattle.std.specs.Prelude.{◌≡◌, ℕ, Bool, true, not, List, [], Option, Some, None, option_map, IsUtf8, if◌then◌else◌}
 use Rattle.std.specs.Str.{bytes_eq}
+use Rattle.label_sets.specs.declared.label.Label.{Label}
 use Rattle.label_sets.specs.Lists.{◌>>=◌, when_true, some_passes}
 use Rattle.exact_decimal.specs.Numbers.{number}
 use Rattle.page_model.specs.declared.format.Format.TheVariants.{OpenMetrics}
@@ -42,20 +43,20 @@ pub record IsMaybeExemplarIn (found : Option (Option WrittenExemplar)) (e : Opti
   pub found_is : found ≡ Some written
   pub read : IsMaybeExemplarOf written e
 
--- what is read of a sample
-pub record IsSampleOf (w : WrittenSample) (s : SampleRead) : Type 0 where
+-- what is read of a sample, and its labels that were read
+pub record IsSampleOf (w : WrittenSample) (labels : List Label) (s : SampleRead) : Type 0 where
   pub name : s.name.now ≡ w.name
-  pub labels : s.labels.items ≡ w.labels
+  pub labels_are : labels ≡ w.labels
   pub value : s.value ≡ number w.value
   pub stamp : s.stamp ≡ option_map number w.stamp
   pub exemplar : IsMaybeExemplarOf w.exemplar s.exemplar
   pub in_range : s.in_range ≡ not (has_out_of_range OpenMetrics (sample w))
 
 -- this was read of the sample that was found
-pub record IsSampleIn (found : Option Written) (s : SampleRead) : Type 0 where
+pub record IsSampleIn (found : Option Written) (labels : List Label) (s : SampleRead) : Type 0 where
   pub written : WrittenSample
   pub found_is : found ≡ Some (sample written)
-  pub read : IsSampleOf written s
+  pub read : IsSampleOf written labels s
   pub utf8_name : IsUtf8 s.name.now
 
 -- no number of the exemplar is out of range, where there is one

@@ -3,8 +3,8 @@ ghost use Rattle.page_model.specs.declared.format.Format.TheVariants.{OpenMetric
 
 use crate::descriptors::descriptor_line;
 use crate::sample::{made_sample, sample_of};
-use label_sets::{Label, Memory};
-use line_scan::{LineRead, behind};
+use label_sets::Memory;
+use line_scan::{LineRead, LineRoom, behind};
 use page_feeding::Grammar;
 use page_model::{Format, Rule, Treatment};
 use std::alloc::Global;
@@ -23,15 +23,15 @@ impl Grammar for OpenLines {
         alloc: Global,
         treatment: Treatment,
         line: &[u8],
-        labels: &mut Vec<Label>,
+        room: &mut LineRoom,
     ) -> Result<LineRead, Memory> {
         if line.is_empty() {
             return Ok(LineRead::Refused(Rule::Syntax));
         }
         match behind(b'#', line) {
             Some(_) => descriptor_line(alloc, line),
-            None => match sample_of(alloc, line, labels)? {
-                Some(read) => made_sample(alloc, treatment, read),
+            None => match sample_of(alloc, line, room)? {
+                Some(read) => made_sample(alloc, treatment, read, room),
                 None => Ok(LineRead::Refused(Rule::Syntax)),
             },
         }

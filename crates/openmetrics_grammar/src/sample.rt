@@ -3,6 +3,7 @@ ghost use Rattle.std.specs.Prelude.{◌≡◌, ◌&&◌, IfOk, IsUtf8, MatchOpti
 ghost use Rattle.page_model.specs.declared.format.Format.TheVariants.{OpenMetrics};
 ghost use Rattle.page_model.specs.OpenReading.{sample_of};
 ghost use Rattle.page_model.specs.Written.{WrittenExemplar, WrittenSample, sample};
+ghost use Rattle.line_scan.specs.LineLabels.{line_labels};
 ghost use Rattle.line_scan.specs.LineReading.{Reads};
 ghost use Rattle.openmetrics_grammar.specs.Samples.{IsSampleOf, IsSampleIn, IsMaybeExemplarOf, maybe_in_range, exemplar_made};
 
@@ -10,16 +11,15 @@ use crate::exemplar::{ExemplarRead, exemplar_of};
 use crate::labels::optional_list_at;
 use crate::numbers::{StampAt, ValueAt, are_in_range, stamp_at, value_at};
 use exact_decimal::Number;
-use label_sets::{Label, Memory, Name};
-use line_scan::{LineRead, MetricChar, cut_name, own_labels, set_of};
+use label_sets::{Memory, Name};
+use line_scan::{LineRead, LineRoom, MetricChar, cut_name, set_of};
 use page_model::{Exemplar, Item, Rule, Sample, Treatment};
 use std::alloc::Global;
 
-/// A sample as it is written, its numbers read.
+/// A sample as it is written, its numbers read. Its labels stand in the room of the line.
 #[derive(Drop)]
 pub(crate) struct SampleRead<'a> {
     name: &'a [u8],
-    labels: Vec<Label>,
     value: Number,
     stamp: Option<Number>,
     exemplar: Option<ExemplarRead>,
@@ -37,21 +37,19 @@ fn line_in_range(value: &ValueAt<'_>, stamp: &StampAt<'_>, exemplar: &Option<Exe
     }
 }
 
-/// The parts of a sample line.
+/// The parts of a sample line, whose labels are read into the room.
 pub(crate) fn sample_of<'a>(
     alloc: Global,
     bytes: &'a [u8],
-    labels: &mut Vec<Label>,
+    room: &mut LineRoom,
 ) -> Result<Option<SampleRead<'a>>, Memory>
     requires { IsUtf8 bytes.now }
-    ensures { IfOk result (λ read. MatchOption read (sample_of bytes.now ≡ None) (IsSampleIn (sample_of bytes.now))) }
+    ensures { IfOk result (λ read. MatchOption read (sample_of bytes.now ≡ None) (IsSampleIn (sample_of bytes.now) (line_labels room.new))) }
 {
     let Some(name) = cut_name::<MetricChar>(bytes) else {
         return Ok(None);
     };
-    // A line that was refused may have left some.
-    labels.clear();
-    let Some(rest) = optional_list_at(alloc, name.rest, labels)? else {
+    let Some(rest) = optional_list_at(alloc, name.rest, room)? else {
         return Ok(None);
     };
     let Some(value) = value_at(rest) else {
@@ -63,11 +61,9 @@ pub(crate) fn sample_of<'a>(
     let Some(exemplar) = exemplar_of(alloc, stamp.rest)? else {
         return Ok(None);
     };
-    let labels = own_labels(alloc, labels)?;
     let in_range = line_in_range(&value, &stamp, &exemplar);
     Ok(Some(SampleRead {
         name: name.front,
-        labels,
         value: value.value,
         stamp: stamp.stamp,
         exemplar,
@@ -96,20 +92,21 @@ fn made_exemplar(
     })))
 }
 
-/// The item of a sample. It is refused where a number is out of range, else where the labels or those of the
-/// exemplar break a rule.
+/// The item of a sample, whose labels were read into the room. It is refused where a number is out of range, else
+/// where the labels or those of the exemplar break a rule.
 pub(crate) fn made_sample(
     alloc: Global,
     treatment: Treatment,
     read: SampleRead<'_>,
+    room: &mut LineRoom,
 ) -> Result<LineRead, Memory>
     requires { IsUtf8 read.name.now }
-    ensures { (written : WrittenSample) → IsSampleOf written read.entry → IfOk result (Reads OpenMetrics treatment (Some (sample written))) }
+    ensures { (written : WrittenSample) → IsSampleOf written (line_labels room.old) read.entry → IfOk result (Reads OpenMetrics treatment (Some (sample written))) }
 {
     if !read.in_range {
         return Ok(LineRead::Refused(Rule::Range));
     }
-    let Some(labels) = set_of(alloc, treatment, read.labels)? else {
+    let Some(labels) = room.take_set(alloc, treatment)? else {
         return Ok(LineRead::Refused(Rule::Labels));
     };
     let Some(exemplar) = made_exemplar(alloc, treatment, read.exemplar)? else {

@@ -6,8 +6,8 @@ ghost use Rattle.page_model.specs.PageReading.{written_of};
 ghost use Rattle.page_model.specs.Written.{line_limit};
 ghost use Rattle.line_scan.specs.LineReading.{Reads, IsRead};
 
-use label_sets::{Label, Memory};
-use line_scan::LineRead;
+use label_sets::Memory;
+use line_scan::{LineRead, LineRoom};
 use page_model::{Format, Rule, Treatment};
 use std::alloc::Global;
 
@@ -20,12 +20,12 @@ pub trait Grammar {
         ensures { result ≡ format };
 
     /// The item of a line of UTF-8 without its line feed, or the least rule that the line breaks by what it says.
-    /// `labels` lends the room in which the labels are gathered; what it holds is lost.
+    /// `room` lends the room in which the labels are gathered; the labels that it holds are lost.
     fn read_text(
         alloc: Global,
         treatment: Treatment,
         line: &[u8],
-        labels: &mut Vec<Label>,
+        room: &mut LineRoom,
     ) -> Result<LineRead, Memory>
         requires { IsUtf8 line.now }
         ensures { IfOk result (Reads format treatment (written_of format line.now)) };
@@ -36,13 +36,13 @@ pub(crate) fn read_line<G: Grammar>(
     alloc: Global,
     treatment: Treatment,
     line: &[u8],
-    labels: &mut Vec<Label>,
+    room: &mut LineRoom,
 ) -> Result<LineRead, Memory>
     requires { length line.now ≤ line_limit treatment }
     ensures { IfOk result (IsRead G.format treatment line.now) }
 {
     match std::str::from_utf8(line) {
-        Ok(_) => G::read_text(alloc, treatment, line, labels),
+        Ok(_) => G::read_text(alloc, treatment, line, room),
         Err(_) => Ok(LineRead::Refused(Rule::Utf8)),
     }
 }

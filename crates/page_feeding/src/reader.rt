@@ -11,8 +11,8 @@ ghost use Rattle.page_lines.specs.declared.Step.TheVariants.{Line, More, TooLong
 
 use crate::grammar::{Grammar, read_line};
 use family_rules::Checker;
-use label_sets::{Label, Memory};
-use line_scan::LineRead;
+use label_sets::Memory;
+use line_scan::{KnownSets, LineRead, LineRoom};
 use page_lines::{Last, Lines, Step};
 use page_model::{Page, PageCounts, PageFault, Rule, Treatment};
 use std::alloc::Global;
@@ -37,8 +37,7 @@ pub struct PageReader<G: Grammar> {
     treatment: Treatment,
     lines: Lines,
     checker: Checker,
-    /// The room in which the labels of a line are gathered.
-    labels: Vec<Label>,
+    room: LineRoom,
     /// The first refusal, or want of memory.
     stopped: Option<PageFault>,
     grammar: PhantomData<G>,
@@ -91,7 +90,28 @@ impl<G: Grammar> PageReader<G> {
     {
         let lines = Lines::new(alloc, line_limit(treatment))?;
         let checker = Checker::new(alloc, G::format(), treatment, limit)?;
-        Ok(PageReader::over(alloc, treatment, lines, checker))
+        let known = KnownSets::none(alloc);
+        Ok(PageReader::over(alloc, treatment, lines, checker, known))
+    }
+
+    /// A reader that was fed nothing, for a page that mostly has the series of the page before it, in the same order. A
+    /// sample that spells a label set of that page shares it, so less memory is taken; the answers are those of any reader.
+    ///
+    /// # Errors
+    ///
+    /// Want of memory.
+    pub fn beside(
+        alloc: Global,
+        treatment: Treatment,
+        limit: u32,
+        before: &Page,
+    ) -> Result<PageReader<G>, Memory>
+        ensures { IfOk result (Stands G.format treatment limit []) }
+    {
+        let known = KnownSets::of(before)?;
+        let mut reader = PageReader::new(alloc, treatment, limit)?;
+        reader.room.known = known;
+        Ok(reader)
     }
 
     /// A reader that was fed nothing, for a page that will be counted: it takes less memory, and `finish` more time.
@@ -108,11 +128,18 @@ impl<G: Grammar> PageReader<G> {
     {
         let lines = Lines::new(alloc, line_limit(treatment))?;
         let checker = Checker::counting(alloc, G::format(), treatment, limit)?;
-        Ok(PageReader::over(alloc, treatment, lines, checker))
+        let known = KnownSets::none(alloc);
+        Ok(PageReader::over(alloc, treatment, lines, checker, known))
     }
 
     /// A reader that was fed nothing, over lines that were fed nothing and a checker that has taken no line.
-    fn over(alloc: Global, treatment: Treatment, lines: Lines, checker: Checker) -> PageReader<G>
+    fn over(
+        alloc: Global,
+        treatment: Treatment,
+        lines: Lines,
+        checker: Checker,
+        known: KnownSets,
+    ) -> PageReader<G>
         requires most { lines.most ≡ line_limit treatment }
         requires fed { lines.fed ≡ 0 }
         requires stands { feeding.Stands [] lines }
@@ -124,7 +151,7 @@ impl<G: Grammar> PageReader<G> {
             treatment,
             lines,
             checker,
-            labels: Vec::new(alloc),
+            room: LineRoom::new(alloc, known),
             stopped: None,
             grammar: PhantomData,
         }
@@ -155,7 +182,7 @@ impl<G: Grammar> PageReader<G> {
             self.alloc,
             self.treatment,
             self.lines.line(),
-            &mut self.labels,
+            &mut self.room,
         ) {
             Ok(LineRead::Item(item)) => self.checker.item(line, item),
             Ok(LineRead::Refused(rule)) => Err(PageFault::Refused { line, rule }),

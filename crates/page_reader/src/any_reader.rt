@@ -62,6 +62,33 @@ impl AnyReader {
         }
     }
 
+    /// A reader that was fed nothing, for a page that mostly has the series of the page before it, in the same order. A
+    /// sample that spells a label set of that page shares it, so less memory is taken; the answers are those of any reader.
+    ///
+    /// # Errors
+    ///
+    /// Want of memory.
+    pub fn beside(
+        alloc: Global,
+        format: Format,
+        treatment: Treatment,
+        limit: u32,
+        before: &Page,
+    ) -> Result<AnyReader, Memory>
+        ensures { IfOk result (StandsIn format treatment limit []) }
+    {
+        match format {
+            Format::Text => {
+                let sharing = TextPage::beside(alloc, treatment, limit, before)?;
+                Ok(AnyReader::Text(sharing))
+            }
+            Format::OpenMetrics => {
+                let sharing = OpenPage::beside(alloc, treatment, limit, before)?;
+                Ok(AnyReader::OpenMetrics(sharing))
+            }
+        }
+    }
+
     /// A reader that was fed nothing, for a page that will be counted: it takes less memory, and `finish` more time.
     ///
     /// # Errors

@@ -1,4 +1,5 @@
 //! The tests, and what they share.
+mod beside_calls;
 mod family_rules_calls;
 mod open_writing_calls;
 mod openmetrics_grammar_calls;

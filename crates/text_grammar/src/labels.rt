@@ -1,17 +1,17 @@
 //! The labels of a sample (Prometheus text format 0.0.4, "Line format").
-ghost use Rattle.std.specs.Prelude.{◌≡◌, [], length, option_map, IfOk, IfSome, IsUtf8, MatchOption, None};
+ghost use Rattle.std.specs.Prelude.{◌≡◌, length, option_map, IfOk, IfSome, IsUtf8, MatchOption, None};
 ghost use Rattle.std.specs.Option.{option_copied};
 ghost use Rattle.page_model.specs.TextReading.{begins_blank, label_at, labels_at, middle_at};
 ghost use Rattle.page_model.specs.TextItems.{without_leading_blanks};
 ghost use Rattle.label_sets.specs.Lists.{when_true};
 ghost use Rattle.line_scan.specs.LabelReading.{IsLabelFound};
+ghost use Rattle.line_scan.specs.LineLabels.{line_labels};
 ghost use Rattle.text_grammar.specs.LabelReading.{opened_at, then_blanks};
 
 use crate::blanks::{begins_blank, without_leading_blanks};
-use label_sets::{Label, Memory};
+use label_sets::Memory;
 use line_scan::{
-    AfterLabel, LabelChar, LabelList, LabelParts, after_label, behind, cut_name, label_of,
-    labels_at, quoted_at,
+    LabelChar, LabelList, LabelParts, LineRoom, NextLabel, after_label, behind, cut_name, quoted_at,
 };
 use std::alloc::Global;
 
@@ -38,6 +38,7 @@ fn opened_at(bytes: &[u8]) -> Option<&[u8]>
 }
 
 /// The label at the front.
+#[inline(always)]
 fn label_at(bytes: &[u8]) -> Option<LabelParts<'_>>
     ensures { MatchOption result (label_at bytes.now ≡ None) (IsLabelFound (label_at bytes.now) bytes.now) }
 {
@@ -67,21 +68,16 @@ impl LabelList for BlankedList {
 
     ghost labels_at = { labels_at };
 
-    fn next_label<'a>(
-        alloc: Global,
-        bytes: &'a [u8],
-        labels: &mut Vec<Label>,
-    ) -> Result<AfterLabel<'a>, Memory> {
+    #[inline(always)]
+    fn next_label(bytes: &[u8]) -> NextLabel<'_> {
         let bytes = without_leading_blanks(bytes);
         if let Some(after) = behind(b'}', bytes) {
-            return Ok(AfterLabel::End(after));
+            return NextLabel::End(after);
         }
-        let Some(parts) = label_at(bytes) else {
-            return Ok(AfterLabel::Broken);
-        };
-        let label = label_of(alloc, parts)?;
-        labels.push(label)?;
-        Ok(after_label(parts.rest))
+        match label_at(bytes) {
+            Some(parts) => NextLabel::Label(parts, after_label(parts.rest)),
+            None => NextLabel::Broken,
+        }
     }
 
     ghost nothing = { text-no_labels };
@@ -89,7 +85,8 @@ impl LabelList for BlankedList {
 
 /// What stands behind blanks, of which there is one at least.
 fn behind_blanks(bytes: &[u8]) -> Option<&[u8]>
-    ensures { option_copied result ≡ when_true (begins_blank bytes.now) (without_leading_blanks bytes.now) }
+    ensures value { option_copied result ≡ when_true (begins_blank bytes.now) (without_leading_blanks bytes.now) }
+    ensures utf8 { IsUtf8 bytes.now → IfSome result (λ rest. IsUtf8 rest.now) }
 {
     if !begins_blank(bytes) {
         return None;
@@ -97,35 +94,39 @@ fn behind_blanks(bytes: &[u8]) -> Option<&[u8]>
     Some(without_leading_blanks(bytes))
 }
 
-/// Adds the labels behind an opening brace, and answers what stands behind them and blanks.
+/// Reads the labels behind an opening brace, and answers what stands behind them and blanks.
 fn braced_labels<'a>(
     alloc: Global,
     inner: &'a [u8],
-    labels: &mut Vec<Label>,
+    room: &mut LineRoom,
 ) -> Result<Option<&'a [u8]>, Memory>
-    requires text { IsUtf8 inner.now }
-    requires none { labels.old.items ≡ [] }
-    ensures { IfOk result (λ rest. option_map (λ cs. (labels.new.items, cs)) (option_copied rest)
+    requires { IsUtf8 inner.now }
+    ensures { IfOk result (λ rest. option_map (λ cs. (line_labels room.new, cs)) (option_copied rest)
         ≡ then_blanks (labels_at (length inner.now) inner.now)) }
 {
-    let Some(rest) = labels_at::<BlankedList>(alloc, inner.len(), inner, labels)? else {
+    let first = BlankedList::next_label(inner);
+    // Each label takes a byte at least, and so does the first.
+    let most = inner.len().saturating_sub(1);
+    let Some(rest) = room.read_labels::<BlankedList>(alloc, most, first)? else {
         return Ok(None);
     };
     Ok(Some(without_leading_blanks(rest)))
 }
 
-/// Adds the labels between a name and a value, and answers what stands behind them.
+/// Reads the labels between a name and a value, and answers what stands behind them.
 pub(crate) fn middle_at<'a>(
     alloc: Global,
     bytes: &'a [u8],
-    labels: &mut Vec<Label>,
+    room: &mut LineRoom,
 ) -> Result<Option<&'a [u8]>, Memory>
-    requires text { IsUtf8 bytes.now }
-    requires none { labels.old.items ≡ [] }
-    ensures { IfOk result (λ rest. option_map (λ cs. (labels.new.items, cs)) (option_copied rest) ≡ middle_at bytes.now) }
+    requires { IsUtf8 bytes.now }
+    ensures { IfOk result (λ rest. option_map (λ cs. (line_labels room.new, cs)) (option_copied rest) ≡ middle_at bytes.now) }
 {
-    match behind(b'{', without_leading_blanks(bytes)) {
-        Some(inner) => braced_labels(alloc, inner, labels),
-        None => Ok(behind_blanks(bytes)),
+    if let Some(inner) = behind(b'{', without_leading_blanks(bytes)) {
+        return braced_labels(alloc, inner, room);
+    }
+    match behind_blanks(bytes) {
+        Some(rest) => room.read_labels::<BlankedList>(alloc, 0, NextLabel::End(rest)),
+        None => Ok(None),
     }
 }

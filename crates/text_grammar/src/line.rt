@@ -6,6 +6,7 @@ ghost use Rattle.page_model.specs.TextItems.{is_integer_token};
 ghost use Rattle.page_model.specs.TextReading.{kind_named, marked_of, named_at, sample_of};
 ghost use Rattle.page_model.specs.declared.format.Format.TheVariants.{Text};
 ghost use Rattle.page_model.specs.declared.format.Treatment.{Treatment as AnyTreatment};
+ghost use Rattle.line_scan.specs.LineLabels.{line_labels};
 ghost use Rattle.line_scan.specs.LineReading.{Reads};
 ghost use Rattle.text_grammar.specs.LineReading.{IsNamedAt, Makes, help_of, type_of, valued_sample};
 
@@ -13,10 +14,10 @@ use crate::blanks::{NotBlank, at_blank, trimmed, without_leading_blanks};
 use crate::labels::middle_at;
 use crate::stamp::{optional_number, stamp_of};
 use exact_decimal::{Number, NumberFault};
-use label_sets::{Kind, Label, Memory, Name};
+use label_sets::{Kind, Memory, Name};
 use line_scan::{
-    Cut, Escapes, LineRead, MetricChar, behind, cut_chars, cut_name, has_backslash, is_word,
-    own_labels, set_of, unescaped_text,
+    Cut, Escapes, LineRead, LineRoom, MetricChar, behind, cut_chars, cut_name, has_backslash,
+    is_word, unescaped_text,
 };
 use page_feeding::Grammar;
 use page_model::{Format, Item, Rule, Sample, Treatment};
@@ -103,21 +104,21 @@ fn marked_line(alloc: Global, bytes: &[u8]) -> Result<LineRead, Memory>
     Ok(LineRead::Item(Item::Comment))
 }
 
-/// The sample of a name, labels and numbers. The labels are refused where two have one name or there are
-/// too many.
+/// The sample of a name, the labels that were read, and numbers. The labels are refused where two have one name or
+/// there are too many.
 #[inline(always)]
 fn made_sample(
     alloc: Global,
     treatment: Treatment,
     name: &[u8],
-    labels: Vec<Label>,
+    room: &mut LineRoom,
     value: Number,
     stamp: Option<Number>,
 ) -> Result<LineRead, Memory>
     requires { IsUtf8 name.now }
-    ensures { IfOk result (Makes treatment name.now labels.items value stamp) }
+    ensures { IfOk result (Makes treatment name.now (line_labels room.old) value stamp) }
 {
-    let Some(labels) = set_of(alloc, treatment, labels)? else {
+    let Some(labels) = room.take_set(alloc, treatment)? else {
         return Ok(LineRead::Refused(Rule::Labels));
     };
     let name = Name::from_utf8(alloc, name)?;
@@ -130,20 +131,20 @@ fn made_sample(
     })))
 }
 
-/// The sample of a name, labels and two tokens: first it is refused where the value is no number, then
-/// where one of them is out of range, then by its labels.
+/// The sample of a name, the labels that were read, and two tokens: first it is refused where the value is no
+/// number, then where one of them is out of range, then by its labels.
 #[inline(always)]
 fn read_sample(
     alloc: Global,
     treatment: Treatment,
     name: &[u8],
-    labels: Vec<Label>,
+    room: &mut LineRoom,
     value: &[u8],
     stamp: Option<&[u8]>,
 ) -> Result<LineRead, Memory>
     requires name { IsUtf8 name.now }
     requires stamp { IfSome stamp (λ token. is_integer_token token.now ≡ true) }
-    ensures { IfOk result (Reads Text treatment (valued_sample name.now labels.items value.now (option_copied stamp.entry))) }
+    ensures { IfOk result (Reads Text treatment (valued_sample name.now (line_labels room.old) value.now (option_copied stamp.entry))) }
 {
     let value = match exact_decimal::read(value) {
         Ok(value) => value,
@@ -153,7 +154,7 @@ fn read_sample(
     let Some(stamp) = optional_number(stamp) else {
         return Ok(LineRead::Refused(Rule::Range));
     };
-    made_sample(alloc, treatment, name, labels, value, stamp)
+    made_sample(alloc, treatment, name, room, value, stamp)
 }
 
 /// A sample line.
@@ -161,7 +162,7 @@ fn sample_line(
     alloc: Global,
     treatment: Treatment,
     bytes: &[u8],
-    labels: &mut Vec<Label>,
+    room: &mut LineRoom,
 ) -> Result<LineRead, Memory>
     requires { IsUtf8 bytes.now }
     ensures { IfOk result (Reads Text treatment (sample_of bytes.now)) }
@@ -169,17 +170,14 @@ fn sample_line(
     let Some(name) = cut_name::<MetricChar>(bytes) else {
         return Ok(LineRead::Refused(Rule::Syntax));
     };
-    // A line that was refused may have left some.
-    labels.clear();
-    let Some(rest) = middle_at(alloc, name.rest, labels)? else {
+    let Some(rest) = middle_at(alloc, name.rest, room)? else {
         return Ok(LineRead::Refused(Rule::Syntax));
     };
     let value = cut_chars::<NotBlank>(rest);
     let Some(stamp) = stamp_of(value.rest) else {
         return Ok(LineRead::Refused(Rule::Syntax));
     };
-    let labels = own_labels(alloc, labels)?;
-    read_sample(alloc, treatment, name.front, labels, value.front, stamp)
+    read_sample(alloc, treatment, name.front, room, value.front, stamp)
 }
 
 /// The lines of the text format.
@@ -196,7 +194,7 @@ impl Grammar for TextLines {
         alloc: Global,
         treatment: Treatment,
         line: &[u8],
-        labels: &mut Vec<Label>,
+        room: &mut LineRoom,
     ) -> Result<LineRead, Memory> {
         let bare = trimmed(line);
         if bare.is_empty() {
@@ -204,7 +202,7 @@ impl Grammar for TextLines {
         }
         match behind(b'#', bare) {
             Some(rest) => marked_line(alloc, rest),
-            None => sample_line(alloc, treatment, bare, labels),
+            None => sample_line(alloc, treatment, bare, room),
         }
     }
 }

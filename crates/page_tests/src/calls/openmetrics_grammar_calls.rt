@@ -1,17 +1,17 @@
 //! Lines with what the standard and the bridge's rules say of them.
 
 use exact_decimal::Number;
-use label_sets::{Kind, Label, LabelSet, Memory};
-use line_scan::LineRead;
+use label_sets::{Kind, LabelSet, Memory};
+use line_scan::{KnownSets, LineRead, LineRoom};
 use openmetrics_grammar::OpenLines;
 use page_feeding::Grammar;
 use page_model::{Item, Rule, Sample, Treatment};
 use std::alloc::Global;
 
 fn read(alloc: Global, line: &[u8]) -> Result<LineRead, Memory> {
-    let mut labels: Vec<Label> = Vec::new(alloc);
+    let mut room = LineRoom::new(alloc, KnownSets::none(alloc));
     match std::str::from_utf8(line) {
-        Ok(_) => OpenLines::read_text(alloc, Treatment::Scraped, line, &mut labels),
+        Ok(_) => OpenLines::read_text(alloc, Treatment::Scraped, line, &mut room),
         Err(_) => Ok(LineRead::Refused(Rule::Utf8)),
     }
 }

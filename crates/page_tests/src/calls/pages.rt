@@ -22,7 +22,20 @@ pub(crate) fn page_of(
     reader.finish()
 }
 
-/// How many families and samples that page has.
+/// The page of a text that is read beside another page, or its first fault.
+pub(crate) fn page_beside(
+    alloc: Global,
+    format: Format,
+    limit: u32,
+    text: &[u8],
+    before: &Page,
+) -> Result<Page, PageFault> {
+    let mut reader = AnyReader::beside(alloc, format, Treatment::Scraped, limit, before)?;
+    feed(&mut reader, text);
+    reader.finish()
+}
+
+/// How many families and samples the page of a text has.
 pub(crate) fn counts_of(
     alloc: Global,
     format: Format,
