@@ -8,4 +8,4 @@ mod talk;
 mod turn;
 
 pub use bridge_ports::Target;
-pub use one_scrape::{outcome, scrape};
+pub use one_scrape::{outcome, scrape, scrape_beside};

@@ -12,7 +12,7 @@ use crate::talk::exchange;
 use bridge_ports::{End, Target, Wire};
 use http_talk::{Progress, get_text};
 use label_sets::Memory;
-use page_model::{Cause, Event, Outcome};
+use page_model::{Cause, Event, Outcome, Page};
 use std::alloc::{AllocError, Global};
 
 /// Makes one talk over the wire, that begins once the clock reads `due` at least, in nanoseconds since the
@@ -46,13 +46,56 @@ pub fn scrape<W: Wire>(
     ensures { ScrapeAnswer limit max_page target.now.address
         (W.state wire.old) (W.state wire.new) result }
 {
+    scrape_with(alloc, wire, target, due, limit, max_page, None)
+}
+
+/// As [`scrape`], beside the page that was scraped before: what the two have in common may be kept once, and the event
+/// is the same.
+///
+/// # Errors
+///
+/// Want of memory alone, as there.
+pub fn scrape_beside<W: Wire>(
+    alloc: Global,
+    wire: &mut W,
+    target: &Target,
+    due: u64,
+    limit: u32,
+    max_page: u32,
+    before: &Page,
+) -> Result<Event, Memory>
+    requires free { (W.state wire.old).stage ≡ stages.Idle }
+    requires samples { IsSampleLimit limit }
+    requires page { IsBodyLimit max_page }
+    ensures { ScrapeAnswer limit max_page target.now.address
+        (W.state wire.old) (W.state wire.new) result }
+{
+    scrape_with(alloc, wire, target, due, limit, max_page, Some(before))
+}
+
+/// One scrape, beside the page before where there is one.
+fn scrape_with<W: Wire>(
+    alloc: Global,
+    wire: &mut W,
+    target: &Target,
+    due: u64,
+    limit: u32,
+    max_page: u32,
+    before: Option<&Page>,
+) -> Result<Event, Memory>
+    requires free { (W.state wire.old).stage ≡ stages.Idle }
+    requires samples { IsSampleLimit limit }
+    requires page { IsBodyLimit max_page }
+    ensures { ScrapeAnswer limit max_page target.now.address
+        (W.state wire.old) (W.state wire.new) result }
+{
     let Ok(text) = get_text(alloc, target.address()) else {
         return Err(AllocError);
     };
     let Ok(()) = wire.ready(alloc, 1, text.len() as u64) else {
         return Err(AllocError);
     };
-    let Ok(reply) = PageReply::new(alloc, limit, max_page) else {
+    let Ok(reply) = PageReply::new(alloc, limit, max_page, before) else {
         return Err(AllocError);
     };
     let reading = wire.begin(due);
@@ -81,15 +124,17 @@ pub fn outcome(
     ensures { IfOk result (λ outcome. (at : ℕ) (sent : List ℕ) → HasOutcome limit max_page
         (record { at = at; sent = sent; got = got.now; end = end }) outcome) }
 {
-    let reply = PageReply::new(alloc, limit, max_page)?;
-    outcome_at(reply, got, end)
+    match PageReply::new(alloc, limit, max_page, None) {
+        Ok(reply) => outcome_at(reply, got, end),
+        Err(AllocError) => Err(AllocError),
+    }
 }
 
 /// What a reply of which nothing came comes to, once it is fed these bytes and the talk ends so.
-fn outcome_at(reply: PageReply, got: &[u8], end: End) -> Result<Outcome, Memory>
+fn outcome_at(reply: PageReply<'_>, got: &[u8], end: End) -> Result<Outcome, Memory>
     requires fresh { ReadsPage reply.limit [] reply }
     requires ended { end ≢ ends.Left }
-    ensures { IfOk result (IsOutcomeAt reply.limit (most_of reply) got.now end) }
+    ensures { IfOk result (IsOutcomeAt reply.entry.limit (most_of reply.entry) got.now end) }
 {
     let mut reply = reply;
     match reply.feed_all(got) {

@@ -10,16 +10,18 @@ use crate::page_so_far::PageSoFar;
 use crate::turn::Turn;
 use http_talk::{Flow, Progress, ReplyFault, Stream};
 use label_sets::Memory;
-use page_model::{Cause, Outcome};
+use page_model::{Cause, Outcome, Page};
 use std::alloc::{AllocError, Global};
 use std::mem;
 
 /// The reply of a scrape, whose page is read as it comes: of what it was fed it keeps the front of a head, and what
 /// the reader of the page keeps, the readings and one line.
-pub(crate) struct PageReply {
+pub(crate) struct PageReply<'a> {
     pub(crate) alloc: Global,
     /// The most samples of the page.
     pub(crate) limit: u32,
+    /// The page that was scraped before, whose label sets this one may share.
+    pub(crate) before: Option<&'a Page>,
     pub(crate) stream: Stream,
     pub(crate) page: PageSoFar,
 }
@@ -44,9 +46,14 @@ fn fault_outcome(fault: ReplyFault) -> Result<Outcome, Memory>
     }
 }
 
-impl PageReply {
+impl<'a> PageReply<'a> {
     /// A reply of which nothing came, of a body of at most `max_page` bytes.
-    pub(crate) fn new(alloc: Global, limit: u32, max_page: u32) -> Result<PageReply, Memory>
+    pub(crate) fn new(
+        alloc: Global,
+        limit: u32,
+        max_page: u32,
+        before: Option<&'a Page>,
+    ) -> Result<PageReply<'a>, Memory>
         requires { IsBodyLimit max_page }
         ensures { IfOk result (λ reply. (most_of reply ≡ max_page) × ReadsPage limit [] reply) }
     {
@@ -54,6 +61,7 @@ impl PageReply {
         Ok(PageReply {
             alloc,
             limit,
+            before,
             stream,
             page: PageSoFar::Unbegun,
         })
@@ -71,7 +79,7 @@ impl PageReply {
         match self.stream.feed(piece, &mut taken) {
             Ok(Flow::More) => Ok(Turn::Over(Progress::More)),
             Ok(Flow::Page(format)) => {
-                let page = PageSoFar::begin(self.alloc, format, self.limit);
+                let page = PageSoFar::begin(self.alloc, format, self.limit, self.before);
                 mem::replace(&mut self.page, page).leave();
                 Ok(Turn::On { taken })
             }
@@ -123,13 +131,14 @@ impl PageReply {
     /// What the reply comes to, of which no more bytes come.
     pub(crate) fn finish(self) -> Result<Outcome, Memory>
         requires { HasRead self }
-        ensures outcome { (limit : ℕ) (fed : List ℕ) → ReadsPage limit fed self → (known : Judged) → IsJudged (most_of self) fed known
+        ensures outcome { (limit : ℕ) (fed : List ℕ) → ReadsPage limit fed self.entry → (known : Judged) → IsJudged (most_of self.entry) fed known
             → IfOk result (IsOutcomeOf ends.Ended limit known) }
         ensures peer { IfOk result IsPeerOutcome }
     {
         let PageReply {
             alloc: _,
             limit: _,
+            before: _,
             stream,
             page,
         } = self;
@@ -164,6 +173,7 @@ impl PageReply {
         let PageReply {
             alloc: _,
             limit: _,
+            before: _,
             stream,
             page,
         } = self;

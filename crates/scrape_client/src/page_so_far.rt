@@ -3,6 +3,7 @@ ghost use Rattle.std.specs.Prelude.{◌++◌, ℕ, List, [], length, IfOk, IfErr
 ghost use Rattle.page_model.specs.declared.format.Format.{Format as AnyFormat};
 ghost use Rattle.page_model.specs.declared.format.Treatment.TheVariants.{Scraped};
 ghost use Rattle.page_feeding.specs.PageFeeding.{Answers};
+ghost use Rattle.page_reader.specs.AnyReading.{StandsIn};
 ghost use Rattle.line_scan.specs.LineReading.{setting_of};
 ghost use Rattle.http_talk.specs.Replies.{IsPageOutcome};
 ghost use Rattle.scrape_client.specs.PageReplies.{PageHasRead, PageHasRoom, IsPageBegun, FeedsOn};
@@ -23,12 +24,32 @@ pub(crate) enum PageSoFar {
     Stopped(PageFault),
 }
 
+/// The reader of a page in this format, beside the page before where there is one.
+fn reader_of(
+    alloc: Global,
+    format: Format,
+    limit: u32,
+    before: Option<&Page>,
+) -> Result<AnyReader, Memory>
+    ensures { IfOk result (StandsIn format Scraped limit []) }
+{
+    match before {
+        Some(before) => AnyReader::beside(alloc, format, Treatment::Scraped, limit, before),
+        None => AnyReader::new(alloc, format, Treatment::Scraped, limit),
+    }
+}
+
 impl PageSoFar {
     /// A page in this format of which no byte came. `limit` is the most samples that it may have.
-    pub(crate) fn begin(alloc: Global, format: Format, limit: u32) -> PageSoFar
+    pub(crate) fn begin(
+        alloc: Global,
+        format: Format,
+        limit: u32,
+        before: Option<&Page>,
+    ) -> PageSoFar
         ensures { PageHasRead limit format [] result }
     {
-        match AnyReader::new(alloc, format, Treatment::Scraped, limit) {
+        match reader_of(alloc, format, limit, before) {
             Ok(reader) => PageSoFar::Reading(reader),
             Err(AllocError) => PageSoFar::Stopped(PageFault::Memory),
         }

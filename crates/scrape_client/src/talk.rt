@@ -16,13 +16,13 @@ use page_model::{Cause, Outcome};
 pub(crate) fn exchange<W: Wire>(
     wire: &mut W,
     text: &[u8],
-    reply: PageReply,
+    reply: PageReply<'_>,
 ) -> Result<Outcome, Memory>
     requires begun { (W.state wire.old).stage ≡ stages.Begun }
     requires room { length text.now ≤ (W.state wire.old).left }
     requires fresh { ReadsPage reply.limit [] reply }
     ensures { (old : WireState) (at : ℕ) → W.state wire.old ≡ begun_at at (made_ready 1 (length text.now) old)
-        → IsExchange reply.limit (most_of reply) at text.now old (W.state wire.new) result }
+        → IsExchange reply.entry.limit (most_of reply.entry) at text.now old (W.state wire.new) result }
 {
     match wire.connect() {
         Ok(()) => {}
@@ -54,10 +54,10 @@ fn send_text<W: Wire>(wire: &mut W, text: &[u8]) -> Result<(), Failed>
 /// Reads the reply in a talk that got nothing yet. Each turn reads a byte at least, and a reply on which
 /// there is no verdict is short. Behind a fault of its page it reads on, since a fault of the reply goes
 /// first.
-fn read_reply<W: Wire>(wire: &mut W, reply: PageReply) -> Result<Outcome, Memory>
+fn read_reply<W: Wire>(wire: &mut W, reply: PageReply<'_>) -> Result<Outcome, Memory>
     requires connected { (W.state wire.old).stage ≡ stages.Connected }
     requires fresh { ReadsPage reply.limit [] reply }
-    ensures { IsReplyRead reply.limit (most_of reply) (W.state wire.old) (W.state wire.new) result }
+    ensures { IsReplyRead reply.entry.limit (most_of reply.entry) (W.state wire.old) (W.state wire.new) result }
 {
     let mut reply = reply;
     let mut block = [0u8; BLOCK_BYTES];

@@ -16,8 +16,8 @@ use bridge_ports::{Address, TalkFault, Wire};
 use label_sets::Memory;
 use otlp_json::write;
 use otlp_tree::Request;
-use page_model::{Event, Outcome, Shown};
-use scrape_client::scrape;
+use page_model::{Event, Outcome, Page, Shown};
+use scrape_client::scrape_beside;
 use std::alloc::{AllocError, Global};
 use target_core::TargetState;
 
@@ -45,6 +45,17 @@ pub(crate) struct Prepared {
     pub(crate) second: Shown,
 }
 
+/// What a visit goes by of those before it.
+#[derive(Clone, Copy)]
+pub(crate) struct Earlier<'a> {
+    /// When this visit is due, in nanoseconds since the Unix epoch.
+    pub(crate) due: u64,
+    /// How long the last body was, in bytes.
+    pub(crate) last_len: usize,
+    /// The page of the last visit, as it is shown.
+    pub(crate) page: &'a Page,
+}
+
 /// When a visit is due behind so many others, of which the first had this reading.
 pub(crate) fn due_after(first: Option<u64>, visits: u64, interval: u64) -> u64
     ensures { result ≡ due_after first visits interval }
@@ -70,7 +81,7 @@ fn take_event<W: Wire>(
     aim: &Aim,
     wire: &mut W,
     state: &mut TargetState,
-    due: u64,
+    earlier: Earlier<'_>,
 ) -> Result<Taken, Memory>
     requires free { (W.state wire.old).stage ≡ stages.Idle }
     requires ranges { AreInRange aim.now.settings }
@@ -78,13 +89,14 @@ fn take_event<W: Wire>(
     ensures { TakesEvent aim.now (W.state wire.old) (W.state wire.new) state.old state.new result }
 {
     let settings = &aim.settings;
-    let Ok(event) = scrape(
+    let Ok(event) = scrape_beside(
         alloc,
         wire,
         &aim.target,
-        due,
+        earlier.due,
         settings.limit,
         settings.max_page,
+        earlier.page,
     ) else {
         return Err(AllocError);
     };
@@ -158,8 +170,7 @@ pub(crate) fn prepare<W: Wire>(
     wire: &mut W,
     post: &mut W,
     state: &mut TargetState,
-    due: u64,
-    last_len: usize,
+    earlier: Earlier<'_>,
 ) -> Result<Prepared, Memory>
     requires free { (W.state wire.old).stage ≡ stages.Idle }
     requires post_free { (W.state post.old).stage ≡ stages.Idle }
@@ -167,10 +178,10 @@ pub(crate) fn prepare<W: Wire>(
     requires next { HasNextMoment state.old.moment }
     ensures { Prepares aim.now (W.state wire.old) (W.state wire.new) (W.state post.old) (W.state post.new) state.old state.new result }
 {
-    let Ok(taken) = take_event(alloc, aim, wire, state, due) else {
+    let Ok(taken) = take_event(alloc, aim, wire, state, earlier) else {
         return Err(AllocError);
     };
-    let Ok(made) = all_made(alloc, &aim.to, taken, state, last_len) else {
+    let Ok(made) = all_made(alloc, &aim.to, taken, state, earlier.last_len) else {
         return Err(AllocError);
     };
     match post.ready(alloc, aim.settings.tries, made.text.len()) {

@@ -11,7 +11,7 @@ ghost use Rattle.series_table.specs.Records.{IsBodyOf, IsFree, IsFresh, IsNew, I
 use crate::aim::Aim;
 use crate::counts::Counts;
 use crate::faults::told_body;
-use crate::making::{due_after, prepare};
+use crate::making::{Earlier, due_after, prepare};
 use crate::visited::Visited;
 use bridge_ports::{Address, BodyFault, Notice, Settings, TalkFault, Target, Wire};
 use label_sets::Memory;
@@ -174,14 +174,18 @@ impl<W: Wire> Track<W> {
             return None;
         }
         let due = due_after(self.first, self.counts.visits, self.aim.settings.interval);
+        let earlier = Earlier {
+            due,
+            last_len: self.last_len,
+            page: &self.shown.page,
+        };
         match prepare(
             alloc,
             &self.aim,
             &mut self.scrape,
             &mut self.post,
             &mut self.state,
-            due,
-            self.last_len,
+            earlier,
         ) {
             Ok(made) => {
                 let (head, body) = made.text.parts();

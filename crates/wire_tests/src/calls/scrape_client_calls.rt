@@ -7,8 +7,9 @@ use crate::calls::one_target::target;
 use crate::calls::plans::{Planned, replies};
 use bridge_ports::{End, MemoryWire, Place};
 use label_sets::{List, Memory};
-use page_model::{Cause, Outcome, Rule};
-use scrape_client::{outcome, scrape};
+use open_writing::write;
+use page_model::{Cause, Outcome, Page, Rule};
+use scrape_client::{outcome, scrape, scrape_beside};
 use std::alloc::{AllocError, Global};
 
 const CHUNKED: &[u8] =
@@ -20,6 +21,15 @@ const OPEN_METRICS: &[u8] =
     b"HTTP/1.1 200 OK\r\nContent-Type: application/openmetrics-text; version=1.0.0\r\n\r\nx 1\n# EOF\n";
 
 const BAD_PAGE: &[u8] = b"HTTP/1.1 200 OK\r\n\r\nx 1\nx\n";
+
+// A page that is written as it was read.
+const LABELS: &str = concat!(
+    "HTTP/1.1 200 OK\r\nContent-Type: application/openmetrics-text; version=1.0.0\r\n\r\n",
+    "# TYPE x gauge\nx{a=\"1\"} 1\nx{a=\"1\",b=\"2\"} 2\nx{b=\"2\"} 3\n# EOF\n",
+);
+
+// Of its label sets it has one, and another twice.
+const OTHER_LABELS: &str = "HTTP/1.1 200 OK\r\n\r\nx{b=\"1\"} 1\ny{b=\"2\"} 1\ny{b=\"1\"} 1\n";
 
 /// Why a scrape failed; nothing where it gave a page.
 fn cause(outcome: &Outcome) -> Option<Cause> {
@@ -81,6 +91,57 @@ fn outcome_of(alloc: Global, got: &[u8]) -> Result<Option<Cause>, Memory> {
     let cause = cause(&outcome);
     drop(outcome);
     Ok(cause)
+}
+
+/// The page that these bytes of a talk come to; one without families where they come to none.
+fn page_of(alloc: Global, got: &[u8]) -> Result<Page, Memory> {
+    match outcome(alloc, got, End::Ended, 1_000, 1_024) {
+        Ok(Outcome::Page(page)) => Ok(page),
+        Ok(Outcome::Failed(_)) => Ok(Page::empty(alloc)),
+        Err(AllocError) => Err(AllocError),
+    }
+}
+
+/// What comes of scraping that page beside another one.
+fn labels_beside(alloc: Global, before: &Page) -> Result<Outcome, Memory> {
+    let target = target(alloc)?;
+    let mut wire = wire(alloc, (LABELS.as_bytes(), End::Ended), 16, &[])?;
+    let event = scrape_beside(alloc, &mut wire, &target, 0, 1_000, 1_024, before);
+    drop(target);
+    drop(wire);
+    Ok(event?.outcome)
+}
+
+/// Whether an outcome is that page.
+fn are_labels(alloc: Global, outcome: &Outcome) -> Result<bool, Memory> {
+    match outcome {
+        Outcome::Page(page) => {
+            let mut text = Vec::new(alloc);
+            write(page, &mut text)?;
+            let body = LABELS.split_once("\r\n\r\n");
+            Ok(matches!(body, Some((_, body)) if text.as_slice() == body.as_bytes()))
+        }
+        Outcome::Failed(_) => Ok(false),
+    }
+}
+
+/// Whether that page is scraped beside the one of these bytes.
+fn are_scraped_beside(alloc: Global, before: &[u8]) -> Result<bool, Memory> {
+    let before = page_of(alloc, before)?;
+    let outcome = labels_beside(alloc, &before);
+    drop(before);
+    let outcome = outcome?;
+    let same = are_labels(alloc, &outcome);
+    drop(outcome);
+    same
+}
+
+#[test]
+fn page_before_changes_no_page(rt: HostRuntime) {
+    const BEFORE: &[&str] = &[LABELS, OTHER_LABELS, ""];
+    for before in BEFORE {
+        assert!(rt; are_scraped_beside(rt.alloc(), before.as_bytes()) == Ok(true));
+    }
 }
 
 #[test]

@@ -2,7 +2,7 @@ use Rattle.std.proofs.Common.{◌≡◌, ◌∙◌, ℕ, ap, length}
 use Rattle.bridge_ports.specs.Talks.{made_ready, begun_at}
 use Rattle.http_talk.specs.Requests.{get_request}
 use Rattle.scrape_client.proofs.Scrapes.{is_scrape, exchange_by}
-use Rattle.scrape_client.proofs.one_scrape.scrape.Goals as goal
+use Rattle.scrape_client.proofs.one_scrape.scrape_with.Goals as goal
 
 pub returns-in-Ok-exchange : goal.returns-in-Ok-exchange
 returns-in-Ok-exchange g c =
