@@ -16,7 +16,7 @@ bring_home-requires-clause-away g c κs within = out_away c.in-Ok.tracks.items c
 
 pub returns-in-Ok-visit_all-clause-run : goal.returns-in-Ok-visit_all-clause-run
 returns-in-Ok-visit_all-clause-run g c =
-    run_end c.args.config.now c.in-Ok.tracks.items c.in-Ok-visit_all.visited.tracks.items _ _ _ _ c.in-Ok.ensures.first c.in-Ok.ensures.targets c.in-Ok.ensures.out c.in-Ok.ensures.rest
+    run_end c.args.config.now c.in-Ok.tracks.items c.in-Ok-visit_all.visited.tracks.items _ _ _ _ c.in-Ok.ensures.first c.in-Ok.ensures.was c.in-Ok.ensures.targets c.in-Ok.ensures.out c.in-Ok.ensures.rest
     c.in-Ok-visit_all.ensures.over c.in-Ok-visit_all.ensures.ends c.bring_home.ensures.home c.bring_home.ensures.rest c.bring_home.ensures.given
 
 pub bring_home-requires-in-Err-visit_all-clause-away : goal.bring_home-requires-in-Err-visit_all-clause-away
