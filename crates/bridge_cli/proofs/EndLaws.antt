@@ -15,9 +15,9 @@ use Rattle.run_command.proofs.Laws.{cut_left, files_stay}
 use Rattle.bridge_cli.specs.declared.answer.Printed.{Printed}
 use Rattle.bridge_cli.specs.declared.answer.Printed.TheVariants.{Whole, Tree, Bodies, Report}
 use Rattle.bridge_cli.specs.CommandReads.{ChangesOnly, IsAlone, LeavesUsed}
-use Rattle.bridge_cli.specs.CommandRuns.{written_whole, written_part, IsAnswered, ShelvesVisits}
+use Rattle.bridge_cli.specs.CommandRuns.{written_whole, written_part, IsAnswered, WritesPieces, ShelvesVisits}
 use Rattle.bridge_cli.specs.Printed.{Gives, GivesPart, IsNothing, IsPrintable, IsWhole, IsShelved, Ended, printed, stopped, wanting, AnswersVisits, IsPrintedOf}
-use Rattle.bridge_cli.proofs.PrintLaws.{whole_or_not, whole_part}
+use Rattle.bridge_cli.proofs.PrintLaws.{whole_or_not, whole_part, says_pieces}
 
 -- ---- texts
 
@@ -65,12 +65,12 @@ pub ended_answered : (command : Command) (left : Option (List ℕ)) (before afte
 ended_answered command left before after now status p held written_now result of same (printed text gives written) =
     record { status = code_of status; text = text; says = of.gives now same text gives; written = written_whole written }
 ended_answered command left before after now status p held written_now result of same (wanting text gives written other) =
-    record { status = code_of statuses.WantOfMemory; text = text; says = of.parts now text gives other; written = written_whole written }
+    record { status = code_of statuses.WantOfMemory; text = text; says = says_pieces command before now left text (of.parts now text gives other); written = written_whole written }
 ended_answered command left before after now status p held written_now result of same (stopped text gives front) = by (whole_or_not p)
   where
     by : IsWhole p ⊎ (¬ IsWhole p) → IsAnswered command left before now held written_now (code_of statuses.WriteFailed)
     by (inl is) = record { status = code_of status; text = text; says = of.gives now same text (whole_part p text is gives); written = written_part front }
-    by (inr other) = record { status = code_of statuses.WantOfMemory; text = text; says = of.parts now text gives other; written = written_part front }
+    by (inr other) = record { status = code_of statuses.WantOfMemory; text = text; says = says_pieces command before now left text (of.parts now text gives other); written = written_part front }
 
 -- at a failed read nothing was to be printed
 pub ended_read : (status : Status) (p : Printed) (before after : Option (List ℕ)) (result : ℕ) → (status ≡ statuses.ReadFailed → IsNothing p) → Ended status p before after result
@@ -79,12 +79,24 @@ ended_read status p before after result unread (printed text gives written) e = 
 ended_read status p before after result unread (stopped text gives front) e = absurd (omega (arith, e))
 ended_read status p before after result unread (wanting text gives written other) e = absurd (omega (arith, e))
 
--- nor at want of memory, but of a command that prints in pieces
-pub ended_memory : (pieces : Bool) (status : Status) (p : Printed) (before after : Option (List ℕ)) (result : ℕ) → (pieces ≡ false → IsWhole p) → (status ≡ statuses.WantOfMemory → IsNothing p ⊎ (pieces ≡ true))
-    → Ended status p before after result → result ≡ code_of statuses.WantOfMemory → IsNothing p ⊎ (pieces ≡ true)
-ended_memory pieces status p before after result whole none (printed text gives written) e = none (same_code status statuses.WantOfMemory e)
-ended_memory pieces status p before after result whole none (stopped text gives front) e = absurd (omega (arith, e))
-ended_memory pieces status p before after result whole none (wanting text gives written other) e = inr (passes pieces (λ f. other (whole f)))
+-- nor at want of memory, but the pieces that were made were written
+pub ended_memory : (command : Command) (left : Option (List ℕ)) (before after now : Outside) (status : Status) (p : Printed) (held written_now : Option (List ℕ)) (result : ℕ) → IsPrintedOf command left before after status p
+    → (IsWhole p → now ≡ after) → (status ≡ statuses.WantOfMemory → IsNothing p ⊎ ((command_row command).prints_pieces ≡ true)) → Ended status p held written_now result → result ≡ code_of statuses.WantOfMemory
+    → IsNothing p ⊎ WritesPieces command left before now held written_now
+ended_memory command left before after now status p held written_now result of same none (printed text gives written) e = by (none wants)
+  where
+    wants : status ≡ statuses.WantOfMemory
+    wants = same_code status statuses.WantOfMemory e
+
+    by : IsNothing p ⊎ ((command_row command).prints_pieces ≡ true) → IsNothing p ⊎ WritesPieces command left before now held written_now
+    by (inl nothing) = inl nothing
+    by (inr in_pieces) = elim (of.pieces now same wants text gives) [
+      | inl nothing ↦ inl nothing
+      | inr says ↦ inr (record { in_pieces = in_pieces; text = text; says = says; written = written })
+    ]
+ended_memory command left before after now status p held written_now result of same none (stopped text gives front) e = absurd (omega (arith, e))
+ended_memory command left before after now status p held written_now result of same none (wanting text gives written other) e =
+    inr (record { in_pieces = passes (command_row command).prints_pieces (λ f. other (of.whole f)); text = text; says = of.parts now text gives other; written = written })
 
 -- a command that takes no memory
 pub ended_ready : (command : Command) (status : Status) (p : Printed) (before after : Option (List ℕ)) (result : ℕ) → ((command_row command).prints_pieces ≡ false → IsWhole p) → takes_memory command ≡ false

@@ -1,5 +1,5 @@
 -- From what a command comes to, to what is to be printed.
-use Rattle.std.proofs.Common.{◌≡◌, ◌≢◌, ℕ, Bool, true, false, List, [], Option, Result, Ok, Err, OnOk, OnErr, refl, sym, subst, ◌∙◌, ◌⊎◌, inl, inr, arith}
+use Rattle.std.proofs.Common.{◌≡◌, ◌≢◌, ℕ, Bool, true, false, List, [], Option, Result, Ok, Err, OnOk, OnErr, refl, sym, ap, subst, ◌∙◌, ◌⊎◌, inl, inr, arith}
 use Rattle.std.specs.Prelude.{⊤}
 use Rattle.std.specs.Cow.{cow_slice_items}
 use Rattle.std.specs.Io.KnownBytes.{Appends}
@@ -30,7 +30,7 @@ use Rattle.script_commands.specs.ScriptAnswers.{script_done, IsReportAnswer}
 use Rattle.script_commands.specs.Printing.{cut_status, CutCause, CutsScript, PrintsReport, HoldsScript}
 use Rattle.run_command.specs.RunReports.{IsReportOfRun}
 use Rattle.run_command.specs.RunAnswers.{run_status, run_over}
-use Rattle.bridge_cli.specs.Answers.{Answers, Says, answers, unread, in_part}
+use Rattle.bridge_cli.specs.Answers.{Answers, Says, SaysPieces, answers, unread, in_part}
 use Rattle.bridge_cli.specs.Answers as spec
 use Rattle.bridge_cli.specs.Printed.{Gives, GivesPart, IsNothing, IsPrintable, IsWhole, Ended, printed, stopped, AnswersVisits, IsPrintedOf, IsStopPrinted, IsReportPrinted, IsOver}
 use Rattle.bridge_cli.specs.Printed as ends
@@ -69,12 +69,22 @@ whole_visits command left (Report script) is none = absurd is
 says_answer : (command : Command) (before after : Outside) (left : Option (List ℕ)) (status : ℕ) (text : List ℕ) → HasAnswer (Answers command before after) left status text → HasAnswer (Says command before after) left status text
 says_answer command before after left status text has = record { bytes = has.bytes; on_input = has.on_input; says = answers status text has.says }
 
+-- and so is what it printed in pieces
+pub says_pieces : (command : Command) (before after : Outside) (left : Option (List ℕ)) (text : List ℕ) → HasAnswer (SaysPieces command before after) left (code_of statuses.WantOfMemory) text
+    → HasAnswer (Says command before after) left (code_of statuses.WantOfMemory) text
+says_pieces command before after left text has = record { bytes = has.bytes; on_input = has.on_input; says = elim has.says [ inl whole ↦ answers _ text whole | inr part ↦ in_part text part ] }
+
+-- a command that is done wants no memory
+not_done : {A : Type 0} → statuses.Done ≡ statuses.WantOfMemory → A
+not_done e = absurd (let both : statuses.Done ≡ statuses.WantOfMemory = e in cc)
+
 -- a text that a command over an input made
 pub whole_printed : (command : Command) (left : Option (List ℕ)) (before after : Outside) (p : Printed) → IsWhole p → (command_row command).uses ≢ uses_shelf
     → ((now : Outside) (text : List ℕ) → Gives p text → HasAnswer (Answers command before now) left (code_of statuses.Done) text) → IsPrintedOf command left before after statuses.Done p
 whole_printed command left before after p is none gives = record {
   gives = λ now same text e. says_answer command before now left (code_of statuses.Done) text (gives now text e);
   parts = λ now text e other. absurd (other is);
+  pieces = λ now same wants text e. not_done wants;
   printable = whole_printable p is;
   whole = λ _. is;
   shelves = λ other. absurd (other is);
@@ -87,6 +97,7 @@ pub report_printed_of : (path : List ℕ) (left : Option (List ℕ)) (before aft
 report_printed_of path left before after text halted status (Whole t) report is same = record {
   gives = gives;
   parts = λ now u e other. absurd (other tt);
+  pieces = λ now same_now wants u e. inr (pieces now same_now wants u e);
   printable = tt;
   whole = λ _. tt;
   shelves = λ other. absurd (other tt);
@@ -99,6 +110,13 @@ report_printed_of path left before after text halted status (Whole t) report is 
         let Stat : Status → Type 0 = λ s. HasAnswer (Says (Run path) before after) left (code_of s) u in
         let Text : List ℕ → Type 0 = λ v. HasAnswer (Says (Run path) before after) left (code_of (run_status halted)) v in
         subst At (sym (same_now tt)) (subst Stat (sym is) (subst Text (sym (e ∙ same)) (any_bytes (Says (Run path) before after) left (code_of (run_status halted)) text (λ bytes. answers _ text (run_over text halted report)))))
+
+    pieces : (now : Outside) → (⊤ → now ≡ after) → status ≡ statuses.WantOfMemory → (u : List ℕ) → u ≡ cow_slice_items t → HasAnswer (SaysPieces (Run path) before now) left (code_of statuses.WantOfMemory) u
+    pieces now same_now wants u e =
+        let At : Outside → Type 0 = λ o. HasAnswer (SaysPieces (Run path) before o) left (code_of statuses.WantOfMemory) u in
+        let Stat : Status → Type 0 = λ s. HasAnswer (SaysPieces (Run path) before after) left (code_of s) u in
+        let Text : List ℕ → Type 0 = λ v. HasAnswer (SaysPieces (Run path) before after) left (code_of (run_status halted)) v in
+        subst At (sym (same_now tt)) (subst Stat (sym is ∙ wants) (subst Text (sym (e ∙ same)) (any_bytes (SaysPieces (Run path) before after) left (code_of (run_status halted)) text (λ bytes. inl (run_over text halted report)))))
 report_printed_of path left before after text halted status _ report is same = absurd same
 
 -- the bodies of a script
@@ -106,7 +124,8 @@ pub bodies_printed : (said_scrapers : Option ℕ) (page : Option (List Selector)
     → IsPrintedOf (Replay said_scrapers page) left before after statuses.Done (Bodies script scrapers page)
 bodies_printed said_scrapers page left before after script scrapers holds = record {
   gives = λ now same text is. record { bytes = holds.bytes; on_input = holds.on_input; says = answers _ text (script_done script text holds.is is) };
-  parts = λ now text is other. record { bytes = holds.bytes; on_input = holds.on_input; says = in_part text (script, holds.is, is) };
+  parts = λ now text is other. record { bytes = holds.bytes; on_input = holds.on_input; says = inr (script, holds.is, is) };
+  pieces = λ now same wants text e. not_done wants;
   printable = (holds.right, refl);
   whole = λ e. absurd (true≢false e);
   shelves = λ _. refl;
@@ -118,7 +137,8 @@ pub report_printed : (number targets rounds : ℕ) (left : Option (List ℕ)) (b
     → IsPrintedOf (Load number targets rounds) left before after statuses.Done (Report script)
 report_printed number targets rounds left before after script same right taken = record {
   gives = λ now same_now text is. any_bytes (Says (Load number targets rounds) before now) left (code_of statuses.Done) text (λ bytes. answers _ text (says text is));
-  parts = λ now text is other. any_bytes (Says (Load number targets rounds) before now) left (code_of statuses.WantOfMemory) text (λ bytes. in_part text (part text is));
+  parts = λ now text is other. any_bytes (SaysPieces (Load number targets rounds) before now) left (code_of statuses.WantOfMemory) text (λ bytes. inr (part text is));
+  pieces = λ now same_now wants text e. not_done wants;
   printable = (right, taken, refl);
   whole = λ e. absurd (true≢false e);
   shelves = λ _. refl;
@@ -156,6 +176,7 @@ pub stop_printed : (command : Command) (left : Option (List ℕ)) (before after 
 stop_printed command left before after stop status (Whole t) is stops = record {
   gives = gives;
   parts = λ now text e other. absurd (other tt);
+  pieces = λ now same wants text e. inl (stop_untold stop status _ is (inr (ap code_of wants)));
   printable = tt;
   whole = λ _. tt;
   shelves = λ other. absurd (other tt);

@@ -38,6 +38,10 @@ CutAnswers (Replay scrapers page) bytes text = (script : Script) × IsScriptInpu
 CutAnswers (Load number targets rounds) bytes text = MayBeReported (generated_script number targets rounds) text ⊎ IsLoadReport (generated_script number targets rounds) text
 CutAnswers _ bytes text = ⊥
 
+-- what a command that prints in pieces printed where memory was wanting: a text that is its answer at that status, or a part of one
+abbrev pub SaysPieces : Command → Outside → Outside → List ℕ → ℕ → List ℕ → Type 0
+SaysPieces command before after bytes status text = Answers command before after bytes status text ⊎ CutAnswers command bytes text
+
 -- what a command comes to: its answer; nothing, where a read failed; nothing, or a part of its text, where memory was wanting
 pub data Says (command : Command) (before after : Outside) (bytes : List ℕ) : ℕ → List ℕ → Type 0 where
   answers : (status : ℕ) (text : List ℕ) → Answers command before after bytes status text → Says command before after bytes status text

@@ -13,7 +13,7 @@ use Rattle.program_words.specs.CommandWords.{command_row, takes_memory, uses_not
 use Rattle.program_words.specs.Statuses.{code_of, IsStatus, IsTold, IsUntold, TellsFault}
 use Rattle.program_words.specs.InputAnswers.{HasAnswer}
 use Rattle.script_commands.specs.Shelves.{IsShelfOf}
-use Rattle.bridge_cli.specs.Answers.{Answers, VisitsScript, Says}
+use Rattle.bridge_cli.specs.Answers.{Answers, VisitsScript, Says, SaysPieces}
 use Rattle.bridge_cli.specs.CommandReads.{IsAllRead, IsReadInPart, IsAllTold, LeavesInput, ChangesOnly, read_count}
 
 -- a text of a status was written whole, or a front of it that leaves something, and then a write failed
@@ -27,6 +27,13 @@ pub record IsAnswered (command : Command) (left : Option (List ℕ)) (before aft
   pub text : List ℕ
   pub says : HasAnswer (Says command before after) left status text
   pub written : IsWritten status text held held_now code
+
+-- the command prints in pieces, and those that were made were written whole
+pub record WritesPieces (command : Command) (left : Option (List ℕ)) (before after : Outside) (held held_now : Option (List ℕ)) : Type 0 where
+  pub in_pieces : (command_row command).prints_pieces ≡ true
+  pub text : List ℕ
+  pub says : HasAnswer (SaysPieces command before after) left (code_of WantOfMemory) text
+  pub written : Appends held held_now text
 
 -- where all that it depends on is told, every answer of a command has this status, and its text is what was written
 abbrev pub IsOnlyAnswer : Command → Option (List ℕ) → Outside → Outside → Option (List ℕ) → Option (List ℕ) → ℕ → Type 0
@@ -58,8 +65,8 @@ pub record RanCommand {I O W : Type 0} (command : Command) (left : I → Option 
   pub only_answer : IsTold status → IsOnlyAnswer command (left input) (seen world) (seen world_now) (held output) (held output_now) status
   -- nothing was written where a read failed
   pub silent : status ≡ code_of ReadFailed → output_now ≡ output
-  -- nor where memory was wanting, but by a command that prints in pieces
-  pub memory : status ≡ code_of WantOfMemory → (output_now ≡ output) ⊎ ((command_row command).prints_pieces ≡ true)
+  -- nor where memory was wanting, but the pieces that were made, by a command that prints in pieces
+  pub memory : status ≡ code_of WantOfMemory → (output_now ≡ output) ⊎ WritesPieces command (left input) (seen world) (seen world_now) (held output) (held output_now)
   -- memory is wanting only where the command takes memory
   pub ready : takes_memory command ≡ false → status ≢ code_of WantOfMemory
   -- the count of failed writes rose exactly where the status says so

@@ -21,7 +21,7 @@ use Rattle.script_commands.specs.Loads.{IsLoadReport, MayBeReported}
 use Rattle.bridge_ports.specs.Worlds.{ShelvedPair}
 use Rattle.script_commands.specs.Shelves.{IsShelfOf}
 use Rattle.program_words.specs.StopAnswers.{IsStopAnswer}
-use Rattle.bridge_cli.specs.Answers.{Says}
+use Rattle.bridge_cli.specs.Answers.{Says, SaysPieces}
 use Rattle.program_words.specs.InputAnswers.{HasAnswer}
 use Rattle.bridge_cli.specs.CommandRuns.{HasVisitAnswer}
 
@@ -85,7 +85,8 @@ AnswersVisits command left (Report script) = (text : List ℕ) → IsLoadReport 
 -- what a command, at a status, has to print; of a world before it and now, which is left alone where all is made before it is printed
 pub record IsPrintedOf (command : Command) (left : Option (List ℕ)) (before after : Outside) (status : Status) (p : Printed) : Type 0 where
   pub gives : (now : Outside) → (IsWhole p → now ≡ after) → (text : List ℕ) → Gives p text → HasAnswer (Says command before now) left (code_of status) text
-  pub parts : (now : Outside) (text : List ℕ) → GivesPart p text → ¬ IsWhole p → HasAnswer (Says command before now) left (code_of WantOfMemory) text
+  pub parts : (now : Outside) (text : List ℕ) → GivesPart p text → ¬ IsWhole p → HasAnswer (SaysPieces command before now) left (code_of WantOfMemory) text
+  pub pieces : (now : Outside) → (IsWhole p → now ≡ after) → status ≡ WantOfMemory → (text : List ℕ) → Gives p text → IsNothing p ⊎ HasAnswer (SaysPieces command before now) left (code_of WantOfMemory) text
   pub printable : IsPrintable status p
   pub whole : (command_row command).prints_pieces ≡ false → IsWhole p
   pub shelves : ¬ IsWhole p → (command_row command).uses ≡ uses_shelf
