@@ -1,5 +1,5 @@
 -- The laws that have a line for each command, and what follows: words ask for one command.
-use Rattle.std.proofs.Common.{◌≡◌, ℕ, false, cond, List, [], ◌∷◌, ◌++◌, Option, Some, None, refl, sym, ap, ◌∙◌, arith}
+use Rattle.std.proofs.Common.{◌≡◌, ◌≢◌, ℕ, true, false, cond, List, [], ◌∷◌, ◌++◌, length, Option, Some, None, refl, sym, ap, ◌∙◌, arith}
 use Rattle.std.specs.Prelude.{codes, bytes_eq}
 use Rattle.std.specs.Fmt.{decimal}
 use Rattle.std.specs.Str.Parse.{digits_value}
@@ -14,6 +14,7 @@ use Rattle.series_select.specs.Selectors.{SpellEach}
 use Rattle.series_select.specs.SelectorReading.{selector_in}
 use Rattle.series_select.proofs.Laws.{selector_complete}
 use Rattle.program_words.specs.CommandWords.{word_if, ArePageWords, AreScrapers, IsCommand, command_row, takes_memory}
+use Rattle.program_words.specs.WordSteps.{FitNoOther, is_replay}
 use Rattle.std.proofs.lemmas.Bool.{true≢false}
 use Rattle.program_words.proofs.WordLaws.{number_no_page}
 use Rattle.program_words.proofs.PlaceLaws.{target_of, told_target}
@@ -102,6 +103,19 @@ told (Convert format target nanos) words spelled limits =
     ap told_by spelled
     ∙ ap (λ f. Convert f (target_of target.job target.instance) (digits_value 10 (decimal nanos))) (format_told format)
     ∙ ap (λ t. Convert format t (digits_value 10 (decimal nanos))) (told_target target limits.0) ∙ ap (Convert format target) (decimal_is_IsNumeral nanos (omega (arith, limits.1))).1
+
+-- words of another number fit no form but, maybe, one of a replay
+pub other_number : (words : List (List ℕ)) → length words ≢ 1 → length words ≢ 2 → length words ≢ 4 → length words ≢ 5 → FitNoOther words
+other_number words one two four five command other asked = by command other asked.spelled
+  where
+    by : (command : Command) → is_replay command ≡ false → (command_row command).words words → ⊥
+    by Help other spelled = one (ap (length {A = List ℕ}) spelled)
+    by Version other spelled = one (ap (length {A = List ℕ}) spelled)
+    by (Run path) other spelled = two (ap (length {A = List ℕ}) spelled)
+    by (Check f) other spelled = two (ap (length {A = List ℕ}) spelled)
+    by (Convert f target nanos) other spelled = five (ap (length {A = List ℕ}) spelled)
+    by (Load n t r) other spelled = four (ap (length {A = List ℕ}) spelled)
+    by (Replay s page) other spelled = true≢false other
 
 -- words ask for one command
 pub one_command : (words : List (List ℕ)) (c d : Command) → IsCommand words c → IsCommand words d → c ≡ d

@@ -11,9 +11,9 @@ use Rattle.series_select.specs.declared.selector.Selector.{Selector}
 use Rattle.series_select.specs.Selectors.{SpellsSelector, IsNoSelector, SpellEach}
 use Rattle.series_select.proofs.Laws.{selector_told, selector_complete, spelled_length, spelled-more}
 use Rattle.program_words.specs.declared.words.Command.{Command}
-use Rattle.program_words.specs.declared.words.Command.TheVariants.{Help, Version, Check, Convert, Replay, Run, Load}
+use Rattle.program_words.specs.declared.words.Command.TheVariants.{Replay}
 use Rattle.program_words.specs.CommandWords.{word_if, ArePageWords, AreFewSelectors, command_row, IsCommand, FitNoForm, AskFor, takes_memory}
-use Rattle.program_words.specs.WordSteps.{FitNoOther, AskForNoReplay, is_replay, is_selector, are_page_words, AreCutAt, SayNoScrapers}
+use Rattle.program_words.specs.WordSteps.{FitNoOther, AskForNoReplay, is_selector, are_page_words, AreCutAt, SayNoScrapers}
 use Rattle.program_words.proofs.WordLaws.{number_no_page}
 
 -- ---- words that are selectors
@@ -151,16 +151,3 @@ no_other_form words none no_replay command asked = by command asked
 pub none_at_all : (words : List (List ℕ)) (found : Option Command) → IfNone found (FitNoOther words) → AskForNoReplay words → IfNone found (FitNoForm words)
 none_at_all words None none no_replay = no_other_form words none no_replay
 none_at_all words (Some command) none no_replay = tt
-
--- words of another number fit no form but, maybe, one of a replay
-pub other_number : (words : List (List ℕ)) → length words ≢ 1 → length words ≢ 2 → length words ≢ 4 → length words ≢ 5 → FitNoOther words
-other_number words one two four five command other asked = by command other asked.spelled
-  where
-    by : (command : Command) → is_replay command ≡ false → (command_row command).words words → ⊥
-    by Help other spelled = one (ap (length {A = List ℕ}) spelled)
-    by Version other spelled = one (ap (length {A = List ℕ}) spelled)
-    by (Run path) other spelled = two (ap (length {A = List ℕ}) spelled)
-    by (Check f) other spelled = two (ap (length {A = List ℕ}) spelled)
-    by (Convert f target nanos) other spelled = five (ap (length {A = List ℕ}) spelled)
-    by (Load n t r) other spelled = four (ap (length {A = List ℕ}) spelled)
-    by (Replay s page) other spelled = true≢false other

@@ -2,7 +2,7 @@ use Rattle.std.proofs.Common.{rules, ◌≡◌, [], ◌∷◌, map, Global}
 use Rattle.std.proofs.lemmas.List.{length-map}
 use Rattle.std.specs.Prelude.{string_bytes, codes}
 use Rattle.replay_script.specs.ScriptParts.{format_word}
-use Rattle.program_words.proofs.ReplayWords.{other_number}
+use Rattle.program_words.proofs.CommandLaws.{other_number}
 use Rattle.program_words.proofs.WordLaws.{conversion_words, four_words, no_format, alike}
 use Rattle.program_words.proofs.words.forms.other_command.Goals as goal
 use Rattle.program_words.proofs.words.forms.other_command.Goals.{After-conversion, in_default-via-then-words-lt1, in_default-via-else-words-lt1+else-words-lt2+else-words-lt3+then-words-lt4, in_default-via-else-words-lt1+else-words-lt2+else-words-lt3+else-words-lt4+else-words-lt5+else-words-lt6}
