@@ -1,6 +1,7 @@
 -- What other crates may use of this crate's proofs.
 pub use Rattle.page_model.proofs.Fronts.{while_parts, while_passes, behind_parts, behind-append}
 pub use Rattle.page_model.proofs.TextSound.{text_line_sound}
+pub use Rattle.page_model.proofs.LineHeads.{head-stays}
 pub use Rattle.page_model.proofs.Decides.{written_sound, front_fault, first_fault_read, page_is_read, first_fault_once, fault_or_page, page_of_once}
 pub use Rattle.page_model.proofs.Groups.{Member, label_sets_decide, agrees_in, is_complete_group, groups_of, complete_by_groups}
 pub use Rattle.page_model.proofs.Prefixes.{fault_from-append, too_long_fault}

@@ -7,6 +7,7 @@ pub mod TextSound
 pub mod TextComplete
 pub mod OpenSound
 pub mod OpenComplete
+pub mod LineHeads
 pub mod Decides
 pub mod DistinctKeys
 pub mod Groups

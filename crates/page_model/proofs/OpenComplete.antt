@@ -90,7 +90,7 @@ list_again text tail ls s =
 
 -- ---- the parts of a sample
 
-optional_again : (text tail : List ℕ) (ls : List Label) → SpellsOptionalList text ls → optional_list_at (text ++ 32 ∷ tail) ≡ Some (ls, 32 ∷ tail)
+pub optional_again : (text tail : List ℕ) (ls : List Label) → SpellsOptionalList text ls → optional_list_at (text ++ 32 ∷ tail) ≡ Some (ls, 32 ∷ tail)
 unfolding optional_list_at
 optional_again text tail ls (inl s) = rw (s.0, s.1) refl
 optional_again text tail ls (inr s) =
@@ -138,7 +138,7 @@ exemplar_again text (Some e) s =
 
 -- ---- samples and descriptors
 
-labels_stop : (text tail : List ℕ) (ls : List Label) → SpellsOptionalList text ls → Stops is_metric_char (text ++ 32 ∷ tail)
+pub labels_stop : (text tail : List ℕ) (ls : List Label) → SpellsOptionalList text ls → Stops is_metric_char (text ++ 32 ∷ tail)
 labels_stop text tail ls (inl s) = rw s.0 refl
 labels_stop text tail ls (inr s) = rw s.2 refl
 

@@ -97,7 +97,7 @@ list_front cs x e =
           (codes "{" ++ (l.0 ++ m.0) ++ codes "}", (l.0 ++ m.0, (l.0, m.0, l.1, m.1, refl), refl), brace_whole cs a.0 (l.0 ++ m.0) c.0.1 opened (front_whole a.0 l.0 b.0.1 m.0 c.0.1 l.2 m.2))
     ]
 
-optional_front : (cs : List ℕ) (x : List Label × List ℕ) → optional_list_at cs ≡ Some x → (text : List ℕ) × SpellsOptionalList text x.0 × (cs ≡ text ++ x.1)
+pub optional_front : (cs : List ℕ) (x : List Label × List ℕ) → optional_list_at cs ≡ Some x → (text : List ℕ) × SpellsOptionalList text x.0 × (cs ≡ text ++ x.1)
 unfolding list_at optional_list_at
 optional_front [] x e = subst (λ (y : List Label × List ℕ). (text : List ℕ) × SpellsOptionalList text y.0 × ([] ≡ text ++ y.1)) (same_Some ([], []) x e) ([], inl (refl, refl), refl)
 optional_front (c ∷ cs) x e = elim (chosen (c == 123) (list_at (c ∷ cs)) (Some ([], c ∷ cs)) (Some x) e) [

@@ -24,7 +24,7 @@ use Rattle.page_model.specs.TextReading.{begins_blank, at_blank, label_at, label
 
 -- ---- blanks, names and tokens
 
-eqb_flip : (a b : ℕ) → eqb a b ≡ false → eqb b a ≡ false
+pub eqb_flip : (a b : ℕ) → eqb a b ≡ false → eqb b a ≡ false
 eqb_flip a b h = go (eqb b a) refl
   where
     go : (r : Bool) → eqb b a ≡ r → eqb b a ≡ false
@@ -184,7 +184,7 @@ gap_begins : (gap tail : List ℕ) → IsGap gap → begins_blank (gap ++ tail) 
 gap_begins [] tail g = absurd (g.1 refl)
 gap_begins (c ∷ cs) tail g = (and_parts (is_blank c) (list_all is_blank cs) g.0).0
 
-middle_again : (text tail : List ℕ) (ls : List Label) → Stops is_blank tail → behind (codes "{") tail ≡ None → SpellsMiddle text ls → middle_at (text ++ tail) ≡ Some (ls, tail)
+pub middle_again : (text tail : List ℕ) (ls : List Label) → Stops is_blank tail → behind (codes "{") tail ≡ None → SpellsMiddle text ls → middle_at (text ++ tail) ≡ Some (ls, tail)
 unfolding middle_from middle_at
 middle_again text tail ls stops plain (inl s) = rw (blanks_dropped text tail s.0.0 stops, plain, gap_begins text tail s.0, s.1) refl
 middle_again text tail ls stops plain (inr s) =
@@ -213,7 +213,7 @@ no_open_brace : (value rest : List ℕ) → is_number_token value ≡ true → b
 no_open_brace [] rest h = absurd (no_empty_token h)
 no_open_brace (c ∷ cs) rest h = first_differs 123 c [] (cs ++ rest) (differs is_token_char 123 c refl (and_parts (is_token_char c) (list_all is_token_char cs) (token_passes (c ∷ cs) h)).0)
 
-middle_stops : (text tail : List ℕ) (ls : List Label) → SpellsMiddle text ls → Stops is_metric_char (text ++ tail)
+pub middle_stops : (text tail : List ℕ) (ls : List Label) → SpellsMiddle text ls → Stops is_metric_char (text ++ tail)
 middle_stops text tail ls (inl s) = gap_stops is_metric_char refl refl text tail s.0
 middle_stops text tail ls (inr s) =
     let regrouped : text ++ tail ≡ s.before ++ 123 ∷ (s.inner ++ 125 ∷ (s.after ++ tail)) = rw s.whole (simp append_assoc refl) in

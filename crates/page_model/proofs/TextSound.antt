@@ -125,7 +125,7 @@ stops_blank c h = go (is_blank c) h
 braces_whole : (cs b0 inner text tail b1 after : List ℕ) → cs ≡ b0 ++ 123 ∷ inner → inner ≡ text ++ 125 ∷ tail → tail ≡ b1 ++ after → cs ≡ (b0 ++ codes "{" ++ text ++ codes "}" ++ b1) ++ after
 braces_whole cs b0 inner text tail b1 after a b c = rw (a, b, c) (simp append_assoc refl)
 
-middle_front : (cs : List ℕ) (x : List Label × List ℕ) → middle_at cs ≡ Some x → (text : List ℕ) × SpellsMiddle text x.0 × (cs ≡ text ++ x.1)
+pub middle_front : (cs : List ℕ) (x : List Label × List ℕ) → middle_at cs ≡ Some x → (text : List ℕ) × SpellsMiddle text x.0 × (cs ≡ text ++ x.1)
 unfolding labels_at middle_from middle_at
 middle_front cs x e = go (behind (codes "{") (without_leading_blanks cs)) refl e
   where

@@ -8,6 +8,7 @@ pub mod TextItems
 pub mod TextReading
 pub mod OpenItems
 pub mod OpenReading
+pub mod LineHeads
 pub mod Items
 pub mod Suffixes
 pub mod SuffixNames
