@@ -4,6 +4,5 @@ pub mod Cutting
 pub mod Tables
 pub mod LineFaults
 pub mod NoLabels
-pub mod KnownLists
-pub mod LabelSteps
+pub mod LineHeads
 pub mod Laws

@@ -2,4 +2,5 @@ pub mod Cuts
 pub mod Marks
 pub mod LabelReading
 pub mod LineReading
-pub mod LineLabels
+pub mod LineHeads
+pub mod LineRooms

@@ -36,17 +36,6 @@ pub enum AfterLabel<'a> {
     Broken,
 }
 
-/// What comes next in a list.
-#[derive(Clone, Copy)]
-pub enum NextLabel<'a> {
-    /// The closing brace, and what stands behind it.
-    End(&'a [u8]),
-    /// A label, and what follows it.
-    Label(LabelParts<'a>, AfterLabel<'a>),
-    /// Neither.
-    Broken,
-}
-
 /// The label that written parts make.
 ///
 /// # Errors
@@ -93,7 +82,7 @@ pub(crate) fn own_labels(alloc: Global, labels: &mut Vec<Label>) -> Result<Vec<L
 }
 
 /// The most labels of a list.
-pub(crate) fn label_limit(treatment: Treatment) -> u32
+fn label_limit(treatment: Treatment) -> u32
     ensures { result ≡ label_limit treatment }
 {
     match treatment {

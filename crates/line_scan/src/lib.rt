@@ -3,19 +3,21 @@
 #![tactic(auto)]
 
 mod chars;
-mod known_sets;
+mod head;
+mod known_front;
+mod known_fronts;
 mod label_list;
 mod labels;
 mod line;
 mod line_room;
 mod quoted;
 mod scan;
-mod spelled_labels;
 
 pub use chars::{Blank, CharClass, LabelChar, MetricChar, NameClass};
-pub use known_sets::KnownSets;
-pub use label_list::{LabelList, labels_from};
-pub use labels::{AfterLabel, LabelParts, NextLabel, after_label, label_of, set_of};
+pub use head::{Head, SampleLabels, head_at};
+pub use known_fronts::KnownFronts;
+pub use label_list::{LabelList, labels_at};
+pub use labels::{AfterLabel, LabelParts, after_label, label_of, set_of};
 pub use line::LineRead;
 pub use line_room::LineRoom;
 pub use quoted::{Escapes, QuotedValue, has_backslash, quoted_at, unescaped_text};

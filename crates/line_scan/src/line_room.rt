@@ -1,23 +1,22 @@
-//! What a line is read with: the room for its labels, and the sets that it may share.
-ghost use Rattle.std.specs.Prelude.{◌≡◌, IfOk, IfSome, IsUtf8, option_map};
-ghost use Rattle.std.specs.Option.{option_copied};
+//! What a line is read with: the room for its labels, and the fronts that are known.
+ghost use Rattle.std.specs.Prelude.{◌≡◌, IfOk, List};
 ghost use Rattle.label_sets.specs.Labels.{label_set};
 ghost use Rattle.label_sets.specs.Lists.{when_true};
+ghost use Rattle.label_sets.specs.declared.label.Label.{Label as AnyLabel};
 ghost use Rattle.page_model.specs.Written.{is_label_list};
-ghost use Rattle.line_scan.specs.LabelReading.{IsTextNext, labels_from};
-ghost use Rattle.line_scan.specs.LineLabels.{line_labels};
+ghost use Rattle.line_scan.specs.LineRooms.{HasLabels, HasReadHead};
 
-use crate::known_sets::KnownSets;
-use crate::label_list::{LabelList, labels_from};
-use crate::labels::{NextLabel, label_limit, own_labels, set_of};
+use crate::head::Head;
+use crate::known_fronts::KnownFronts;
+use crate::labels::{own_labels, set_of};
 use label_sets::{Label, LabelSet, Memory};
-use page_model::Treatment;
+use page_model::{Format, Treatment};
 use std::alloc::Global;
 
-/// What a line is read with, and its labels: those of the known set that it spells, or those that were gathered.
+/// What a line is read with, and its labels: the set that is known of them, or those that were gathered.
 #[derive(Drop)]
 pub struct LineRoom {
-    pub known: KnownSets,
+    pub fronts: KnownFronts,
     pub set: Option<LabelSet>,
     /// The room in which labels are gathered.
     pub labels: Vec<Label>,
@@ -25,46 +24,29 @@ pub struct LineRoom {
 
 impl LineRoom {
     /// A room without labels.
-    pub fn new(alloc: Global, known: KnownSets) -> LineRoom {
+    pub fn new(alloc: Global, fronts: KnownFronts) -> LineRoom {
         LineRoom {
-            known,
+            fronts,
             set: None,
             labels: Vec::new(alloc),
         }
     }
 
-    /// Reads the labels of a list in which this comes next, at most so many behind it, and answers what stands behind
-    /// the closing brace. Where they spell a known set no label is made.
-    ///
-    /// # Errors
-    ///
-    /// Want of memory.
-    pub fn read_labels<'a, L: LabelList>(
-        &mut self,
-        alloc: Global,
-        most: usize,
-        next: NextLabel<'a>,
-    ) -> Result<Option<&'a [u8]>, Memory>
-        requires { IsTextNext next }
-        ensures labels { IfOk result (λ rest. option_map (λ cs. (line_labels self.new, cs)) (option_copied rest)
-            ≡ labels_from L.labels_at most next.entry) }
-        ensures utf8 { IfOk result (λ rest. IfSome rest (λ behind. IsUtf8 behind.now)) }
+    /// The label set of the labels that were read, as `take_set` gives it.
+    fn set_read(&mut self, alloc: Global, treatment: Treatment) -> Result<Option<LabelSet>, Memory>
+        ensures { (labels : List AnyLabel) → HasLabels self.old labels → IfOk result (λ set. set ≡ when_true (is_label_list treatment labels) (label_set labels)) }
     {
-        // A line that was refused may have left some.
-        self.set = None;
-        self.labels.clear();
-        match self.known.find::<L>(most, next) {
-            Ok(Some((set, rest))) => {
-                self.set = Some(set);
-                Ok(Some(rest))
+        match self.set.take() {
+            Some(set) => Ok(Some(set)),
+            None => {
+                let labels = own_labels(alloc, &mut self.labels)?;
+                set_of(alloc, treatment, labels)
             }
-            Ok(None) => labels_from::<L>(alloc, most, next, &mut self.labels),
-            Err(memory) => Err(memory),
         }
     }
 
-    /// The label set of the labels that were read; nothing where two labels have one name or there are too many. The
-    /// room is for the next line.
+    /// The label set of the labels that were read with this head; nothing where two labels have one name or there are
+    /// too many. The room is for the next line.
     ///
     /// # Errors
     ///
@@ -73,26 +55,23 @@ impl LineRoom {
         &mut self,
         alloc: Global,
         treatment: Treatment,
+        format: Format,
+        head: Head<'_>,
     ) -> Result<Option<LabelSet>, Memory>
-        ensures { IfOk result (λ set. set ≡ when_true (is_label_list treatment (line_labels self.old)) (label_set (line_labels self.old))) }
+        requires { HasReadHead format self.old head }
+        ensures { (labels : List AnyLabel) → HasLabels self.old labels → IfOk result (λ set. set ≡ when_true (is_label_list treatment labels) (label_set labels)) }
     {
-        match self.set.take() {
-            Some(set) => Ok(allowed(treatment, set)),
-            None => {
-                let labels = own_labels(alloc, &mut self.labels)?;
-                set_of(alloc, treatment, labels)
-            }
+        let made = self.set_read(alloc, treatment)?;
+        if let Some(set) = &made {
+            self.fronts.keep(alloc, treatment, format, head, set)?;
         }
+        Ok(made)
     }
-}
 
-/// The set, unless it has too many labels.
-fn allowed(treatment: Treatment, set: LabelSet) -> Option<LabelSet>
-    ensures { result ≡ when_true (is_label_list treatment set) (label_set set) }
-{
-    set.in_order();
-    if set.len() > label_limit(treatment) as usize {
-        return None;
+    /// The fronts for the next page, once all lines of this one were read.
+    pub fn into_fronts(self, alloc: Global) -> KnownFronts {
+        let mut fronts = self.fronts;
+        fronts.turn(alloc);
+        fronts
     }
-    Some(set)
 }

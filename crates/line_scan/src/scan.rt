@@ -21,7 +21,10 @@ pub fn front_len<C: CharClass>(bytes: &[u8]) -> usize
     ensures count { result ≡ prefix_len C.test bytes.now }
 {
     let mut count = 0;
-    while count < bytes.len() && C::has(bytes[count]) {
+    for byte in bytes {
+        if !C::has(*byte) {
+            return count;
+        }
         count += 1;
     }
     count

@@ -4,7 +4,7 @@ use Rattle.std.specs.Prelude.{take_while, option_map, if◌then◌else◌}
 use Rattle.std.specs.Str.{bytes_eq}
 use Rattle.label_sets.specs.declared.label.Label.{Label}
 use Rattle.label_sets.specs.declared.label_set.LabelSet.{LabelSet}
-use Rattle.label_sets.specs.Lists.{◌>>=◌, when_true, behind, some_passes}
+use Rattle.label_sets.specs.Lists.{◌>>=◌, when_true, rest_while, behind, some_passes}
 use Rattle.label_sets.specs.Labels.{label_set}
 use Rattle.label_sets.specs.Names.{is_metric_name, is_metric_char}
 use Rattle.exact_decimal.specs.Numbers.{number}
@@ -14,12 +14,14 @@ use Rattle.page_model.specs.declared.item.Exemplar.{Exemplar}
 use Rattle.page_model.specs.declared.item.Item.TheVariants as items
 use Rattle.page_model.specs.declared.item.Sample.{Sample}
 use Rattle.page_model.specs.declared.rule.Rule.TheVariants as rules
-use Rattle.page_model.specs.Written.{WrittenExemplar, WrittenSample, sample, exemplar_of, token_out_of_range, stamp_out_of_range, stamp_number, exemplar_out_of_range, has_out_of_range, is_label_list}
+use Rattle.page_model.specs.Written.{Written, WrittenExemplar, WrittenSample, sample, exemplar_of, token_out_of_range, stamp_out_of_range, stamp_number, exemplar_out_of_range, has_out_of_range, is_label_list}
 use Rattle.page_model.specs.OpenReading.{list_at, optional_list_at, value_at, stamp_at, sample_of}
 use Rattle.page_model.specs.OpenReading as reading
 use Rattle.line_scan.specs.declared.line.LineRead.TheVariants as reads
-use Rattle.line_scan.specs.declared.scan.Cut.{Cut}
-use Rattle.line_scan.specs.Cuts.{IsNamed}
+use Rattle.line_scan.specs.declared.head.Head.{Head}
+use Rattle.line_scan.specs.declared.line_room.LineRoom.{LineRoom}
+use Rattle.line_scan.specs.LineHeads.{IsHead}
+use Rattle.page_model.specs.LineHeads.{LineHead, head_of}
 use Rattle.line_scan.specs.LineReading.{says_fault, Reads}
 use Rattle.page_model.proofs.Laws.{behind_parts, behind-append}
 use Rattle.openmetrics_grammar.specs.declared.exemplar.ExemplarRead.{ExemplarRead}
@@ -129,34 +131,41 @@ module _ (cs inner : List ℕ) (some : 0 < length cs) (mark : Some inner ≡ beh
 
 -- ---- a sample
 
-pub sample-no_name : (cs : List ℕ) → is_metric_name (take_while is_metric_char cs) ≡ false → sample_of cs ≡ None
-unfolding sample_of
-sample-no_name cs h = rw h refl
+-- what a sample line says behind its head
+abbrev behind_head : LineHead → Option Written
+behind_head h = value_at h.rest >>= λ value. stamp_at value.1 >>= λ stamp. reading.exemplar_of stamp.1 >>= λ exemplar.
+    Some (sample (record { name = h.name; labels = h.labels; value = value.0; stamp = stamp.0; exemplar = exemplar }))
 
-module _ (cs : List ℕ) (cut : Cut) (n : IsNamed is_metric_name is_metric_char cs cut) where
-  pub sample-no_list : None ≡ optional_list_at cut.rest.now → sample_of cs ≡ None
-  unfolding sample_of
-  sample-no_list h = rw (n.named, ← n.rest, ← h) refl
+abbrev head_with : List ℕ → List Label × List ℕ → LineHead
+head_with name x = record { name = name; labels = x.0; rest = x.1 }
 
-  module _ (rest : List ℕ) (labels : List Label) (l : Some (labels, rest) ≡ optional_list_at cut.rest.now) where
-    pub sample-no_value : value_at rest ≡ None → sample_of cs ≡ None
-    unfolding sample_of
-    sample-no_value h = rw (n.named, ← n.rest, ← l, h) refl
+by_head : (cs : List ℕ) → sample_of cs ≡ (head_of OpenMetrics cs >>= behind_head)
+unfolding sample_of head_of
+by_head cs = go (when_true (is_metric_name (take_while is_metric_char cs)) (take_while is_metric_char cs)) (optional_list_at (rest_while is_metric_char cs))
+  where
+    go : (o : Option (List ℕ)) (m : Option (List Label × List ℕ)) → (o >>= λ _. m >>= λ x. behind_head (head_with (take_while is_metric_char cs) x)) ≡ ((o >>= λ _. m >>= λ x. Some (head_with (take_while is_metric_char cs) x)) >>= behind_head)
+    go None m = refl
+    go (Some name) None = refl
+    go (Some name) (Some x) = refl
 
-    module _ (value behind_value : List ℕ) (v : value_at rest ≡ Some (value, behind_value)) where
-      pub sample-no_stamp : stamp_at behind_value ≡ None → sample_of cs ≡ None
-      unfolding sample_of
-      sample-no_stamp h = rw (n.named, ← n.rest, ← l, v, h) refl
+pub sample-no_head : (cs : List ℕ) → head_of OpenMetrics cs ≡ None → sample_of cs ≡ None
+sample-no_head cs h = by_head cs ∙ rw h refl
 
-      module _ (stamp : Option (List ℕ)) (left : List ℕ) (s : stamp_at behind_value ≡ Some (stamp, left)) where
-        pub sample-no_exemplar : reading.exemplar_of left ≡ None → sample_of cs ≡ None
-        unfolding sample_of
-        sample-no_exemplar h = rw (n.named, ← n.rest, ← l, v, s, h) refl
+module _ (cs : List ℕ) (labels : List Label) (head : Head) (i : IsHead OpenMetrics cs labels head) where
+  pub sample-no_value : value_at head.rest.now ≡ None → sample_of cs ≡ None
+  sample-no_value h = by_head cs ∙ rw (i.found, h) refl
 
-        pub sample-found : (exemplar : Option WrittenExemplar) → reading.exemplar_of left ≡ Some exemplar
-            → sample_of cs ≡ Some (sample (record { name = cut.front.now; labels = labels; value = value; stamp = stamp; exemplar = exemplar }))
-        unfolding sample_of
-        sample-found exemplar h = rw (n.named, ← n.rest, ← l, v, s, h, n.front) refl
+  module _ (value behind_value : List ℕ) (v : value_at head.rest.now ≡ Some (value, behind_value)) where
+    pub sample-no_stamp : stamp_at behind_value ≡ None → sample_of cs ≡ None
+    sample-no_stamp h = by_head cs ∙ rw (i.found, v, h) refl
+
+    module _ (stamp : Option (List ℕ)) (left : List ℕ) (s : stamp_at behind_value ≡ Some (stamp, left)) where
+      pub sample-no_exemplar : reading.exemplar_of left ≡ None → sample_of cs ≡ None
+      sample-no_exemplar h = by_head cs ∙ rw (i.found, v, s, h) refl
+
+      pub sample-found : (exemplar : Option WrittenExemplar) → reading.exemplar_of left ≡ Some exemplar
+          → sample_of cs ≡ Some (sample (record { name = head.name.now; labels = labels; value = value; stamp = stamp; exemplar = exemplar }))
+      sample-found exemplar h = by_head cs ∙ rw (i.found, v, s, h) refl
 
 maybe_range : (w : Option WrittenExemplar) (e : Option ExemplarRead) → IsMaybeExemplarOf w e → maybe_in_range e ≡ not (some_passes (exemplar_out_of_range OpenMetrics) w)
 maybe_range _ _ no_exemplar = refl
@@ -192,6 +201,10 @@ a_set : (b : Bool) (x set : LabelSet) → Some x ≡ when_true b set → (b ≡ 
 a_set true x set h = (refl, cc)
 a_set false x set h = absurd cc
 
+no_set : (b : Bool) (set : LabelSet) → None ≡ when_true b set → b ≡ false
+no_set true set h = absurd cc
+no_set false set h = refl
+
 no_made : (b : Bool) (o : Option Exemplar) → None ≡ (if b then None else Some o) → b ≡ true
 no_made true o h = refl
 no_made false o h = absurd cc
@@ -205,30 +218,33 @@ module _ (t : Treatment) (w : WrittenSample) where
       → says_fault OpenMetrics t (Some (sample w)) ≡ (if a then Some rules.Range else (if not b || c then Some rules.Labels else None))
   fault_of a b c e f g = rw (e, f, g) refl
 
-  module _ (labels : List Label) (s : SampleRead) (i : IsSampleOf w labels s) where
+  module _ (room : LineRoom) (s : SampleRead) (i : IsSampleOf w room s) where
     module _ (e : s.in_range ≡ true) where
       ranged : has_out_of_range OpenMetrics (sample w) ≡ false
       ranged = not_both s.in_range (has_out_of_range OpenMetrics (sample w)) i.in_range ∙ ap not e
 
-      module _ (set : LabelSet) (h : Some set ≡ when_true (is_label_list t labels) (label_set labels)) where
-        good_set : (is_label_list t labels ≡ true) × (set ≡ label_set labels)
-        good_set = a_set (is_label_list t labels) set (label_set labels) h
+      pub said-labels : None ≡ when_true (is_label_list t w.labels) (label_set w.labels) → says_fault OpenMetrics t (Some (sample w)) ≡ Some rules.Labels
+      said-labels h = fault_of false false (has_bad_exemplar_labels t w.exemplar) ranged (no_set (is_label_list t w.labels) (label_set w.labels) h) refl
+
+      module _ (set : LabelSet) (h : Some set ≡ when_true (is_label_list t w.labels) (label_set w.labels)) where
+        good_set : (is_label_list t w.labels ≡ true) × (set ≡ label_set w.labels)
+        good_set = a_set (is_label_list t w.labels) set (label_set w.labels) h
 
         listed : is_label_list t w.labels ≡ true
-        listed = ap (is_label_list t) (sym i.labels_are) ∙ good_set.0
+        listed = good_set.0
 
         pub said-exemplar : None ≡ exemplar_made t w.exemplar → says_fault OpenMetrics t (Some (sample w)) ≡ Some rules.Labels
         said-exemplar g = fault_of false true true ranged listed (no_made (has_bad_exemplar_labels t w.exemplar) (option_map (exemplar_of OpenMetrics) w.exemplar) g)
 
-        pub said-sample : (exemplar : Option Exemplar) → Some exemplar ≡ exemplar_made t w.exemplar → (name : List ℕ) → name ≡ s.name.now
+        pub said-sample : (exemplar : Option Exemplar) → Some exemplar ≡ exemplar_made t w.exemplar → (name : List ℕ) → name ≡ s.head.name.now
             → Reads OpenMetrics t (Some (sample w)) (reads.Item (items.Sample (record { name = name; labels = set; value = s.value; stamp = s.stamp; exemplar = exemplar })))
         said-sample exemplar g name n =
             let made = a_made (has_bad_exemplar_labels t w.exemplar) exemplar (option_map (exemplar_of OpenMetrics) w.exemplar) g in (
               fault_of false true false ranged listed made.0,
-              ap (λ (x : Sample). Some (items.Sample x)) (sym (same_sample name set exemplar n (good_set.1 ∙ ap label_set i.labels_are) made.1)),
+              ap (λ (x : Sample). Some (items.Sample x)) (sym (same_sample name set exemplar n good_set.1 made.1)),
             )
           where
-            same_sample : (nm : List ℕ) (st : LabelSet) (ex : Option Exemplar) → nm ≡ s.name.now → st ≡ label_set w.labels → ex ≡ option_map (exemplar_of OpenMetrics) w.exemplar
+            same_sample : (nm : List ℕ) (st : LabelSet) (ex : Option Exemplar) → nm ≡ s.head.name.now → st ≡ label_set w.labels → ex ≡ option_map (exemplar_of OpenMetrics) w.exemplar
                 → ◌≡◌ {A = Sample} (record { name = nm; labels = st; value = s.value; stamp = s.stamp; exemplar = ex })
                 (record { name = w.name; labels = label_set w.labels; value = number w.value; stamp = option_map (stamp_number OpenMetrics) w.stamp; exemplar = option_map (exemplar_of OpenMetrics) w.exemplar })
             same_sample nm st ex a b c = rw (a ∙ i.name, b, i.value, i.stamp ∙ same_stamp w.stamp, c) refl

@@ -10,6 +10,9 @@ use Rattle.page_model.specs.declared.format.Treatment.{Treatment}
 use Rattle.page_model.specs.declared.item.Exemplar.{Exemplar}
 use Rattle.page_model.specs.Written.{Written, WrittenExemplar, WrittenSample, sample, exemplar_of, exemplar_out_of_range, has_out_of_range, is_label_list}
 use Rattle.page_model.specs.OpenReading.{value_at, stamp_at}
+use Rattle.line_scan.specs.declared.line_room.LineRoom.{LineRoom}
+use Rattle.line_scan.specs.LineHeads.{IsFrontOf}
+use Rattle.line_scan.specs.LineRooms.{HasLabels}
 use Rattle.openmetrics_grammar.specs.LabelLists.{braced_at}
 use Rattle.openmetrics_grammar.specs.declared.exemplar.ExemplarRead.{ExemplarRead}
 use Rattle.openmetrics_grammar.specs.declared.sample.SampleRead.{SampleRead}
@@ -43,21 +46,22 @@ pub record IsMaybeExemplarIn (found : Option (Option WrittenExemplar)) (e : Opti
   pub found_is : found ≡ Some written
   pub read : IsMaybeExemplarOf written e
 
--- what is read of a sample, and its labels that were read
-pub record IsSampleOf (w : WrittenSample) (labels : List Label) (s : SampleRead) : Type 0 where
-  pub name : s.name.now ≡ w.name
-  pub labels_are : labels ≡ w.labels
+-- what is read of a sample, whose labels were read into a room
+pub record IsSampleOf (w : WrittenSample) (room : LineRoom) (s : SampleRead) : Type 0 where
+  pub name : s.head.name.now ≡ w.name
+  pub labels : HasLabels room w.labels
   pub value : s.value ≡ number w.value
   pub stamp : s.stamp ≡ option_map number w.stamp
   pub exemplar : IsMaybeExemplarOf w.exemplar s.exemplar
   pub in_range : s.in_range ≡ not (has_out_of_range OpenMetrics (sample w))
 
 -- this was read of the sample that was found
-pub record IsSampleIn (found : Option Written) (labels : List Label) (s : SampleRead) : Type 0 where
+pub record IsSampleIn (found : Option Written) (room : LineRoom) (s : SampleRead) : Type 0 where
   pub written : WrittenSample
   pub found_is : found ≡ Some (sample written)
-  pub read : IsSampleOf written labels s
-  pub utf8_name : IsUtf8 s.name.now
+  pub read : IsSampleOf written room s
+  pub front : IsFrontOf OpenMetrics written.labels s.head
+  pub utf8_name : IsUtf8 s.head.name.now
 
 -- no number of the exemplar is out of range, where there is one
 abbrev pub maybe_in_range : Option ExemplarRead → Bool

@@ -1,16 +1,17 @@
 //! Label lists (OpenMetrics 1.0, "ABNF": labels).
-ghost use Rattle.std.specs.Prelude.{◌≡◌, ℕ, [], length, option_map, IfOk, IfSome, IsUtf8, MatchOption, None};
+ghost use Rattle.std.specs.Prelude.{◌≡◌, ◌++◌, ◌∷◌, [], option_map, IfOk, IfSome, IsUtf8, MatchOption, None};
 ghost use Rattle.std.specs.Option.{option_copied};
-ghost use Rattle.page_model.specs.OpenReading.{label_at, more_labels_at, optional_list_at};
-ghost use Rattle.line_scan.specs.LabelReading.{IsLabelFound, IsTextNext, labels_from};
-ghost use Rattle.line_scan.specs.LineLabels.{line_labels};
-ghost use Rattle.openmetrics_grammar.specs.LabelLists.{braced_at, with_label};
+ghost use Rattle.page_model.specs.OpenReading.{label_at, more_labels_at};
+ghost use Rattle.page_model.specs.declared.format.Format.TheVariants.{OpenMetrics};
+ghost use Rattle.line_scan.specs.LabelReading.{IsLabelFound};
+ghost use Rattle.openmetrics_grammar.specs.LabelLists.{IsTaken, IsBehindComma, braced_at};
 
 use label_sets::{Label, Memory};
 use line_scan::{
-    AfterLabel, LabelChar, LabelList, LabelParts, LineRoom, NextLabel, after_label, behind,
-    behind_text, cut_name, labels_from, quoted_at,
+    AfterLabel, LabelChar, LabelList, LabelParts, SampleLabels, after_label, behind, behind_text,
+    cut_name, label_of, labels_at, quoted_at,
 };
+use page_model::Format;
 use std::alloc::Global;
 
 /// The label at the front.
@@ -34,15 +35,36 @@ fn label_at(bytes: &[u8]) -> Option<LabelParts<'_>>
     })
 }
 
-/// The label at the front, as what comes next in a list.
-fn label_next(bytes: &[u8]) -> NextLabel<'_>
+/// Adds the label at the front, and answers what stands behind it.
+#[inline(always)]
+fn take_label<'a>(
+    alloc: Global,
+    bytes: &'a [u8],
+    labels: &mut Vec<Label>,
+) -> Result<Option<&'a [u8]>, Memory>
     requires { IsUtf8 bytes.now }
-    ensures found { (more : ℕ) → with_label (label_at bytes.now) more ≡ labels_from more_labels_at more result }
-    ensures text { IsTextNext result }
+    ensures { IfOk result (λ rest. MatchOption rest (label_at bytes.now ≡ None) (λ behind. IsTaken bytes.now labels.old.items labels.new.items behind.now)) }
 {
-    match label_at(bytes) {
-        Some(parts) => NextLabel::Label(parts, AfterLabel::More(parts.rest)),
-        None => NextLabel::Broken,
+    let Some(parts) = label_at(bytes) else {
+        return Ok(None);
+    };
+    let label = label_of(alloc, parts)?;
+    labels.push(label)?;
+    Ok(Some(parts.rest))
+}
+
+/// Adds the label behind a comma, and answers what follows it.
+fn after_comma<'a>(
+    alloc: Global,
+    bytes: &'a [u8],
+    labels: &mut Vec<Label>,
+) -> Result<AfterLabel<'a>, Memory>
+    requires { IsUtf8 bytes.now }
+    ensures { IfOk result (IsBehindComma bytes.now labels.old.items labels.new.items) }
+{
+    match take_label(alloc, bytes, labels)? {
+        Some(rest) => Ok(AfterLabel::More(rest)),
+        None => Ok(AfterLabel::Broken),
     }
 }
 
@@ -55,28 +77,19 @@ impl LabelList for LaterLabels {
 
     ghost labels_at = { more_labels_at };
 
-    #[inline(always)]
-    fn next_label(bytes: &[u8]) -> NextLabel<'_> {
+    fn next_label<'a>(
+        alloc: Global,
+        bytes: &'a [u8],
+        labels: &mut Vec<Label>,
+    ) -> Result<AfterLabel<'a>, Memory> {
         match after_label(bytes) {
-            AfterLabel::End(rest) => NextLabel::End(rest),
-            AfterLabel::More(more) => label_next(more),
-            AfterLabel::Broken => NextLabel::Broken,
+            AfterLabel::End(rest) => Ok(AfterLabel::End(rest)),
+            AfterLabel::More(more) => after_comma(alloc, more, labels),
+            AfterLabel::Broken => Ok(AfterLabel::Broken),
         }
     }
 
     ghost nothing = { open-no_labels };
-}
-
-/// What comes first in a list, behind its opening brace.
-fn first_label(inner: &[u8]) -> NextLabel<'_>
-    requires { IsUtf8 inner.now }
-    ensures found { braced_at inner.now ≡ labels_from more_labels_at (length inner.now) result }
-    ensures text { IsTextNext result }
-{
-    match behind(b'}', inner) {
-        Some(rest) => NextLabel::End(rest),
-        None => label_next(inner),
-    }
 }
 
 /// Adds the labels behind an opening brace, and answers what stands behind the closing one.
@@ -90,21 +103,33 @@ pub(crate) fn braced_at<'a>(
     ensures labels { IfOk result (λ rest. option_map (λ cs. (labels.new.items, cs)) (option_copied rest) ≡ braced_at inner.now) }
     ensures utf8 { IfOk result (λ rest. IfSome rest (λ behind. IsUtf8 behind.now)) }
 {
-    labels_from::<LaterLabels>(alloc, inner.len(), first_label(inner), labels)
+    if let Some(rest) = behind(b'}', inner) {
+        return Ok(Some(rest));
+    }
+    let Some(rest) = take_label(alloc, inner, labels)? else {
+        return Ok(None);
+    };
+    labels_at::<LaterLabels>(alloc, inner.len(), rest, labels)
 }
 
-/// Reads the labels of the list at the front, where one is there, and answers what stands behind it.
-pub(crate) fn optional_list_at<'a>(
-    alloc: Global,
-    bytes: &'a [u8],
-    room: &mut LineRoom,
-) -> Result<Option<&'a [u8]>, Memory>
-    requires { IsUtf8 bytes.now }
-    ensures labels { IfOk result (λ rest. option_map (λ cs. (line_labels room.new, cs)) (option_copied rest) ≡ optional_list_at bytes.now) }
-    ensures utf8 { IfOk result (λ rest. IfSome rest (λ behind. IsUtf8 behind.now)) }
-{
-    match behind(b'{', bytes) {
-        Some(inner) => room.read_labels::<LaterLabels>(alloc, inner.len(), first_label(inner)),
-        None => room.read_labels::<LaterLabels>(alloc, 0, NextLabel::End(bytes)),
+/// The labels behind the name of a sample: a list, or none.
+pub(crate) struct OptionalList;
+
+impl SampleLabels for OptionalList {
+    ghost format = { OpenMetrics };
+
+    fn format() -> Format {
+        Format::OpenMetrics
+    }
+
+    fn labels_behind<'a>(
+        alloc: Global,
+        bytes: &'a [u8],
+        labels: &mut Vec<Label>,
+    ) -> Result<Option<&'a [u8]>, Memory> {
+        match behind(b'{', bytes) {
+            Some(inner) => braced_at(alloc, inner, labels),
+            None => Ok(Some(bytes)),
+        }
     }
 }

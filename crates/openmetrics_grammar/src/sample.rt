@@ -3,23 +3,23 @@ ghost use Rattle.std.specs.Prelude.{◌≡◌, ◌&&◌, IfOk, IsUtf8, MatchOpti
 ghost use Rattle.page_model.specs.declared.format.Format.TheVariants.{OpenMetrics};
 ghost use Rattle.page_model.specs.OpenReading.{sample_of};
 ghost use Rattle.page_model.specs.Written.{WrittenExemplar, WrittenSample, sample};
-ghost use Rattle.line_scan.specs.LineLabels.{line_labels};
 ghost use Rattle.line_scan.specs.LineReading.{Reads};
+ghost use Rattle.line_scan.specs.LineRooms.{HasReadHead};
 ghost use Rattle.openmetrics_grammar.specs.Samples.{IsSampleOf, IsSampleIn, IsMaybeExemplarOf, maybe_in_range, exemplar_made};
 
 use crate::exemplar::{ExemplarRead, exemplar_of};
-use crate::labels::optional_list_at;
+use crate::labels::OptionalList;
 use crate::numbers::{StampAt, ValueAt, are_in_range, stamp_at, value_at};
 use exact_decimal::Number;
 use label_sets::{Memory, Name};
-use line_scan::{LineRead, LineRoom, MetricChar, cut_name, set_of};
-use page_model::{Exemplar, Item, Rule, Sample, Treatment};
+use line_scan::{Head, LineRead, LineRoom, head_at, set_of};
+use page_model::{Exemplar, Format, Item, Rule, Sample, Treatment};
 use std::alloc::Global;
 
 /// A sample as it is written, its numbers read. Its labels stand in the room of the line.
 #[derive(Drop)]
 pub(crate) struct SampleRead<'a> {
-    name: &'a [u8],
+    head: Head<'a>,
     value: Number,
     stamp: Option<Number>,
     exemplar: Option<ExemplarRead>,
@@ -44,15 +44,12 @@ pub(crate) fn sample_of<'a>(
     room: &mut LineRoom,
 ) -> Result<Option<SampleRead<'a>>, Memory>
     requires { IsUtf8 bytes.now }
-    ensures { IfOk result (λ read. MatchOption read (sample_of bytes.now ≡ None) (IsSampleIn (sample_of bytes.now) (line_labels room.new))) }
+    ensures { IfOk result (λ read. MatchOption read (sample_of bytes.now ≡ None) (IsSampleIn (sample_of bytes.now) room.new)) }
 {
-    let Some(name) = cut_name::<MetricChar>(bytes) else {
+    let Some(head) = head_at::<OptionalList>(alloc, bytes, room)? else {
         return Ok(None);
     };
-    let Some(rest) = optional_list_at(alloc, name.rest, room)? else {
-        return Ok(None);
-    };
-    let Some(value) = value_at(rest) else {
+    let Some(value) = value_at(head.rest) else {
         return Ok(None);
     };
     let Some(stamp) = stamp_at(value.rest) else {
@@ -63,7 +60,7 @@ pub(crate) fn sample_of<'a>(
     };
     let in_range = line_in_range(&value, &stamp, &exemplar);
     Ok(Some(SampleRead {
-        name: name.front,
+        head,
         value: value.value,
         stamp: stamp.stamp,
         exemplar,
@@ -100,19 +97,20 @@ pub(crate) fn made_sample(
     read: SampleRead<'_>,
     room: &mut LineRoom,
 ) -> Result<LineRead, Memory>
-    requires { IsUtf8 read.name.now }
-    ensures { (written : WrittenSample) → IsSampleOf written (line_labels room.old) read.entry → IfOk result (Reads OpenMetrics treatment (Some (sample written))) }
+    requires name { IsUtf8 read.head.name.now }
+    requires labels { HasReadHead OpenMetrics room.old read.head }
+    ensures { (written : WrittenSample) → IsSampleOf written room.old read.entry → IfOk result (Reads OpenMetrics treatment (Some (sample written))) }
 {
     if !read.in_range {
         return Ok(LineRead::Refused(Rule::Range));
     }
-    let Some(labels) = room.take_set(alloc, treatment)? else {
+    let Some(labels) = room.take_set(alloc, treatment, Format::OpenMetrics, read.head)? else {
         return Ok(LineRead::Refused(Rule::Labels));
     };
     let Some(exemplar) = made_exemplar(alloc, treatment, read.exemplar)? else {
         return Ok(LineRead::Refused(Rule::Labels));
     };
-    let name = Name::from_utf8(alloc, read.name)?;
+    let name = Name::from_utf8(alloc, read.head.name)?;
     Ok(LineRead::Item(Item::Sample(Sample {
         name,
         labels,

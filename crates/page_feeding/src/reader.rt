@@ -12,7 +12,7 @@ ghost use Rattle.page_lines.specs.declared.Step.TheVariants.{Line, More, TooLong
 use crate::grammar::{Grammar, read_line};
 use family_rules::Checker;
 use label_sets::Memory;
-use line_scan::{KnownSets, LineRead, LineRoom};
+use line_scan::{KnownFronts, LineRead, LineRoom};
 use page_lines::{Last, Lines, Step};
 use page_model::{Page, PageCounts, PageFault, Rule, Treatment};
 use std::alloc::Global;
@@ -88,30 +88,27 @@ impl<G: Grammar> PageReader<G> {
     pub fn new(alloc: Global, treatment: Treatment, limit: u32) -> Result<PageReader<G>, Memory>
         ensures { IfOk result (Stands G.format treatment limit []) }
     {
-        let lines = Lines::new(alloc, line_limit(treatment))?;
-        let checker = Checker::new(alloc, G::format(), treatment, limit)?;
-        let known = KnownSets::none(alloc);
-        Ok(PageReader::over(alloc, treatment, lines, checker, known))
+        PageReader::with_fronts(alloc, treatment, limit, KnownFronts::none(alloc))
     }
 
-    /// A reader that was fed nothing, for a page that mostly has the series of the page before it, in the same order. A
-    /// sample that spells a label set of that page shares it, so less memory is taken; the answers are those of any reader.
+    /// A reader that was fed nothing, for a page that mostly has the lines of an earlier page of the same target, in the
+    /// same order: a sample line that begins with a front that is known is not read again up to its value, and shares its
+    /// label set. So less time and memory is taken; the answers are those of any reader.
     ///
     /// # Errors
     ///
     /// Want of memory.
-    pub fn beside(
+    pub fn with_fronts(
         alloc: Global,
         treatment: Treatment,
         limit: u32,
-        before: &Page,
+        fronts: KnownFronts,
     ) -> Result<PageReader<G>, Memory>
         ensures { IfOk result (Stands G.format treatment limit []) }
     {
-        let known = KnownSets::of(before)?;
-        let mut reader = PageReader::new(alloc, treatment, limit)?;
-        reader.room.known = known;
-        Ok(reader)
+        let lines = Lines::new(alloc, line_limit(treatment))?;
+        let checker = Checker::new(alloc, G::format(), treatment, limit)?;
+        Ok(PageReader::over(alloc, treatment, lines, checker, fronts))
     }
 
     /// A reader that was fed nothing, for a page that will be counted: it takes less memory, and `finish` more time.
@@ -128,8 +125,8 @@ impl<G: Grammar> PageReader<G> {
     {
         let lines = Lines::new(alloc, line_limit(treatment))?;
         let checker = Checker::counting(alloc, G::format(), treatment, limit)?;
-        let known = KnownSets::none(alloc);
-        Ok(PageReader::over(alloc, treatment, lines, checker, known))
+        let fronts = KnownFronts::none(alloc);
+        Ok(PageReader::over(alloc, treatment, lines, checker, fronts))
     }
 
     /// A reader that was fed nothing, over lines that were fed nothing and a checker that has taken no line.
@@ -138,7 +135,7 @@ impl<G: Grammar> PageReader<G> {
         treatment: Treatment,
         lines: Lines,
         checker: Checker,
-        known: KnownSets,
+        fronts: KnownFronts,
     ) -> PageReader<G>
         requires most { lines.most ≡ line_limit treatment }
         requires fed { lines.fed ≡ 0 }
@@ -151,7 +148,7 @@ impl<G: Grammar> PageReader<G> {
             treatment,
             lines,
             checker,
-            room: LineRoom::new(alloc, known),
+            room: LineRoom::new(alloc, fronts),
             stopped: None,
             grammar: PhantomData,
         }
@@ -300,24 +297,30 @@ impl<G: Grammar> PageReader<G> {
         }
     }
 
-    /// The checker of the page.
-    fn into_checker(self) -> Checker
-        ensures { result ≡ self.checker }
+    /// The checker of the page, and the room of its lines.
+    fn into_parts(self) -> (Checker, LineRoom)
+        ensures { result.0 ≡ self.checker }
     {
-        self.checker
+        (self.checker, self.room)
     }
 
     /// Gives the page up, of which nothing is asked any more.
     pub fn leave(self) {}
 
-    /// Takes what is left of the lines, and gives the checker that took them all.
-    fn end(self) -> Result<(Checker, PageEnd), PageFault>
+    /// Takes what is left of the lines, and gives the checker that took them all. The fronts for the next page are left
+    /// in `fronts`.
+    fn end(self, fronts: &mut KnownFronts) -> Result<(Checker, PageEnd), PageFault>
         ensures answer { (t : AnyTreatment) (limit : ℕ) (fed : List ℕ) → Stands G.format t limit fed self → LastAnswer G.format t limit fed result }
         ensures stopped { (fault : AnyFault) → HasStopped fault self → result ≡ Err fault }
     {
         let mut page = self;
+        let alloc = page.alloc;
         match page.read_rest() {
-            Ok(end) => Ok((page.into_checker(), end)),
+            Ok(end) => {
+                let (checker, room) = page.into_parts();
+                *fronts = room.into_fronts(alloc);
+                Ok((checker, end))
+            }
             Err(fault) => {
                 page.leave();
                 Err(fault)
@@ -335,7 +338,20 @@ impl<G: Grammar> PageReader<G> {
         ensures answer { (t : AnyTreatment) (limit : ℕ) (fed : List ℕ) → Stands G.format t limit fed self → Answers (setting_of G.format t limit) fed result }
         ensures stopped { (fault : AnyFault) → HasStopped fault self → result ≡ Err fault }
     {
-        match self.end() {
+        let mut fronts = KnownFronts::none(self.alloc);
+        self.finish_with(&mut fronts)
+    }
+
+    /// Ends the page as `finish` does, and leaves its fronts for the next page of the same target in `fronts`.
+    ///
+    /// # Errors
+    ///
+    /// As `finish`.
+    pub fn finish_with(self, fronts: &mut KnownFronts) -> Result<Page, PageFault>
+        ensures answer { (t : AnyTreatment) (limit : ℕ) (fed : List ℕ) → Stands G.format t limit fed self → Answers (setting_of G.format t limit) fed result }
+        ensures stopped { (fault : AnyFault) → HasStopped fault self → result ≡ Err fault }
+    {
+        match self.end(fronts) {
             Ok((checker, end)) => checker.close(end.line, end.clean),
             Err(fault) => Err(fault),
         }
@@ -350,7 +366,8 @@ impl<G: Grammar> PageReader<G> {
         ensures answer { (t : AnyTreatment) (limit : ℕ) (fed : List ℕ) → Stands G.format t limit fed self → CountAnswers (setting_of G.format t limit) fed result }
         ensures stopped { (fault : AnyFault) → HasStopped fault self → result ≡ Err fault }
     {
-        match self.end() {
+        let mut fronts = KnownFronts::none(self.alloc);
+        match self.end(&mut fronts) {
             Ok((checker, end)) => checker.count(end.line, end.clean),
             Err(fault) => Err(fault),
         }

@@ -9,6 +9,7 @@ ghost use Rattle.page_feeding.specs.PageFeeding.{HasStopped, Answers, CountAnswe
 ghost use Rattle.page_reader.specs.AnyReading.{fed_of, StandsIn, TakesPieceIn};
 
 use label_sets::Memory;
+use line_scan::KnownFronts;
 use openmetrics_grammar::OpenPage;
 use page_model::{Format, Page, PageCounts, PageFault, Treatment};
 use std::alloc::Global;
@@ -50,41 +51,33 @@ impl AnyReader {
     ) -> Result<AnyReader, Memory>
         ensures { IfOk result (StandsIn format treatment limit []) }
     {
-        match format {
-            Format::Text => {
-                let page = TextPage::new(alloc, treatment, limit)?;
-                Ok(AnyReader::Text(page))
-            }
-            Format::OpenMetrics => {
-                let page = OpenPage::new(alloc, treatment, limit)?;
-                Ok(AnyReader::OpenMetrics(page))
-            }
-        }
+        AnyReader::with_fronts(alloc, format, treatment, limit, KnownFronts::none(alloc))
     }
 
-    /// A reader that was fed nothing, for a page that mostly has the series of the page before it, in the same order. A
-    /// sample that spells a label set of that page shares it, so less memory is taken; the answers are those of any reader.
+    /// A reader that was fed nothing, for a page that mostly has the lines of an earlier page of the same target, in the
+    /// same order: a sample line that begins with a front that is known is not read again up to its value, and shares its
+    /// label set. So less time and memory is taken; the answers are those of any reader.
     ///
     /// # Errors
     ///
     /// Want of memory.
-    pub fn beside(
+    pub fn with_fronts(
         alloc: Global,
         format: Format,
         treatment: Treatment,
         limit: u32,
-        before: &Page,
+        fronts: KnownFronts,
     ) -> Result<AnyReader, Memory>
         ensures { IfOk result (StandsIn format treatment limit []) }
     {
         match format {
             Format::Text => {
-                let sharing = TextPage::beside(alloc, treatment, limit, before)?;
-                Ok(AnyReader::Text(sharing))
+                let page = TextPage::with_fronts(alloc, treatment, limit, fronts)?;
+                Ok(AnyReader::Text(page))
             }
             Format::OpenMetrics => {
-                let sharing = OpenPage::beside(alloc, treatment, limit, before)?;
-                Ok(AnyReader::OpenMetrics(sharing))
+                let page = OpenPage::with_fronts(alloc, treatment, limit, fronts)?;
+                Ok(AnyReader::OpenMetrics(page))
             }
         }
     }
@@ -163,6 +156,21 @@ impl AnyReader {
         match self {
             AnyReader::Text(page) => page.finish(),
             AnyReader::OpenMetrics(page) => page.finish(),
+        }
+    }
+
+    /// Ends the page as `finish` does, and leaves its fronts for the next page of the same target in `fronts`.
+    ///
+    /// # Errors
+    ///
+    /// As `finish`.
+    pub fn finish_with(self, fronts: &mut KnownFronts) -> Result<Page, PageFault>
+        ensures answer { (f : AnyFormat) (t : AnyTreatment) (limit : ℕ) (fed : List ℕ) → StandsIn f t limit fed self → Answers (setting_of f t limit) fed result }
+        ensures stopped { (fault : AnyFault) → HasStopped fault (fed_of self) → result ≡ Err fault }
+    {
+        match self {
+            AnyReader::Text(page) => page.finish_with(fronts),
+            AnyReader::OpenMetrics(page) => page.finish_with(fronts),
         }
     }
 

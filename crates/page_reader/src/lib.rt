@@ -4,3 +4,4 @@
 mod any_reader;
 
 pub use any_reader::AnyReader;
+pub use line_scan::KnownFronts;

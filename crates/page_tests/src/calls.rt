@@ -1,6 +1,6 @@
 //! The tests, and what they share.
-mod beside_calls;
 mod family_rules_calls;
+mod known_fronts_calls;
 mod open_writing_calls;
 mod openmetrics_grammar_calls;
 mod page_model_calls;

@@ -8,4 +8,5 @@ mod talk;
 mod turn;
 
 pub use bridge_ports::Target;
-pub use one_scrape::{outcome, scrape, scrape_beside};
+pub use one_scrape::{outcome, scrape, scrape_again};
+pub use page_reader::KnownFronts;

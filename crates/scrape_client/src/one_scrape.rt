@@ -12,8 +12,10 @@ use crate::talk::exchange;
 use bridge_ports::{End, Target, Wire};
 use http_talk::{Progress, get_text};
 use label_sets::Memory;
-use page_model::{Cause, Event, Outcome, Page};
+use page_model::{Cause, Event, Outcome};
+use page_reader::KnownFronts;
 use std::alloc::{AllocError, Global};
+use std::mem;
 
 /// Makes one talk over the wire, that begins once the clock reads `due` at least, in nanoseconds since the
 /// Unix epoch: it asks for the target's page, and reads until a verdict on the reply is there, or the talk
@@ -46,42 +48,25 @@ pub fn scrape<W: Wire>(
     ensures { ScrapeAnswer limit max_page target.now.address
         (W.state wire.old) (W.state wire.new) result }
 {
-    scrape_with(alloc, wire, target, due, limit, max_page, None)
+    let mut fronts = KnownFronts::none(alloc);
+    scrape_again(alloc, wire, target, due, limit, max_page, &mut fronts)
 }
 
-/// As [`scrape`], beside the page that was scraped before: what the two have in common may be kept once, and the event
-/// is the same.
+/// As [`scrape`], of a target that may have been scraped before: lines that begin as those of the page before are read
+/// in less time, and share their label sets with it. The event is the same. Where a page was read whole, its fronts are
+/// left in `fronts`; else there are none.
 ///
 /// # Errors
 ///
 /// Want of memory alone, as there.
-pub fn scrape_beside<W: Wire>(
+pub fn scrape_again<W: Wire>(
     alloc: Global,
     wire: &mut W,
     target: &Target,
     due: u64,
     limit: u32,
     max_page: u32,
-    before: &Page,
-) -> Result<Event, Memory>
-    requires free { (W.state wire.old).stage ≡ stages.Idle }
-    requires samples { IsSampleLimit limit }
-    requires page { IsBodyLimit max_page }
-    ensures { ScrapeAnswer limit max_page target.now.address
-        (W.state wire.old) (W.state wire.new) result }
-{
-    scrape_with(alloc, wire, target, due, limit, max_page, Some(before))
-}
-
-/// One scrape, beside the page before where there is one.
-fn scrape_with<W: Wire>(
-    alloc: Global,
-    wire: &mut W,
-    target: &Target,
-    due: u64,
-    limit: u32,
-    max_page: u32,
-    before: Option<&Page>,
+    fronts: &mut KnownFronts,
 ) -> Result<Event, Memory>
     requires free { (W.state wire.old).stage ≡ stages.Idle }
     requires samples { IsSampleLimit limit }
@@ -95,11 +80,12 @@ fn scrape_with<W: Wire>(
     let Ok(()) = wire.ready(alloc, 1, text.len() as u64) else {
         return Err(AllocError);
     };
-    let Ok(reply) = PageReply::new(alloc, limit, max_page, before) else {
+    let known = mem::replace(fronts, KnownFronts::new(alloc));
+    let Ok(reply) = PageReply::new(alloc, limit, max_page, known) else {
         return Err(AllocError);
     };
     let reading = wire.begin(due);
-    match exchange(wire, text.as_slice(), reply) {
+    match exchange(wire, text.as_slice(), reply, fronts) {
         Ok(outcome) => Ok(Event { reading, outcome }),
         Err(AllocError) => Err(AllocError),
     }
@@ -124,26 +110,32 @@ pub fn outcome(
     ensures { IfOk result (λ outcome. (at : ℕ) (sent : List ℕ) → HasOutcome limit max_page
         (record { at = at; sent = sent; got = got.now; end = end }) outcome) }
 {
-    match PageReply::new(alloc, limit, max_page, None) {
-        Ok(reply) => outcome_at(reply, got, end),
+    let mut fronts = KnownFronts::none(alloc);
+    match PageReply::new(alloc, limit, max_page, KnownFronts::none(alloc)) {
+        Ok(reply) => outcome_at(reply, got, end, &mut fronts),
         Err(AllocError) => Err(AllocError),
     }
 }
 
 /// What a reply of which nothing came comes to, once it is fed these bytes and the talk ends so.
-fn outcome_at(reply: PageReply<'_>, got: &[u8], end: End) -> Result<Outcome, Memory>
+fn outcome_at(
+    reply: PageReply,
+    got: &[u8],
+    end: End,
+    fronts: &mut KnownFronts,
+) -> Result<Outcome, Memory>
     requires fresh { ReadsPage reply.limit [] reply }
     requires ended { end ≢ ends.Left }
-    ensures { IfOk result (IsOutcomeAt reply.entry.limit (most_of reply.entry) got.now end) }
+    ensures { IfOk result (IsOutcomeAt reply.limit (most_of reply) got.now end) }
 {
     let mut reply = reply;
     match reply.feed_all(got) {
-        Ok(Progress::Whole) => reply.finish(),
+        Ok(Progress::Whole) => reply.finish(fronts),
         Ok(Progress::More) => match end {
             End::ConnectFailed => Ok(reply.fail(Cause::Connect)),
             End::WriteFailed => Ok(reply.fail(Cause::Write)),
             End::ReadFailed => Ok(reply.fail(Cause::Read)),
-            End::Ended | End::Left => reply.finish(),
+            End::Ended | End::Left => reply.finish(fronts),
         },
         Err(fault) => reply.refuse(fault),
     }

@@ -10,18 +10,19 @@ use crate::page_so_far::PageSoFar;
 use crate::turn::Turn;
 use http_talk::{Flow, Progress, ReplyFault, Stream};
 use label_sets::Memory;
-use page_model::{Cause, Outcome, Page};
+use page_model::{Cause, Outcome};
+use page_reader::KnownFronts;
 use std::alloc::{AllocError, Global};
 use std::mem;
 
 /// The reply of a scrape, whose page is read as it comes: of what it was fed it keeps the front of a head, and what
 /// the reader of the page keeps, the readings and one line.
-pub(crate) struct PageReply<'a> {
+pub(crate) struct PageReply {
     pub(crate) alloc: Global,
     /// The most samples of the page.
     pub(crate) limit: u32,
-    /// The page that was scraped before, whose label sets this one may share.
-    pub(crate) before: Option<&'a Page>,
+    /// The fronts of the page before, until its reader has them.
+    pub(crate) fronts: KnownFronts,
     pub(crate) stream: Stream,
     pub(crate) page: PageSoFar,
 }
@@ -46,14 +47,14 @@ fn fault_outcome(fault: ReplyFault) -> Result<Outcome, Memory>
     }
 }
 
-impl<'a> PageReply<'a> {
+impl PageReply {
     /// A reply of which nothing came, of a body of at most `max_page` bytes.
     pub(crate) fn new(
         alloc: Global,
         limit: u32,
         max_page: u32,
-        before: Option<&'a Page>,
-    ) -> Result<PageReply<'a>, Memory>
+        fronts: KnownFronts,
+    ) -> Result<PageReply, Memory>
         requires { IsBodyLimit max_page }
         ensures { IfOk result (λ reply. (most_of reply ≡ max_page) × ReadsPage limit [] reply) }
     {
@@ -61,7 +62,7 @@ impl<'a> PageReply<'a> {
         Ok(PageReply {
             alloc,
             limit,
-            before,
+            fronts,
             stream,
             page: PageSoFar::Unbegun,
         })
@@ -79,7 +80,8 @@ impl<'a> PageReply<'a> {
         match self.stream.feed(piece, &mut taken) {
             Ok(Flow::More) => Ok(Turn::Over(Progress::More)),
             Ok(Flow::Page(format)) => {
-                let page = PageSoFar::begin(self.alloc, format, self.limit, self.before);
+                let fronts = mem::replace(&mut self.fronts, KnownFronts::none(self.alloc));
+                let page = PageSoFar::begin(self.alloc, format, self.limit, fronts);
                 mem::replace(&mut self.page, page).leave();
                 Ok(Turn::On { taken })
             }
@@ -128,22 +130,23 @@ impl<'a> PageReply<'a> {
         self.feed(&piece[at..])
     }
 
-    /// What the reply comes to, of which no more bytes come.
-    pub(crate) fn finish(self) -> Result<Outcome, Memory>
+    /// What the reply comes to, of which no more bytes come. The fronts for the next page are left in `fronts`.
+    pub(crate) fn finish(self, fronts: &mut KnownFronts) -> Result<Outcome, Memory>
         requires { HasRead self }
-        ensures outcome { (limit : ℕ) (fed : List ℕ) → ReadsPage limit fed self.entry → (known : Judged) → IsJudged (most_of self.entry) fed known
+        ensures outcome { (limit : ℕ) (fed : List ℕ) → ReadsPage limit fed self → (known : Judged) → IsJudged (most_of self) fed known
             → IfOk result (IsOutcomeOf ends.Ended limit known) }
         ensures peer { IfOk result IsPeerOutcome }
     {
         let PageReply {
             alloc: _,
             limit: _,
-            before: _,
+            fronts: unused,
             stream,
             page,
         } = self;
+        drop(unused);
         match stream.finish() {
-            Ok(()) => page.end(),
+            Ok(()) => page.end(fronts),
             Err(fault) => {
                 page.leave();
                 fault_outcome(fault)
@@ -173,10 +176,11 @@ impl<'a> PageReply<'a> {
         let PageReply {
             alloc: _,
             limit: _,
-            before: _,
+            fronts,
             stream,
             page,
         } = self;
+        drop(fronts);
         drop(stream);
         page.leave();
     }

@@ -10,7 +10,7 @@ ghost use Rattle.scrape_client.specs.PageReplies.{PageHasRead, PageHasRoom, IsPa
 
 use label_sets::Memory;
 use page_model::{Cause, Format, Outcome, Page, PageFault, Treatment};
-use page_reader::AnyReader;
+use page_reader::{AnyReader, KnownFronts};
 use std::alloc::{AllocError, Global};
 use std::mem;
 
@@ -24,32 +24,12 @@ pub(crate) enum PageSoFar {
     Stopped(PageFault),
 }
 
-/// The reader of a page in this format, beside the page before where there is one.
-fn reader_of(
-    alloc: Global,
-    format: Format,
-    limit: u32,
-    before: Option<&Page>,
-) -> Result<AnyReader, Memory>
-    ensures { IfOk result (StandsIn format Scraped limit []) }
-{
-    match before {
-        Some(before) => AnyReader::beside(alloc, format, Treatment::Scraped, limit, before),
-        None => AnyReader::new(alloc, format, Treatment::Scraped, limit),
-    }
-}
-
 impl PageSoFar {
     /// A page in this format of which no byte came. `limit` is the most samples that it may have.
-    pub(crate) fn begin(
-        alloc: Global,
-        format: Format,
-        limit: u32,
-        before: Option<&Page>,
-    ) -> PageSoFar
+    pub(crate) fn begin(alloc: Global, format: Format, limit: u32, fronts: KnownFronts) -> PageSoFar
         ensures { PageHasRead limit format [] result }
     {
-        match reader_of(alloc, format, limit, before) {
+        match AnyReader::with_fronts(alloc, format, Treatment::Scraped, limit, fronts) {
             Ok(reader) => PageSoFar::Reading(reader),
             Err(AllocError) => PageSoFar::Stopped(PageFault::Memory),
         }
@@ -80,26 +60,26 @@ impl PageSoFar {
         }
     }
 
-    /// The page, or its first fault, once all of its bytes were taken.
-    fn finish(self) -> Result<Page, PageFault>
+    /// The page, or its first fault, once all of its bytes were taken. The fronts for the next page are left in `fronts`.
+    fn finish(self, fronts: &mut KnownFronts) -> Result<Page, PageFault>
         requires { IsPageBegun self }
         ensures { (limit : ℕ) (format : AnyFormat) (bytes : List ℕ) → PageHasRead limit format bytes self
             → Answers (setting_of format Scraped limit) bytes result }
     {
         match self {
             PageSoFar::Unbegun => unreachable!(),
-            PageSoFar::Reading(reader) => reader.finish(),
+            PageSoFar::Reading(reader) => reader.finish_with(fronts),
             PageSoFar::Stopped(fault) => Err(fault),
         }
     }
 
-    /// What the page comes to, once all of its bytes were taken.
-    pub(crate) fn end(self) -> Result<Outcome, Memory>
+    /// What the page comes to, once all of its bytes were taken. The fronts for the next page are left in `fronts`.
+    pub(crate) fn end(self, fronts: &mut KnownFronts) -> Result<Outcome, Memory>
         requires { IsPageBegun self }
         ensures { (limit : ℕ) (format : AnyFormat) (bytes : List ℕ) → PageHasRead limit format bytes self
             → IfOk result (IsPageOutcome limit format bytes) }
     {
-        match self.finish() {
+        match self.finish(fronts) {
             Ok(page) => Ok(Outcome::Page(page)),
             Err(PageFault::Refused { line, rule }) => {
                 let cause = Cause::Page { line, rule };

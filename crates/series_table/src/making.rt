@@ -16,8 +16,8 @@ use bridge_ports::{Address, TalkFault, Wire};
 use label_sets::Memory;
 use otlp_json::write;
 use otlp_tree::Request;
-use page_model::{Event, Outcome, Page, Shown};
-use scrape_client::scrape_beside;
+use page_model::{Event, Outcome, Shown};
+use scrape_client::{KnownFronts, scrape_again};
 use std::alloc::{AllocError, Global};
 use target_core::TargetState;
 
@@ -47,13 +47,11 @@ pub(crate) struct Prepared {
 
 /// What a visit goes by of those before it.
 #[derive(Clone, Copy)]
-pub(crate) struct Earlier<'a> {
+pub(crate) struct Earlier {
     /// When this visit is due, in nanoseconds since the Unix epoch.
     pub(crate) due: u64,
     /// How long the last body was, in bytes.
     pub(crate) last_len: usize,
-    /// The page of the last visit, as it is shown.
-    pub(crate) page: &'a Page,
 }
 
 /// When a visit is due behind so many others, of which the first had this reading.
@@ -75,13 +73,14 @@ fn has_failed(event: &Event) -> bool
     }
 }
 
-/// Scrapes once, and has the state take the event.
+/// Scrapes once, and has the state take the event. The fronts of its page are left in `fronts`.
 fn take_event<W: Wire>(
     alloc: Global,
     aim: &Aim,
     wire: &mut W,
     state: &mut TargetState,
-    earlier: Earlier<'_>,
+    fronts: &mut KnownFronts,
+    due: u64,
 ) -> Result<Taken, Memory>
     requires free { (W.state wire.old).stage ≡ stages.Idle }
     requires ranges { AreInRange aim.now.settings }
@@ -89,14 +88,14 @@ fn take_event<W: Wire>(
     ensures { TakesEvent aim.now (W.state wire.old) (W.state wire.new) state.old state.new result }
 {
     let settings = &aim.settings;
-    let Ok(event) = scrape_beside(
+    let Ok(event) = scrape_again(
         alloc,
         wire,
         &aim.target,
-        earlier.due,
+        due,
         settings.limit,
         settings.max_page,
-        earlier.page,
+        fronts,
     ) else {
         return Err(AllocError);
     };
@@ -170,7 +169,8 @@ pub(crate) fn prepare<W: Wire>(
     wire: &mut W,
     post: &mut W,
     state: &mut TargetState,
-    earlier: Earlier<'_>,
+    fronts: &mut KnownFronts,
+    earlier: Earlier,
 ) -> Result<Prepared, Memory>
     requires free { (W.state wire.old).stage ≡ stages.Idle }
     requires post_free { (W.state post.old).stage ≡ stages.Idle }
@@ -178,7 +178,7 @@ pub(crate) fn prepare<W: Wire>(
     requires next { HasNextMoment state.old.moment }
     ensures { Prepares aim.now (W.state wire.old) (W.state wire.new) (W.state post.old) (W.state post.new) state.old state.new result }
 {
-    let Ok(taken) = take_event(alloc, aim, wire, state, earlier) else {
+    let Ok(taken) = take_event(alloc, aim, wire, state, fronts, earlier.due) else {
         return Err(AllocError);
     };
     let Ok(made) = all_made(alloc, &aim.to, taken, state, earlier.last_len) else {

@@ -17,6 +17,7 @@ use bridge_ports::{Address, BodyFault, Notice, Settings, TalkFault, Target, Wire
 use label_sets::Memory;
 use otlp_sender::post_parts;
 use page_model::Shown;
+use scrape_client::KnownFronts;
 use std::alloc::Global;
 use std::marker::Model;
 use std::mem;
@@ -29,6 +30,8 @@ pub struct Track<W: Wire> {
     scrape: W,
     post: W,
     state: TargetState,
+    /// The fronts of the page that was scraped last.
+    fronts: KnownFronts,
     /// The reading of the first visit, in nanoseconds since the Unix epoch.
     first: Option<u64>,
     shown: Shown,
@@ -103,6 +106,7 @@ impl<W: Wire> Track<W> {
                 scrape,
                 post,
                 state,
+                fronts: KnownFronts::new(alloc),
                 first: None,
                 shown,
                 second: None,
@@ -177,7 +181,6 @@ impl<W: Wire> Track<W> {
         let earlier = Earlier {
             due,
             last_len: self.last_len,
-            page: &self.shown.page,
         };
         match prepare(
             alloc,
@@ -185,6 +188,7 @@ impl<W: Wire> Track<W> {
             &mut self.scrape,
             &mut self.post,
             &mut self.state,
+            &mut self.fronts,
             earlier,
         ) {
             Ok(made) => {
@@ -261,6 +265,7 @@ impl<W: Wire> Track<W> {
             scrape,
             post,
             state,
+            fronts,
             first: _,
             shown,
             second,
@@ -272,6 +277,7 @@ impl<W: Wire> Track<W> {
         } = self;
         drop(aim);
         drop(state);
+        drop(fronts);
         drop(shown);
         drop(second);
         (scrape, post)

@@ -1,7 +1,8 @@
 -- Labels, step by step.
-use Rattle.std.proofs.Common.{◌≡◌, ℕ, suc, ◌-◌, Bool, true, false, List, [], ◌∷◌, length, Option, Some, None, refl, sym, ◌∙◌, arith, IsUtf8}
+use Rattle.std.proofs.Common.{◌≡◌, ℕ, suc, Bool, true, false, List, [], ◌∷◌, ◌++◌, length, Option, Some, None, refl, sym, ap, ◌∙◌, append_assoc, IsUtf8}
 use Rattle.std.specs.Option.{option_or}
-use Rattle.std.specs.Prelude.{take_while}
+use Rattle.std.specs.Prelude.{take_while, option_map}
+use Rattle.std.proofs.lemmas.List.{append-nil}
 use Rattle.label_sets.specs.declared.label.Label.{Label}
 use Rattle.label_sets.specs.Lists.{◌>>=◌, when_true, rest_while, behind}
 use Rattle.label_sets.specs.Names.{is_label_name, is_label_char}
@@ -11,10 +12,9 @@ use Rattle.page_model.specs.TextReading.{label_at, labels_at, middle_at, middle_
 use Rattle.line_scan.specs.declared.scan.Cut.{Cut}
 use Rattle.line_scan.specs.declared.labels.AfterLabel.{AfterLabel}
 use Rattle.line_scan.specs.declared.labels.AfterLabel.TheVariants.{End, More, Broken}
-use Rattle.line_scan.specs.declared.labels.NextLabel.{NextLabel}
-use Rattle.line_scan.specs.LabelReading.{labels_behind, labels_from, IsAfter, IsNext, IsTextAfter}
+use Rattle.line_scan.specs.LabelReading.{behind_labels, IsAfter, IsNext}
 use Rattle.line_scan.specs.Cuts.{IsNamed}
-use Rattle.text_grammar.specs.LabelReading.{opened_at, then_blanks}
+use Rattle.text_grammar.specs.LabelReading.{opened_at}
 
 -- ---- a label
 
@@ -50,41 +50,31 @@ labels_after : (cs : List ℕ) (x : Label × List ℕ) → behind (125 ∷ []) c
 unfolding labels_at
 labels_after cs x none found more w e = rw (← e, none, found) refl
 
-pub next-end : (w cs rest : List ℕ) → cs ≡ without_leading_blanks w → Some rest ≡ behind (125 ∷ []) cs → (more : ℕ) → labels_at (suc more) w ≡ Some ([], rest)
+pub next-end : (w cs rest : List ℕ) (before : List Label) → cs ≡ without_leading_blanks w → Some rest ≡ behind (125 ∷ []) cs → (more : ℕ) → behind_labels before (labels_at (suc more) w) ≡ Some (before, rest)
 unfolding labels_at
-next-end w cs rest e h more = rw (← e, ← h) refl
+next-end w cs rest before e h more = rw (← e, ← h, append-nil) refl
 
 pub next-broken : (w cs : List ℕ) → cs ≡ without_leading_blanks w → None ≡ behind (125 ∷ []) cs → label_at cs ≡ None → (more : ℕ) → labels_at (suc more) w ≡ None
 unfolding labels_at
 next-broken w cs e h none more = rw (← e, ← h, none) refl
 
+grown_labels : (before : List Label) (l : Label) (o : Option (List Label × List ℕ)) → behind_labels before (o >>= λ y. Some (l ∷ y.0, y.1)) ≡ behind_labels (before ++ l ∷ []) o
+grown_labels before l None = refl
+grown_labels before l (Some y) = ap (λ (ls : List Label). Some (ls, y.1)) (sym (append_assoc before (l ∷ []) y.0))
+
 -- behind a label
-pub next-label : (w cs rest : List ℕ) (l : Label) (follows : AfterLabel) → cs ≡ without_leading_blanks w → None ≡ behind (125 ∷ []) cs → label_at cs ≡ Some (l, rest) → IsAfter rest follows
-    → (more : ℕ) → labels_at (suc more) w ≡ (labels_behind labels_at more follows >>= λ y. Some (l ∷ y.0, y.1))
-next-label w cs rest l (End r) e none found h more = labels_after cs (l, rest) (sym none) found more w e ∙ rw h.0 refl
-next-label w cs rest l (More r) e none found h more = labels_after cs (l, rest) (sym none) found more w e ∙ rw (h.0, h.1) refl
-next-label w cs rest l Broken e none found h more = labels_after cs (l, rest) (sym none) found more w e ∙ rw (h.0, h.1) refl
-
-pub text_after : (rest : List ℕ) (follows : AfterLabel) → IsUtf8 rest → IsAfter rest follows → IsTextAfter follows
-text_after rest (End r) u h = h.1 u
-text_after rest (More r) u h = h.2 u
-text_after rest Broken u h = tt
-
--- behind what comes first fewer are left than there are bytes
-pub from-first : (inner : List ℕ) (first : NextLabel) → IsNext labels_at inner first → labels_at (length inner) inner ≡ labels_from labels_at (length inner - 1) first
-unfolding labels_at label_at
-from-first [] first h = h.found 0
-from-first (c ∷ cs) first h =
-    let fewer : length (c ∷ cs) - 1 ≡ length cs = omega arith in
-    rw fewer (h.found (length cs))
-
-module _ (inner : List ℕ) (first : NextLabel) (h : IsNext labels_at inner first) (most : ℕ) (fewer : most ≡ length inner - 1) where
-  pub braced-some : (labels : List Label) (rest blank : List ℕ) → Some (labels, rest) ≡ labels_from labels_at most first → blank ≡ without_leading_blanks rest
-      → Some (labels, blank) ≡ then_blanks (labels_at (length inner) inner)
-  braced-some labels rest blank found e = rw (from-first inner first h, ← fewer, ← found, e) refl
-
-  pub braced-none : None ≡ labels_from labels_at most first → None ≡ then_blanks (labels_at (length inner) inner)
-  braced-none found = rw (from-first inner first h, ← fewer, ← found) refl
+pub next-label : (w cs rest : List ℕ) (before after : List Label) (l : Label) (next : AfterLabel) → cs ≡ without_leading_blanks w → None ≡ behind (125 ∷ []) cs → label_at cs ≡ Some (l, rest)
+    → after ≡ before ++ l ∷ [] → IsUtf8 rest → IsAfter rest next → IsNext labels_at w before after next
+next-label w cs rest before after l (End r) e none found grown u h = (
+  h.1 u,
+  λ more. ap (behind_labels before) (labels_after cs (l, rest) (sym none) found more w e) ∙ rw (h.0, grown) refl,
+)
+next-label w cs rest before after l (More r) e none found grown u h = (
+  h.2 u,
+  λ more. ap (behind_labels before) (labels_after cs (l, rest) (sym none) found more w e) ∙ rw (h.0, h.1, grown) (grown_labels before l (labels_at more r.now)),
+)
+next-label w cs rest before after l Broken e none found grown u h = λ more.
+    labels_after cs (l, rest) (sym none) found more w e ∙ rw (h.0, h.1) refl
 
 -- ---- what stands between a name and a value
 
@@ -96,13 +86,9 @@ pub middle-blanks : (cs w : List ℕ) → w ≡ without_leading_blanks cs → No
 unfolding middle_at middle_from
 middle-blanks cs w e h = rw (← e, ← h) refl
 
-abbrev no_labels : List ℕ → List Label × List ℕ
-no_labels cs = ([], cs)
+abbrev pair_with : List Label → List ℕ → List Label × List ℕ
+pair_with ls cs = (ls, cs)
 
-pub blanks_some : (b : Bool) (x rest : List ℕ) → Some rest ≡ when_true b x → when_true b (no_labels x) ≡ Some ([], rest)
-blanks_some true x rest h = let e : rest ≡ x = cc in rw e refl
-blanks_some false x rest h = absurd cc
-
-pub blanks_none : (b : Bool) (x : List ℕ) → None ≡ when_true b x → None ≡ when_true b (no_labels x)
-blanks_none true x h = absurd cc
-blanks_none false x h = refl
+pub blanks_mapped : (b : Bool) (x : List ℕ) → option_map (λ cs. pair_with [] cs) (when_true b x) ≡ when_true b (pair_with [] x)
+blanks_mapped true x = refl
+blanks_mapped false x = refl

@@ -21,6 +21,9 @@ use Rattle.page_model.proofs.Laws.{while_parts, behind_parts, behind-append}
 use Rattle.std.proofs.lemmas.Bool.{cases_eq}
 use Rattle.line_scan.proofs.Laws.{other_byte, utf8_tail}
 use Rattle.line_scan.specs.declared.scan.Cut.{Cut}
+use Rattle.line_scan.specs.declared.head.Head.{Head}
+use Rattle.line_scan.specs.LineHeads.{IsHead}
+use Rattle.page_model.specs.LineHeads.{LineHead, head_of}
 use Rattle.line_scan.specs.declared.line.LineRead.{LineRead}
 use Rattle.line_scan.specs.declared.line.LineRead.TheVariants as reads
 use Rattle.line_scan.specs.Cuts.{IsNamed}
@@ -102,31 +105,40 @@ module _ (t : Treatment) (name : List ℕ) (labels : List Label) (v : List ℕ) 
   sample-made n (reads.Item item) e h m = (rw (token_number v (λ g. absurd cc), e, h, m.0) refl, rw (token_number v (λ g. absurd cc), e, m.1) refl)
   sample-made n (reads.Refused rule) e h m = rw (token_number v (λ g. absurd cc), e, h, m.0, m.1) refl
 
-pub sample-no_name : (cs : List ℕ) → is_metric_name (take_while is_metric_char cs) ≡ false → sample_of cs ≡ None
-unfolding sample_of
-sample-no_name cs h = rw h refl
+-- what a sample line says behind its head
+abbrev behind_head : LineHead → Option Written
+behind_head h =
+    when_true (is_number_token (take_while is_not_blank h.rest)) (take_while is_not_blank h.rest) >>= λ value. stamp_of (rest_while is_not_blank h.rest) >>= λ stamp. Some (written_sample h.name h.labels (take_while is_not_blank h.rest) stamp)
 
-module _ (cs : List ℕ) (cut : Cut) (n : IsNamed is_metric_name is_metric_char cs cut) where
-  pub sample-no_middle : None ≡ middle_at cut.rest.now → sample_of cs ≡ None
-  unfolding sample_of
-  sample-no_middle h = rw (n.named, ← n.rest, ← h) refl
+abbrev head_with : List ℕ → List Label × List ℕ → LineHead
+head_with name x = record { name = name; labels = x.0; rest = x.1 }
 
-  module _ (labels : List Label) (rest w r : List ℕ) (m : Some (labels, rest) ≡ middle_at cut.rest.now) (word : w ≡ take_while is_not_blank rest) (behind : r ≡ rest_while is_not_blank rest) where
-    pub sample-no_stamp : None ≡ stamp_of r → sample_of cs ≡ None
-    unfolding sample_of
-    sample-no_stamp h = rw (n.named, ← n.rest, ← m, ← word, ← behind, ← h) (go (is_number_token w))
-      where
-        go : (b : Bool) → ◌≡◌ {A = Option Written} (when_true b w >>= λ _. None) None
-        go true = refl
-        go false = refl
+by_head : (cs : List ℕ) → sample_of cs ≡ (head_of Text cs >>= behind_head)
+unfolding sample_of head_of
+by_head cs = go (when_true (is_metric_name (take_while is_metric_char cs)) (take_while is_metric_char cs)) (middle_at (rest_while is_metric_char cs))
+  where
+    go : (o : Option (List ℕ)) (m : Option (List Label × List ℕ)) → (o >>= λ _. m >>= λ x. behind_head (head_with (take_while is_metric_char cs) x)) ≡ ((o >>= λ _. m >>= λ x. Some (head_with (take_while is_metric_char cs) x)) >>= behind_head)
+    go None m = refl
+    go (Some name) None = refl
+    go (Some name) (Some x) = refl
 
-    pub sample-parts : (stamp : Option (List ℕ)) → Some stamp ≡ stamp_of r → sample_of cs ≡ when_true (is_number_token w) (written_sample cut.front.now labels w stamp)
-    unfolding sample_of
-    sample-parts stamp h = rw (n.named, ← n.rest, ← m, ← word, ← behind, ← h, n.front) (go (is_number_token w))
-      where
-        go : (b : Bool) → (when_true b w >>= λ _. Some (written_sample (take_while is_metric_char cs) labels w stamp)) ≡ when_true b (written_sample (take_while is_metric_char cs) labels w stamp)
-        go true = refl
-        go false = refl
+pub sample-no_head : (cs : List ℕ) → head_of Text cs ≡ None → sample_of cs ≡ None
+sample-no_head cs h = by_head cs ∙ rw h refl
+
+module _ (cs : List ℕ) (labels : List Label) (head : Head) (i : IsHead Text cs labels head) (w r : List ℕ) (word : w ≡ take_while is_not_blank head.rest.now) (behind : r ≡ rest_while is_not_blank head.rest.now) where
+  pub sample-no_stamp : None ≡ stamp_of r → sample_of cs ≡ None
+  sample-no_stamp h = by_head cs ∙ rw (i.found, ← word, ← behind, ← h) (go (is_number_token w))
+    where
+      go : (b : Bool) → ◌≡◌ {A = Option Written} (when_true b w >>= λ _. None) None
+      go true = refl
+      go false = refl
+
+  pub sample-parts : (stamp : Option (List ℕ)) → Some stamp ≡ stamp_of r → sample_of cs ≡ when_true (is_number_token w) (written_sample head.name.now labels w stamp)
+  sample-parts stamp h = by_head cs ∙ rw (i.found, ← word, ← behind, ← h) (go (is_number_token w))
+    where
+      go : (b : Bool) → (when_true b w >>= λ _. Some (written_sample head.name.now labels w stamp)) ≡ when_true b (written_sample head.name.now labels w stamp)
+      go true = refl
+      go false = refl
 
 -- ---- lines
 

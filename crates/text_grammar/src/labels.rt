@@ -1,18 +1,20 @@
 //! The labels of a sample (Prometheus text format 0.0.4, "Line format").
-ghost use Rattle.std.specs.Prelude.{◌≡◌, length, option_map, IfOk, IfSome, IsUtf8, MatchOption, None};
+ghost use Rattle.std.specs.Prelude.{◌≡◌, [], length, option_map, IfOk, IfSome, IsUtf8, MatchOption, None};
 ghost use Rattle.std.specs.Option.{option_copied};
-ghost use Rattle.page_model.specs.TextReading.{begins_blank, label_at, labels_at, middle_at};
+ghost use Rattle.page_model.specs.TextReading.{begins_blank, label_at, labels_at};
+ghost use Rattle.page_model.specs.declared.format.Format.TheVariants.{Text};
 ghost use Rattle.page_model.specs.TextItems.{without_leading_blanks};
 ghost use Rattle.label_sets.specs.Lists.{when_true};
 ghost use Rattle.line_scan.specs.LabelReading.{IsLabelFound};
-ghost use Rattle.line_scan.specs.LineLabels.{line_labels};
 ghost use Rattle.text_grammar.specs.LabelReading.{opened_at, then_blanks};
 
 use crate::blanks::{begins_blank, without_leading_blanks};
-use label_sets::Memory;
+use label_sets::{Label, Memory};
 use line_scan::{
-    LabelChar, LabelList, LabelParts, LineRoom, NextLabel, after_label, behind, cut_name, quoted_at,
+    AfterLabel, LabelChar, LabelList, LabelParts, SampleLabels, after_label, behind, cut_name,
+    label_of, labels_at, quoted_at,
 };
+use page_model::Format;
 use std::alloc::Global;
 
 /// What stands behind an equals sign and the quote that opens a value, with blanks in front of each.
@@ -38,7 +40,6 @@ fn opened_at(bytes: &[u8]) -> Option<&[u8]>
 }
 
 /// The label at the front.
-#[inline(always)]
 fn label_at(bytes: &[u8]) -> Option<LabelParts<'_>>
     ensures { MatchOption result (label_at bytes.now ≡ None) (IsLabelFound (label_at bytes.now) bytes.now) }
 {
@@ -60,7 +61,7 @@ fn label_at(bytes: &[u8]) -> Option<LabelParts<'_>>
 }
 
 /// The labels of a list with blanks between its parts.
-struct BlankedList;
+pub(crate) struct BlankedList;
 
 impl LabelList for BlankedList {
     ghost use Rattle.page_model.specs.TextReading.{labels_at};
@@ -68,16 +69,21 @@ impl LabelList for BlankedList {
 
     ghost labels_at = { labels_at };
 
-    #[inline(always)]
-    fn next_label(bytes: &[u8]) -> NextLabel<'_> {
+    fn next_label<'a>(
+        alloc: Global,
+        bytes: &'a [u8],
+        labels: &mut Vec<Label>,
+    ) -> Result<AfterLabel<'a>, Memory> {
         let bytes = without_leading_blanks(bytes);
         if let Some(after) = behind(b'}', bytes) {
-            return NextLabel::End(after);
+            return Ok(AfterLabel::End(after));
         }
-        match label_at(bytes) {
-            Some(parts) => NextLabel::Label(parts, after_label(parts.rest)),
-            None => NextLabel::Broken,
-        }
+        let Some(parts) = label_at(bytes) else {
+            return Ok(AfterLabel::Broken);
+        };
+        let label = label_of(alloc, parts)?;
+        labels.push(label)?;
+        Ok(after_label(parts.rest))
     }
 
     ghost nothing = { text-no_labels };
@@ -94,39 +100,39 @@ fn behind_blanks(bytes: &[u8]) -> Option<&[u8]>
     Some(without_leading_blanks(bytes))
 }
 
-/// Reads the labels behind an opening brace, and answers what stands behind them and blanks.
+/// Adds the labels behind an opening brace, and answers what stands behind them and blanks.
 fn braced_labels<'a>(
     alloc: Global,
     inner: &'a [u8],
-    room: &mut LineRoom,
+    labels: &mut Vec<Label>,
 ) -> Result<Option<&'a [u8]>, Memory>
-    requires { IsUtf8 inner.now }
-    ensures { IfOk result (λ rest. option_map (λ cs. (line_labels room.new, cs)) (option_copied rest)
+    requires text { IsUtf8 inner.now }
+    requires none { labels.old.items ≡ [] }
+    ensures labels { IfOk result (λ rest. option_map (λ cs. (labels.new.items, cs)) (option_copied rest)
         ≡ then_blanks (labels_at (length inner.now) inner.now)) }
+    ensures utf8 { IfOk result (λ rest. IfSome rest (λ behind. IsUtf8 behind.now)) }
 {
-    let first = BlankedList::next_label(inner);
-    // Each label takes a byte at least, and so does the first.
-    let most = inner.len().saturating_sub(1);
-    let Some(rest) = room.read_labels::<BlankedList>(alloc, most, first)? else {
+    let Some(rest) = labels_at::<BlankedList>(alloc, inner.len(), inner, labels)? else {
         return Ok(None);
     };
     Ok(Some(without_leading_blanks(rest)))
 }
 
-/// Reads the labels between a name and a value, and answers what stands behind them.
-pub(crate) fn middle_at<'a>(
-    alloc: Global,
-    bytes: &'a [u8],
-    room: &mut LineRoom,
-) -> Result<Option<&'a [u8]>, Memory>
-    requires { IsUtf8 bytes.now }
-    ensures { IfOk result (λ rest. option_map (λ cs. (line_labels room.new, cs)) (option_copied rest) ≡ middle_at bytes.now) }
-{
-    if let Some(inner) = behind(b'{', without_leading_blanks(bytes)) {
-        return braced_labels(alloc, inner, room);
+impl SampleLabels for BlankedList {
+    ghost format = { Text };
+
+    fn format() -> Format {
+        Format::Text
     }
-    match behind_blanks(bytes) {
-        Some(rest) => room.read_labels::<BlankedList>(alloc, 0, NextLabel::End(rest)),
-        None => Ok(None),
+
+    fn labels_behind<'a>(
+        alloc: Global,
+        bytes: &'a [u8],
+        labels: &mut Vec<Label>,
+    ) -> Result<Option<&'a [u8]>, Memory> {
+        match behind(b'{', without_leading_blanks(bytes)) {
+            Some(inner) => braced_labels(alloc, inner, labels),
+            None => Ok(behind_blanks(bytes)),
+        }
     }
 }

@@ -1,23 +1,24 @@
 //! What a line says (Prometheus text format 0.0.4, "Text format details").
-ghost use Rattle.std.specs.Prelude.{◌≡◌, ◌≤◌, ◌&&◌, ℕ, [], length, option_map, IfOk, IfSome, IsUtf8, MatchOption, true, false, None, Some, if◌then◌else◌};
+ghost use Rattle.std.specs.Prelude.{◌≡◌, ◌≤◌, ◌&&◌, ℕ, List, [], length, option_map, IfOk, IfSome, IsUtf8, MatchOption, true, false, None, Some, if◌then◌else◌};
 ghost use Rattle.std.specs.Option.{option_copied};
 ghost use Rattle.std.specs.Str.{bytes_eq};
 ghost use Rattle.page_model.specs.TextItems.{is_integer_token};
 ghost use Rattle.page_model.specs.TextReading.{kind_named, marked_of, named_at, sample_of};
 ghost use Rattle.page_model.specs.declared.format.Format.TheVariants.{Text};
 ghost use Rattle.page_model.specs.declared.format.Treatment.{Treatment as AnyTreatment};
-ghost use Rattle.line_scan.specs.LineLabels.{line_labels};
+ghost use Rattle.label_sets.specs.declared.label.Label.{Label as AnyLabel};
 ghost use Rattle.line_scan.specs.LineReading.{Reads};
+ghost use Rattle.line_scan.specs.LineRooms.{HasLabels, HasReadHead};
 ghost use Rattle.text_grammar.specs.LineReading.{IsNamedAt, Makes, help_of, type_of, valued_sample};
 
 use crate::blanks::{NotBlank, at_blank, trimmed, without_leading_blanks};
-use crate::labels::middle_at;
+use crate::labels::BlankedList;
 use crate::stamp::{optional_number, stamp_of};
 use exact_decimal::{Number, NumberFault};
 use label_sets::{Kind, Memory, Name};
 use line_scan::{
-    Cut, Escapes, LineRead, LineRoom, MetricChar, behind, cut_chars, cut_name, has_backslash,
-    is_word, unescaped_text,
+    Cut, Escapes, Head, LineRead, LineRoom, MetricChar, behind, cut_chars, cut_name, has_backslash,
+    head_at, is_word, unescaped_text,
 };
 use page_feeding::Grammar;
 use page_model::{Format, Item, Rule, Sample, Treatment};
@@ -104,24 +105,25 @@ fn marked_line(alloc: Global, bytes: &[u8]) -> Result<LineRead, Memory>
     Ok(LineRead::Item(Item::Comment))
 }
 
-/// The sample of a name, the labels that were read, and numbers. The labels are refused where two have one name or
-/// there are too many.
+/// The sample of a head, whose labels were read into the room, and numbers. The labels are refused where two have one
+/// name or there are too many.
 #[inline(always)]
 fn made_sample(
     alloc: Global,
     treatment: Treatment,
-    name: &[u8],
+    head: Head<'_>,
     room: &mut LineRoom,
     value: Number,
     stamp: Option<Number>,
 ) -> Result<LineRead, Memory>
-    requires { IsUtf8 name.now }
-    ensures { IfOk result (Makes treatment name.now (line_labels room.old) value stamp) }
+    requires name { IsUtf8 head.name.now }
+    requires labels { HasReadHead Text room.old head }
+    ensures { (labels : List AnyLabel) → HasLabels room.old labels → IfOk result (Makes treatment head.entry.name.now labels value stamp) }
 {
-    let Some(labels) = room.take_set(alloc, treatment)? else {
+    let Some(labels) = room.take_set(alloc, treatment, Format::Text, head)? else {
         return Ok(LineRead::Refused(Rule::Labels));
     };
-    let name = Name::from_utf8(alloc, name)?;
+    let name = Name::from_utf8(alloc, head.name)?;
     Ok(LineRead::Item(Item::Sample(Sample {
         name,
         labels,
@@ -131,20 +133,22 @@ fn made_sample(
     })))
 }
 
-/// The sample of a name, the labels that were read, and two tokens: first it is refused where the value is no
+/// The sample of a head, whose labels were read into the room, and two tokens: first it is refused where the value is no
 /// number, then where one of them is out of range, then by its labels.
 #[inline(always)]
 fn read_sample(
     alloc: Global,
     treatment: Treatment,
-    name: &[u8],
+    head: Head<'_>,
     room: &mut LineRoom,
     value: &[u8],
     stamp: Option<&[u8]>,
 ) -> Result<LineRead, Memory>
-    requires name { IsUtf8 name.now }
+    requires name { IsUtf8 head.name.now }
+    requires labels { HasReadHead Text room.old head }
     requires stamp { IfSome stamp (λ token. is_integer_token token.now ≡ true) }
-    ensures { IfOk result (Reads Text treatment (valued_sample name.now (line_labels room.old) value.now (option_copied stamp.entry))) }
+    ensures { (labels : List AnyLabel) → HasLabels room.old labels
+        → IfOk result (Reads Text treatment (valued_sample head.entry.name.now labels value.now (option_copied stamp.entry))) }
 {
     let value = match exact_decimal::read(value) {
         Ok(value) => value,
@@ -154,7 +158,7 @@ fn read_sample(
     let Some(stamp) = optional_number(stamp) else {
         return Ok(LineRead::Refused(Rule::Range));
     };
-    made_sample(alloc, treatment, name, room, value, stamp)
+    made_sample(alloc, treatment, head, room, value, stamp)
 }
 
 /// A sample line.
@@ -167,17 +171,14 @@ fn sample_line(
     requires { IsUtf8 bytes.now }
     ensures { IfOk result (Reads Text treatment (sample_of bytes.now)) }
 {
-    let Some(name) = cut_name::<MetricChar>(bytes) else {
+    let Some(head) = head_at::<BlankedList>(alloc, bytes, room)? else {
         return Ok(LineRead::Refused(Rule::Syntax));
     };
-    let Some(rest) = middle_at(alloc, name.rest, room)? else {
-        return Ok(LineRead::Refused(Rule::Syntax));
-    };
-    let value = cut_chars::<NotBlank>(rest);
+    let value = cut_chars::<NotBlank>(head.rest);
     let Some(stamp) = stamp_of(value.rest) else {
         return Ok(LineRead::Refused(Rule::Syntax));
     };
-    read_sample(alloc, treatment, name.front, room, value.front, stamp)
+    read_sample(alloc, treatment, head, room, value.front, stamp)
 }
 
 /// The lines of the text format.

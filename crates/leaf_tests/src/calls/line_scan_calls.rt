@@ -1,10 +1,10 @@
 //! Each call once, on bytes whose parts the grammars tell.
 
-use label_sets::{Label, LabelSet, Memory};
+use label_sets::Memory;
 use line_scan::{
-    AfterLabel, Blank, Cut, Escapes, KnownSets, LabelChar, LabelParts, LineRoom, MetricChar,
-    after_label, behind, behind_text, cut_chars, cut_name, has_backslash, is_word, label_of,
-    quoted_at, set_of, unescaped_text,
+    AfterLabel, Blank, Cut, Escapes, LabelChar, LabelParts, MetricChar, after_label, behind,
+    behind_text, cut_chars, cut_name, has_backslash, is_word, label_of, quoted_at, set_of,
+    unescaped_text,
 };
 use page_model::Treatment;
 use std::alloc::Global;
@@ -83,10 +83,13 @@ fn quoted_values(rt: HostRuntime) {
     assert!(rt; is_quoted(b"x\\\"y\",z", b"x\\\"y", b"z"));
 }
 
-/// One label.
-fn one_label(alloc: Global) -> Result<Vec<Label>, Memory> {
+/// How many labels the set of one label has.
+fn size_of_one(alloc: Global) -> Result<Option<usize>, Memory> {
+    let Some(name) = cut_name::<LabelChar>(b"a") else {
+        return Ok(None);
+    };
     let parts = LabelParts {
-        name: b"a",
+        name: name.front,
         written: b"v",
         has_backslash: has_backslash(b"v"),
         rest: b"",
@@ -94,44 +97,13 @@ fn one_label(alloc: Global) -> Result<Vec<Label>, Memory> {
     let label = label_of(alloc, parts)?;
     let mut labels = Vec::new(alloc);
     labels.push(label)?;
-    Ok(labels)
-}
-
-/// How many labels a set has, where there is one.
-fn size_of(set: Option<LabelSet>) -> Option<usize> {
-    match set {
-        Some(set) => Some(set.len()),
-        None => None,
+    match set_of(alloc, Treatment::Scraped, labels)? {
+        Some(set) => Ok(Some(set.len())),
+        None => Ok(None),
     }
-}
-
-/// How many labels the set of one label has.
-fn size_of_one(alloc: Global) -> Result<Option<usize>, Memory> {
-    let labels = one_label(alloc)?;
-    let set = set_of(alloc, Treatment::Scraped, labels)?;
-    Ok(size_of(set))
-}
-
-/// The same of a line with that label.
-fn size_of_line(alloc: Global) -> Result<Option<usize>, Memory> {
-    let labels = one_label(alloc)?;
-    let known = KnownSets::none(alloc);
-    let mut room = LineRoom {
-        known,
-        set: None,
-        labels,
-    };
-    let set = room.take_set(alloc, Treatment::Scraped)?;
-    drop(room);
-    Ok(size_of(set))
 }
 
 #[test]
 fn labels(rt: HostRuntime) {
     assert!(rt; size_of_one(rt.alloc()) == Ok(Some(1)));
-}
-
-#[test]
-fn labels_of_a_line(rt: HostRuntime) {
-    assert!(rt; size_of_line(rt.alloc()) == Ok(Some(1)));
 }

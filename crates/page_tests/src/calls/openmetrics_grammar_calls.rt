@@ -2,14 +2,14 @@
 
 use exact_decimal::Number;
 use label_sets::{Kind, LabelSet, Memory};
-use line_scan::{KnownSets, LineRead, LineRoom};
+use line_scan::{KnownFronts, LineRead, LineRoom};
 use openmetrics_grammar::OpenLines;
 use page_feeding::Grammar;
 use page_model::{Item, Rule, Sample, Treatment};
 use std::alloc::Global;
 
 fn read(alloc: Global, line: &[u8]) -> Result<LineRead, Memory> {
-    let mut room = LineRoom::new(alloc, KnownSets::none(alloc));
+    let mut room = LineRoom::new(alloc, KnownFronts::none(alloc));
     match std::str::from_utf8(line) {
         Ok(_) => OpenLines::read_text(alloc, Treatment::Scraped, line, &mut room),
         Err(_) => Ok(LineRead::Refused(Rule::Utf8)),

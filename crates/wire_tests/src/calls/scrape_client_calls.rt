@@ -8,8 +8,8 @@ use crate::calls::plans::{Planned, replies};
 use bridge_ports::{End, MemoryWire, Place};
 use label_sets::{List, Memory};
 use open_writing::write;
-use page_model::{Cause, Outcome, Page, Rule};
-use scrape_client::{outcome, scrape, scrape_beside};
+use page_model::{Cause, Outcome, Rule};
+use scrape_client::{KnownFronts, outcome, scrape, scrape_again};
 use std::alloc::{AllocError, Global};
 
 const CHUNKED: &[u8] =
@@ -93,23 +93,22 @@ fn outcome_of(alloc: Global, got: &[u8]) -> Result<Option<Cause>, Memory> {
     Ok(cause)
 }
 
-/// The page that these bytes of a talk come to; one without families where they come to none.
-fn page_of(alloc: Global, got: &[u8]) -> Result<Page, Memory> {
-    match outcome(alloc, got, End::Ended, 1_000, 1_024) {
-        Ok(Outcome::Page(page)) => Ok(page),
-        Ok(Outcome::Failed(_)) => Ok(Page::empty(alloc)),
-        Err(AllocError) => Err(AllocError),
-    }
-}
-
-/// What comes of scraping that page beside another one.
-fn labels_beside(alloc: Global, before: &Page) -> Result<Outcome, Memory> {
+/// What comes of scraping a target that sends these bytes, with the fronts of the scrape before.
+fn outcome_again(alloc: Global, reply: &[u8], fronts: &mut KnownFronts) -> Result<Outcome, Memory> {
     let target = target(alloc)?;
-    let mut wire = wire(alloc, (LABELS.as_bytes(), End::Ended), 16, &[])?;
-    let event = scrape_beside(alloc, &mut wire, &target, 0, 1_000, 1_024, before);
+    let mut wire = wire(alloc, (reply, End::Ended), 16, &[])?;
+    let event = scrape_again(alloc, &mut wire, &target, 0, 1_000, 1_024, fronts);
     drop(target);
     drop(wire);
     Ok(event?.outcome)
+}
+
+/// The fronts that a scrape leaves of a target that sends these bytes.
+fn fronts_of(alloc: Global, reply: &[u8]) -> Result<KnownFronts, Memory> {
+    let mut fronts = KnownFronts::new(alloc);
+    let outcome = outcome_again(alloc, reply, &mut fronts)?;
+    drop(outcome);
+    Ok(fronts)
 }
 
 /// Whether an outcome is that page.
@@ -125,11 +124,11 @@ fn are_labels(alloc: Global, outcome: &Outcome) -> Result<bool, Memory> {
     }
 }
 
-/// Whether that page is scraped beside the one of these bytes.
-fn are_scraped_beside(alloc: Global, before: &[u8]) -> Result<bool, Memory> {
-    let before = page_of(alloc, before)?;
-    let outcome = labels_beside(alloc, &before);
-    drop(before);
+/// Whether that page is scraped behind these bytes.
+fn are_scraped_behind(alloc: Global, before: &[u8]) -> Result<bool, Memory> {
+    let mut fronts = fronts_of(alloc, before)?;
+    let outcome = outcome_again(alloc, LABELS.as_bytes(), &mut fronts);
+    drop(fronts);
     let outcome = outcome?;
     let same = are_labels(alloc, &outcome);
     drop(outcome);
@@ -140,7 +139,7 @@ fn are_scraped_beside(alloc: Global, before: &[u8]) -> Result<bool, Memory> {
 fn page_before_changes_no_page(rt: HostRuntime) {
     const BEFORE: &[&str] = &[LABELS, OTHER_LABELS, ""];
     for before in BEFORE {
-        assert!(rt; are_scraped_beside(rt.alloc(), before.as_bytes()) == Ok(true));
+        assert!(rt; are_scraped_behind(rt.alloc(), before.as_bytes()) == Ok(true));
     }
 }
 

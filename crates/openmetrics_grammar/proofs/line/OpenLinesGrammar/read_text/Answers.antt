@@ -6,7 +6,6 @@ use Rattle.page_model.specs.OpenReading.{open_line_of, sample_of}
 use Rattle.line_scan.specs.LineReading.{Reads, says_fault}
 use Rattle.openmetrics_grammar.specs.Samples.{IsSampleIn}
 use Rattle.openmetrics_grammar.proofs.DescriptorSteps.{line-descriptor, line-sample, line-nothing}
-use Rattle.line_scan.specs.LineLabels.{line_labels}
 use Rattle.openmetrics_grammar.proofs.line.OpenLinesGrammar.read_text.Goals as goal
 
 pub returns-then-is_empty : goal.returns-then-is_empty
@@ -22,7 +21,7 @@ returns-in-Some c =
 pub returns-in-Some-2 : goal.returns-in-Some-2
 returns-in-Some-2 c =
     let some : 0 < length c.args.line.now = omega (arith, false-eqb _ 0 c.if-is_empty.ensures) in
-    let is : IsSampleIn (sample_of c.args.line.now) (line_labels c.sample_of.new.room) c.in-Some-2.read = rw c.in-Some-2.is at c.in_ok-read-in-None.ensures in
+    let is : IsSampleIn (sample_of c.args.line.now) c.sample_of.new.room c.in-Some-2.read = rw c.in-Some-2.is at c.in_ok-read-in-None.ensures in
     let read : IfOk c.made_sample.result (Reads OpenMetrics c.args.treatment (open_line_of c.args.line.now)) = rw (line-sample c.args.line.now some c.in-None.ensures.value, is.found_is) (c.made_sample.ensures is.written is.read) in
     read
 

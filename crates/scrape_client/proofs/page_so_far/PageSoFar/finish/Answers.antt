@@ -10,4 +10,4 @@ pub returns-in-Stopped : goal.returns-in-Stopped
 returns-in-Stopped c = λ limit format bytes x. refused_now c.in-Stopped.fault (setting_of format Scraped limit) bytes (subst (PageHasRead limit format bytes) c.in-Stopped.is x)
 
 pub returns-in-Reading : goal.returns-in-Reading
-returns-in-Reading c = λ limit format bytes x. c.finish.ensures.answer format Scraped limit bytes (subst (PageHasRead limit format bytes) c.in-Reading.is x)
+returns-in-Reading c = λ limit format bytes x. c.finish_with.ensures.answer format Scraped limit bytes (subst (PageHasRead limit format bytes) c.in-Reading.is x)
