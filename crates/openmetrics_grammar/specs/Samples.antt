@@ -2,7 +2,6 @@
 -- OpenMetrics 1.0, "ABNF" (sample, exemplar).
 use Rattle.std.specs.Prelude.{◌≡◌, ℕ, Bool, true, not, List, [], Option, Some, None, option_map, IsUtf8, if◌then◌else◌}
 use Rattle.std.specs.Str.{bytes_eq}
-use Rattle.label_sets.specs.declared.label.Label.{Label}
 use Rattle.label_sets.specs.Lists.{◌>>=◌, when_true, some_passes}
 use Rattle.exact_decimal.specs.Numbers.{number}
 use Rattle.page_model.specs.declared.format.Format.TheVariants.{OpenMetrics}

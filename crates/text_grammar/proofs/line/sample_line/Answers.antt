@@ -1,7 +1,6 @@
 use Rattle.std.proofs.Common.{ap}
 use Rattle.std.specs.Option.{option_copied}
 use Rattle.page_model.specs.declared.format.Format.TheVariants.{Text}
-use Rattle.page_model.specs.LineHeads.{head_of}
 use Rattle.line_scan.specs.LineReading.{says_fault}
 use Rattle.line_scan.specs.LineRooms.{IsHeadIn}
 use Rattle.text_grammar.proofs.LineSteps.{sample-no_head, sample-no_stamp, sample-parts}
