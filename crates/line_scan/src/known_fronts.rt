@@ -137,7 +137,8 @@ impl KnownFronts {
         if let Some(fresh) = mem::replace(&mut self.fresh, None) {
             self.lines = fresh;
         }
-        if self.missed > self.lines.len() / FEW {
+        // Where there are no fronts no line was missed.
+        if self.lines.is_empty() || self.missed > self.lines.len() / FEW {
             self.fresh = Some(Vec::new(alloc));
         }
         self.place = 0;
