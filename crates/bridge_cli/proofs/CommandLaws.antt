@@ -5,12 +5,11 @@ use Rattle.std.specs.Io.KnownBytes.{Appends}
 use Rattle.bridge_ports.specs.Inputs.{IsInput}
 use Rattle.bridge_ports.specs.Outside.{Outside}
 use Rattle.program_words.specs.declared.words.Command.{Command}
-use Rattle.program_words.specs.declared.words.Command.TheVariants.{Help, Version, Check, Convert, Replay, Run, Load}
+use Rattle.program_words.specs.declared.words.Command.TheVariants.{Help, Version, OverPage, Replay, Run, Load}
 use Rattle.program_words.specs.Statuses.{IsTold}
 use Rattle.program_words.specs.CommandWords.{Reading, of_nothing, of_input, of_file, command_row}
 use Rattle.page_commands.specs.PageAnswers.{page_setting}
-use Rattle.page_commands.specs.CheckTexts.{checked_text}
-use Rattle.page_commands.specs.ConvertTexts.{converted_text}
+use Rattle.page_commands.specs.PageTexts.{command_text}
 use Rattle.bridge_cli.specs.Answers.{Answers, Says, answers, unread, wanting, in_part}
 use Rattle.bridge_cli.specs.CommandReads.{IsAllTold}
 use Rattle.bridge_cli.specs.CommandRuns.{IsWritten, written_whole, written_part, IsAnswered, IsOnlyAnswer}
@@ -33,8 +32,7 @@ command_once : (command : Command) (before after : Outside) (bytes others : List
     → Answers command before after others r u → AreSame s r t u
 command_once Help before after bytes others s r t u same a b = fixed_once _ s r t u a b
 command_once Version before after bytes others s r t u same a b = fixed_once _ s r t u a b
-command_once (Check format) before after bytes others s r t u same a b = page_once_at (page_setting format) checked_text bytes others s r t u same a b
-command_once (Convert format target nanos) before after bytes others s r t u same a b = page_once_at (page_setting format) (converted_text target nanos) bytes others s r t u same a b
+command_once (OverPage format what) before after bytes others s r t u same a b = page_once_at (page_setting format) (command_text what) bytes others s r t u same a b
 command_once (Replay scrapers page) before after bytes others s r t u same a b = script_once_at (IsReplayWith page) (replay_with_once page) bytes others s r t u same a b
 command_once (Run path) before after bytes others s r t u same a b = absurd same
 command_once (Load number targets rounds) before after bytes others s r t u same a b = (a.done ∙ sym b.done, report_once (generated_script number targets rounds) t u a.reports b.reports)

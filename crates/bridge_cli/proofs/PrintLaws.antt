@@ -6,6 +6,7 @@ use Rattle.std.specs.Io.KnownBytes.{Appends}
 use Rattle.std.proofs.lemmas.Bool.{true≢false}
 use Rattle.bridge_ports.specs.Outside.{Outside}
 use Rattle.bridge_ports.specs.Writing.{WroteFront}
+use Rattle.page_model.specs.declared.format.Format.{Format}
 use Rattle.replay_script.specs.declared.script.Script.{Script}
 use Rattle.bridge_cli.specs.declared.answer.Printed.{Printed}
 use Rattle.bridge_cli.specs.declared.answer.Printed.TheVariants.{Whole, Tree, Bodies, Report}
@@ -16,7 +17,8 @@ use Rattle.program_words.specs.declared.status.Status.TheVariants as statuses
 use Rattle.program_words.specs.declared.stop.Stop.{Stop}
 use Rattle.program_words.specs.declared.stop.Stop.TheVariants as stops
 use Rattle.program_words.specs.declared.words.Command.{Command}
-use Rattle.program_words.specs.declared.words.Command.TheVariants.{Replay, Run, Load}
+use Rattle.program_words.specs.declared.words.Command.TheVariants.{OverPage, Replay, Run, Load}
+use Rattle.program_words.specs.declared.words.PageCommand.{PageCommand}
 use Rattle.program_words.specs.Statuses.{code_of, IsUntold, TellsFault}
 use Rattle.program_words.specs.CommandWords.{command_row, uses_shelf}
 use Rattle.program_words.specs.StopAnswers.{IsStopAnswer, said, wanting, StopsAs}
@@ -25,6 +27,8 @@ use Rattle.program_words.proofs.Laws.{same_text, stop_undone, stop_written, stop
 use Rattle.series_select.specs.declared.selector.Selector.{Selector}
 use Rattle.replay_script.specs.RightScripts.{IsRightScript}
 use Rattle.load_pages.specs.GeneratedScripts.{generated_script, TakesAllBodies}
+use Rattle.page_commands.specs.PageAnswers.{page_setting, IsPageAnswer}
+use Rattle.page_commands.specs.PageTexts.{command_text}
 use Rattle.script_commands.specs.Loads.{IsLoadReport, MayBeReported}
 use Rattle.script_commands.specs.ScriptAnswers.{script_done, IsReportAnswer}
 use Rattle.script_commands.specs.Printing.{cut_status, CutCause, CutsScript, PrintsReport, HoldsScript}
@@ -32,7 +36,7 @@ use Rattle.run_command.specs.RunReports.{IsReportOfRun}
 use Rattle.run_command.specs.RunAnswers.{run_status, run_over}
 use Rattle.bridge_cli.specs.Answers.{Answers, Says, SaysPieces, answers, unread, in_part}
 use Rattle.bridge_cli.specs.Answers as spec
-use Rattle.bridge_cli.specs.Printed.{Gives, GivesPart, IsNothing, IsPrintable, IsWhole, Ended, printed, stopped, AnswersVisits, IsPrintedOf, IsStopPrinted, IsReportPrinted, IsOver}
+use Rattle.bridge_cli.specs.Printed.{Gives, GivesPart, IsNothing, IsPrintable, IsWhole, Ended, printed, stopped, AnswersVisits, IsPrintedOf, IsStopPrinted, IsPageTextPrinted, IsReportPrinted, IsOver}
 use Rattle.bridge_cli.specs.Printed as ends
 
 -- ---- what is to be printed
@@ -90,6 +94,16 @@ whole_printed command left before after p is none gives = record {
   shelves = λ other. absurd (other is);
   visits = λ _. whole_visits command left p is none;
 }
+
+-- the text of a page
+pub page_text_printed : (format : Format) (what : PageCommand) (left : Option (List ℕ)) (before after : Outside) (text : List ℕ) (p : Printed) → IsPageTextPrinted text p
+    → HasAnswer (IsPageAnswer (page_setting format) (command_text what)) left (code_of statuses.Done) text → IsPrintedOf (OverPage format what) left before after statuses.Done p
+page_text_printed format what left before after text (Whole t) is has =
+    whole_printed (OverPage format what) left before after (Whole t) tt (λ e. absurd cc) (λ now u e. same_text (IsPageAnswer (page_setting format) (command_text what)) left _ text u has (e ∙ is))
+page_text_printed format what left before after text (Tree request) is has =
+    whole_printed (OverPage format what) left before after (Tree request) tt (λ e. absurd cc) (λ now u e. same_text (IsPageAnswer (page_setting format) (command_text what)) left _ text u has (e ∙ is))
+page_text_printed format what left before after text (Bodies script scrapers page) is has = absurd is
+page_text_printed format what left before after text (Report script) is has = absurd is
 
 -- the report of a run
 pub report_printed_of : (path : List ℕ) (left : Option (List ℕ)) (before after : Outside) (text : List ℕ) (halted : Bool) (status : Status) (p : Printed) → IsReportOfRun path before after text halted → status ≡ run_status halted

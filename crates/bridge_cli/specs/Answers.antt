@@ -4,12 +4,11 @@ use Rattle.bridge_ports.specs.Outside.{Outside}
 use Rattle.replay_script.specs.declared.script.Script.{Script}
 use Rattle.program_words.specs.declared.status.Status.TheVariants.{ReadFailed, WantOfMemory}
 use Rattle.program_words.specs.declared.words.Command.{Command}
-use Rattle.program_words.specs.declared.words.Command.TheVariants.{Help, Version, Check, Convert, Replay, Run, Load}
+use Rattle.program_words.specs.declared.words.Command.TheVariants.{Help, Version, OverPage, Replay, Run, Load}
 use Rattle.program_words.specs.Statuses.{code_of}
 use Rattle.program_words.specs.HelpTexts.{help_text, version_text, IsFixedAnswer}
 use Rattle.page_commands.specs.PageAnswers.{page_setting, IsPageAnswer}
-use Rattle.page_commands.specs.CheckTexts.{checked_text}
-use Rattle.page_commands.specs.ConvertTexts.{converted_text}
+use Rattle.page_commands.specs.PageTexts.{command_text}
 use Rattle.script_commands.specs.Replays.{IsReplayWith, MayBeCut}
 use Rattle.script_commands.specs.ScriptAnswers.{IsScriptInput, IsScriptAnswer, IsReportAnswer}
 use Rattle.load_pages.specs.GeneratedScripts.{generated_script}
@@ -20,8 +19,7 @@ use Rattle.run_command.specs.RunAnswers.{IsRunAnswer}
 abbrev pub Answers : Command → Outside → Outside → List ℕ → ℕ → List ℕ → Type 0
 Answers Help before after bytes = IsFixedAnswer help_text
 Answers Version before after bytes = IsFixedAnswer version_text
-Answers (Check format) before after bytes = IsPageAnswer (page_setting format) checked_text bytes
-Answers (Convert format target nanos) before after bytes = IsPageAnswer (page_setting format) (converted_text target nanos) bytes
+Answers (OverPage format what) before after bytes = IsPageAnswer (page_setting format) (command_text what) bytes
 Answers (Replay scrapers page) before after bytes = IsScriptAnswer (IsReplayWith page) bytes
 Answers (Run path) before after bytes = IsRunAnswer path before after
 Answers (Load number targets rounds) before after bytes = IsReportAnswer (generated_script number targets rounds)

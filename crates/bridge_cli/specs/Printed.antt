@@ -103,6 +103,13 @@ IsStopPrinted stop status (Tree request) = ⊥
 IsStopPrinted stop status (Bodies script scrapers page) = ⊥
 IsStopPrinted stop status (Report script) = ⊥
 
+-- this text of a page is what is to be printed, and all that it takes memory for is made
+abbrev pub IsPageTextPrinted : List ℕ → Printed → Type 0
+IsPageTextPrinted text (Whole t) = cow_slice_items t ≡ text
+IsPageTextPrinted text (Tree request) = request_text request ++ codes "\n" ≡ text
+IsPageTextPrinted text (Bodies script scrapers page) = ⊥
+IsPageTextPrinted text (Report script) = ⊥
+
 -- the report of a run is printed whole
 abbrev pub IsReportPrinted : List ℕ → Printed → Type 0
 IsReportPrinted text (Whole t) = cow_slice_items t ≡ text

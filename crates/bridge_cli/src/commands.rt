@@ -3,7 +3,8 @@ ghost use Rattle.std.specs.Prelude.{◌≡◌, None, false, IfOk, IfErr, IsOk};
 ghost use Rattle.program_words.specs.declared.status.Status.TheVariants.{Done};
 ghost use Rattle.bridge_cli.specs.Answers.{Answers};
 ghost use Rattle.bridge_cli.specs.CommandReads.{LeavesInput, LeavesRun, IsAlone, ReadsOf};
-ghost use Rattle.bridge_cli.specs.Printed.{IsOver, IsPrintedOf, IsReportPrinted};
+ghost use Rattle.page_commands.specs.PageTexts.{text_in};
+ghost use Rattle.bridge_cli.specs.Printed.{IsOver, IsPageTextPrinted, IsPrintedOf, IsReportPrinted};
 ghost use Rattle.program_words.specs.CommandWords.{command_row, scrapers_asked, takes_memory};
 ghost use Rattle.program_words.specs.StopAnswers.{StopsAs};
 ghost use Rattle.run_command.specs.RunAnswers.{run_status};
@@ -12,7 +13,7 @@ ghost use Rattle.world_run.specs.Unused.{AreUnused};
 use crate::answer::{Answer, Printed};
 use bridge_ports::{Conn, Door, Source, World};
 use load_pages::generated;
-use page_commands::{check, convert};
+use page_commands::PageText;
 use program_words::{Command, Status, Stop, help, version};
 use run_command::{Report, run};
 use script_commands::whole_script;
@@ -36,6 +37,16 @@ fn done(printed: Printed) -> Answer
     Answer {
         status: Status::Done,
         printed,
+    }
+}
+
+/// What is printed of a page.
+fn page_printed(text: PageText) -> Printed
+    ensures { IsPageTextPrinted (text_in text) result }
+{
+    match text {
+        PageText::Whole(text) => Printed::Whole(CowSlice::Owned(text)),
+        PageText::Tree(tree) => Printed::Tree(tree),
     }
 }
 
@@ -79,17 +90,9 @@ pub(crate) fn run_up_to_printing<
     match command {
         Command::Help => Ok(done(Printed::Whole(CowSlice::Borrowed(help())))),
         Command::Version => Ok(done(Printed::Whole(CowSlice::Borrowed(version())))),
-        Command::Check { format } => {
-            let text = check(alloc, format, input)?;
-            Ok(done(Printed::Whole(CowSlice::Owned(text))))
-        }
-        Command::Convert {
-            format,
-            target,
-            nanos,
-        } => {
-            let tree = convert(alloc, format, &target, nanos, input)?;
-            Ok(done(Printed::Tree(tree)))
+        Command::OverPage { format, what } => {
+            let text = page_commands::answer(alloc, format, what, input)?;
+            Ok(done(page_printed(text)))
         }
         Command::Replay { scrapers, page } => {
             let scrapers = scrapers_of(scrapers);

@@ -100,7 +100,8 @@ fn print<R: Threads + Wait + Sync, W: World, O: Sink>(
 /// # Example
 ///
 /// ```rust
-/// let command = Command::Check { format: Format::Text };
+/// let (format, what) = (Format::Text, PageCommand::Check);
+/// let command = Command::OverPage { format, what };
 /// let mut input = SureSource::new(Bytes::from_slice(alloc, b"# TYPE x counter\ny 1\nx 2\n")?);
 /// let mut output = MemorySink::new(alloc, 1_000, List::new(alloc))?;
 /// let status = execute(&rt, alloc, command, &mut world, &mut input, &mut output);

@@ -1,9 +1,7 @@
 //! The commands over one page: what they do with the page on an input.
 #![tactic(auto)]
 
-mod checking;
-mod converting;
+mod commands;
 mod pages;
 
-pub use checking::check;
-pub use converting::convert;
+pub use commands::{PageText, answer};

@@ -1,5 +1,5 @@
 -- The laws that have a line for each command, and what follows: words ask for one command.
-use Rattle.std.proofs.Common.{◌≡◌, ◌≢◌, ℕ, false, cond, List, [], ◌∷◌, ◌++◌, length, Option, Some, None, refl, sym, ap, ◌∙◌, arith}
+use Rattle.std.proofs.Common.{◌≡◌, ◌≢◌, ℕ, false, cond, List, [], ◌∷◌, ◌++◌, length, Option, Some, None, refl, sym, ap, ◌∙◌, inl, inr, arith}
 use Rattle.std.specs.Prelude.{codes, bytes_eq}
 use Rattle.std.specs.Fmt.{decimal}
 use Rattle.std.specs.Str.Parse.{digits_value}
@@ -7,17 +7,18 @@ use Rattle.std.proofs.lemmas.Fmt.{decimal_is_IsNumeral}
 use Rattle.page_model.specs.declared.format.Format.{Format}
 use Rattle.page_model.specs.declared.format.Format.TheVariants.{Text, OpenMetrics}
 use Rattle.program_words.specs.declared.words.Command.{Command}
-use Rattle.program_words.specs.declared.words.Command.TheVariants.{Help, Version, Check, Convert, Replay, Run, Load}
+use Rattle.program_words.specs.declared.words.Command.TheVariants.{Help, Version, OverPage, Replay, Run, Load}
+use Rattle.program_words.specs.declared.words.PageCommand.{PageCommand}
 use Rattle.replay_script.specs.ScriptParts.{format_word}
 use Rattle.series_select.specs.declared.selector.Selector.{Selector}
 use Rattle.series_select.specs.Selectors.{SpellEach}
 use Rattle.series_select.specs.SelectorReading.{selector_in}
 use Rattle.series_select.proofs.Laws.{selector_complete}
-use Rattle.program_words.specs.CommandWords.{word_if, ArePageWords, AreScrapers, IsCommand, command_row, takes_memory}
+use Rattle.program_words.specs.CommandWords.{word_if, ArePageWords, AreScrapers, PageLimits, page_verb, page_arguments, page_words, IsCommand, command_row, takes_memory}
 use Rattle.program_words.specs.WordSteps.{FitNoOther, is_replay}
 use Rattle.std.proofs.lemmas.Bool.{true≢false}
 use Rattle.program_words.proofs.WordLaws.{number_no_page}
-use Rattle.program_words.proofs.PlaceLaws.{target_of, told_target}
+use Rattle.program_words.proofs.PageWords.{other_verb, arguments_number, told_page_command, page_command_told}
 
 -- the command of one word
 abbrev lone_command : List ℕ → Command
@@ -73,18 +74,32 @@ replay_told (Some n) page behind few are =
 
 -- ---- the words of all commands
 
--- the command other than a replay whose words these are, if they are those of one
+-- the load of the words behind `load`
+abbrev told_load : List (List ℕ) → Command
+told_load (number ∷ targets ∷ rounds ∷ []) = Load (digits_value 10 number) (digits_value 10 targets) (digits_value 10 rounds)
+told_load _ = Help
+
+-- the command of other words whose words these are, if they are those of one
 abbrev told_other : List (List ℕ) → Command
+told_other (verb ∷ word ∷ behind) = cond (bytes_eq verb (codes "run")) (Run word) (OverPage (told_format word) (told_page_command verb behind))
 told_other (word ∷ []) = lone_command word
-told_other (verb ∷ word ∷ []) = cond (bytes_eq verb (codes "run")) (Run word) (Check (told_format word))
-told_other (verb ∷ format ∷ job ∷ instance ∷ time ∷ []) = Convert (told_format format) (target_of job instance) (digits_value 10 time)
-told_other (verb ∷ number ∷ targets ∷ rounds ∷ []) = Load (digits_value 10 number) (digits_value 10 targets) (digits_value 10 rounds)
-told_other _ = Help
+told_other [] = Help
 
 -- the command whose words these are, if they are those of one
 abbrev told_by : List (List ℕ) → Command
 told_by [] = Help
-told_by (verb ∷ words) = cond (bytes_eq verb (codes "replay")) (told_replay words) (told_other (verb ∷ words))
+told_by (verb ∷ words) = cond (bytes_eq verb (codes "replay")) (told_replay words) (cond (bytes_eq verb (codes "load")) (told_load words) (told_other (verb ∷ words)))
+
+-- a command over a page is told by its words
+over_page_told : (format : Format) (what : PageCommand) → PageLimits what → told_by (page_words format what) ≡ OverPage format what
+over_page_told format what limits =
+    let verb = page_verb what in
+    let behind = format_word format ∷ page_arguments what in
+    let other = other_verb what in
+    ap (λ t. cond t (told_replay behind) (cond (bytes_eq verb (codes "load")) (told_load behind) (told_other (verb ∷ behind)))) other.no_replay
+    ∙ ap (λ t. cond t (told_load behind) (told_other (verb ∷ behind))) other.no_load
+    ∙ ap (λ t. cond t (Run (format_word format)) (OverPage (told_format (format_word format)) (told_page_command verb (page_arguments what)))) other.no_run
+    ∙ ap (λ f. OverPage f (told_page_command verb (page_arguments what))) (format_told format) ∙ ap (OverPage format) (page_command_told what limits)
 
 -- the words of a command tell it
 told : (command : Command) (words : List (List ℕ)) → (command_row command).words words → (command_row command).limits → told_by words ≡ command
@@ -98,11 +113,7 @@ told (Load number targets rounds) words spelled limits =
     let r = (decimal_is_IsNumeral rounds (omega (arith, limits.few_rounds))).1 in
     ap told_by spelled
     ∙ ap (λ m. Load m (digits_value 10 (decimal targets)) (digits_value 10 (decimal rounds))) n ∙ ap (λ m. Load number m (digits_value 10 (decimal rounds))) t ∙ ap (Load number targets) r
-told (Check format) words spelled limits = ap told_by spelled ∙ ap Check (format_told format)
-told (Convert format target nanos) words spelled limits =
-    ap told_by spelled
-    ∙ ap (λ f. Convert f (target_of target.job target.instance) (digits_value 10 (decimal nanos))) (format_told format)
-    ∙ ap (λ t. Convert format t (digits_value 10 (decimal nanos))) (told_target target limits.0) ∙ ap (Convert format target) (decimal_is_IsNumeral nanos (omega (arith, limits.1))).1
+told (OverPage format what) words spelled limits = ap told_by spelled ∙ over_page_told format what limits
 
 -- words of another number fit no form but, maybe, one of a replay
 pub other_number : (words : List (List ℕ)) → length words ≢ 1 → length words ≢ 2 → length words ≢ 4 → length words ≢ 5 → FitNoOther words
@@ -112,8 +123,10 @@ other_number words one two four five command other asked = by command other aske
     by Help other spelled = one (ap (length {A = List ℕ}) spelled)
     by Version other spelled = one (ap (length {A = List ℕ}) spelled)
     by (Run path) other spelled = two (ap (length {A = List ℕ}) spelled)
-    by (Check f) other spelled = two (ap (length {A = List ℕ}) spelled)
-    by (Convert f target nanos) other spelled = five (ap (length {A = List ℕ}) spelled)
+    by (OverPage f what) other spelled = elim (arguments_number what) [
+      | inl none ↦ two (omega (arith, ap (length {A = List ℕ}) spelled, none))
+      | inr three ↦ five (omega (arith, ap (length {A = List ℕ}) spelled, three))
+    ]
     by (Load n t r) other spelled = four (ap (length {A = List ℕ}) spelled)
     by (Replay s page) other spelled = true≢false other
 

@@ -1,6 +1,7 @@
+mod PlaceLaws
+mod PageWords
 mod WordLaws
 mod ReplayWords
-mod PlaceLaws
 mod CommandLaws
 mod AnswerLaws
 mod StatusLaws

@@ -11,9 +11,10 @@ use Rattle.series_select.specs.declared.selector.Selector.{Selector}
 use Rattle.series_select.specs.Selectors.{SpellsSelector, IsNoSelector, SpellEach}
 use Rattle.series_select.proofs.Laws.{selector_told, selector_complete, spelled_length, spelled-more}
 use Rattle.program_words.specs.declared.words.Command.{Command}
-use Rattle.program_words.specs.declared.words.Command.TheVariants.{Replay}
+use Rattle.program_words.specs.declared.words.Command.TheVariants.{OverPage, Replay}
 use Rattle.program_words.specs.CommandWords.{word_if, ArePageWords, AreFewSelectors, command_row, IsCommand, FitNoForm, AskFor, takes_memory}
 use Rattle.program_words.specs.WordSteps.{FitNoOther, AskForNoReplay, is_selector, are_page_words, AreCutAt, SayNoScrapers}
+use Rattle.program_words.proofs.PageWords.{other_verb, unlike}
 use Rattle.program_words.proofs.WordLaws.{number_no_page}
 
 -- ---- words that are selectors
@@ -120,12 +121,6 @@ same_rest (Some n) None rest behind (Some list) e no_more few limits are =
     let named : decimal n ≡ codes "page" = cc in
     absurd (true≢false (sym ((bytes_eq-Decides (decimal n) (codes "page")).1 named) ∙ number_no_page n few.0.1))
 
--- words that begin in another way are others
-unlike : (a b : List ℕ) (xs ys : List (List ℕ)) → a ∷ xs ≡ b ∷ ys → bytes_eq a b ≡ false → ⊥
-unlike a b xs ys e other =
-    let same : a ≡ b = cc in
-    true≢false (sym ((bytes_eq-Decides a b).1 same) ∙ other)
-
 pub no_replay : (words rest : List (List ℕ)) (scrapers : Option ℕ) → AreCutAt words scrapers rest → are_page_words rest ≡ false → FitNoForm (codes "replay" ∷ words)
 no_replay words rest scrapers cut none command asked = by command asked.spelled asked.limits
   where
@@ -135,6 +130,7 @@ no_replay words rest scrapers cut none command asked = by command asked.spelled 
         let same : words ≡ word_if s ++ behind = cc in
         let rest_is : rest ≡ behind = same_rest scrapers s rest behind page (sym cut.spelled ∙ same) cut.no_more (cut.limits, tt) limits spelled.2 in
         true≢false (sym (page_fits page behind spelled.2 limits.1) ∙ ap are_page_words (sym rest_is) ∙ none)
+    by (OverPage f what) spelled limits = unlike _ (codes "replay") _ words (sym spelled) (other_verb what).no_replay
     by _ spelled limits = unlike (codes "replay") _ words _ spelled refl
 
 -- ---- the words of all commands

@@ -16,7 +16,9 @@ use Rattle.program_words.specs.Limits.{most_instance_host, most_nanos, most_scra
 use Rattle.program_words.specs.CommandWords.{IsCommand, command_row, SaysScrapers, place_target}
 use Rattle.program_words.specs.WordSteps.{FitNoOther, is_replay}
 use Rattle.program_words.specs.declared.words.Command.{Command}
-use Rattle.program_words.specs.declared.words.Command.TheVariants.{Convert, Replay, Load}
+use Rattle.program_words.specs.declared.words.Command.TheVariants.{OverPage, Replay, Load}
+use Rattle.program_words.specs.declared.words.PageCommand.TheVariants.{Convert}
+use Rattle.program_words.proofs.PageWords.{other_verb, unlike}
 
 -- a list of five by its elements
 five : {A : Type 0} (xs : List A) (a b c d e : A) → 5 ≤ length xs → length xs < 6 → a ≡ get_or xs 0 a → b ≡ get_or xs 1 b → c ≡ get_or xs 2 c → d ≡ get_or xs 3 d → e ≡ get_or xs 4 e
@@ -61,7 +63,7 @@ no_format bytes xs a b c d e format low high at0 at1 at2 at3 at4 is none command
     by command other (subst (command_row command).words (sym (ap (map bytes) (five xs a b c d e low high at0 at1 at2 at3 at4))) asked.spelled)
   where
     by : (command : Command) → is_replay command ≡ false → (command_row command).words (bytes a ∷ bytes b ∷ bytes c ∷ bytes d ∷ bytes e ∷ []) → ⊥
-    by (Convert f target nanos) other spelled = let named : bytes b ≡ format_word f = cc in none f (is ∙ named)
+    by (OverPage f what) other spelled = let named : bytes b ≡ format_word f = cc in none f (is ∙ named)
     by (Replay scrapers page) other spelled = true≢false other
     by _ other spelled = absurd cc
 
@@ -78,7 +80,7 @@ time_of time bytes nanos same is = (sym same ∙ is.0, is.1)
 
 -- the words of a conversion
 pub conversion_is : (format : Format) (job instance time host : List ℕ) (port nanos : ℕ) → 1 ≤ length job → length job ≤ most_job_bytes → IsHostAndPort most_instance_host instance host port → time ≡ decimal nanos → nanos ≤ most_nanos
-    → IsCommand (codes "convert" ∷ format_word format ∷ job ∷ instance ∷ time ∷ []) (Convert format (place_target job instance host port) nanos)
+    → IsCommand (codes "convert" ∷ format_word format ∷ job ∷ instance ∷ time ∷ []) (OverPage format (Convert (place_target job instance host port) nanos))
 unfolding place_target
 conversion_is format job instance time host port nanos some short place e small = record {
   spelled = ap (λ t. codes "convert" ∷ format_word format ∷ job ∷ instance ∷ t ∷ []) e;
@@ -136,6 +138,7 @@ no_load number targets rounds none command other asked = by command other asked.
         let a : number ≡ decimal n = cc in
         let b : targets ≡ decimal t = cc in
         let c : rounds ≡ decimal r = cc in none n t r limits a b c
+    by (OverPage f what) other limits spelled = unlike _ (codes "load") _ (number ∷ targets ∷ rounds ∷ []) (sym spelled) (other_verb what).no_load
     by _ other limits spelled = absurd cc
 
 -- numbers that are no load

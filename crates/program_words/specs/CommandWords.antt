@@ -9,7 +9,9 @@ use Rattle.load_pages.specs.GeneratedScripts.{IsLoad}
 use Rattle.series_select.specs.declared.selector.Selector.{Selector}
 use Rattle.series_select.specs.Selectors.{SpellEach}
 use Rattle.program_words.specs.declared.words.Command.{Command}
-use Rattle.program_words.specs.declared.words.Command.TheVariants.{Help, Version, Check, Convert, Replay, Run, Load}
+use Rattle.program_words.specs.declared.words.Command.TheVariants.{Help, Version, OverPage, Replay, Run, Load}
+use Rattle.program_words.specs.declared.words.PageCommand.{PageCommand}
+use Rattle.program_words.specs.declared.words.PageCommand.TheVariants.{Check, Convert}
 use Rattle.program_words.specs.Limits.{most_page, most_script, most_config, most_nanos, most_instance_host, most_scrapers, most_selectors}
 
 -- what is scraped of a host and a port: its metrics, whose times do not count
@@ -82,9 +84,24 @@ pub record CommandRow : Type 1 where
 abbrev pub AreReplayWords : Option ℕ → Option (List Selector) → List (List ℕ) → Type 0
 AreReplayWords scrapers page words = (behind : List (List ℕ)) × (words ≡ codes "replay" ∷ (word_if scrapers ++ behind)) × ArePageWords page behind
 
--- the words of a conversion
-abbrev pub convert_words : Format → Scraped → ℕ → List (List ℕ)
-convert_words format target nanos = codes "convert" ∷ format_word format ∷ target.job ∷ target.instance ∷ decimal nanos ∷ []
+-- the word that a command over a page begins with
+abbrev pub page_verb : PageCommand → List ℕ
+page_verb Check = codes "check"
+page_verb (Convert target nanos) = codes "convert"
+
+-- its words behind the format
+abbrev pub page_arguments : PageCommand → List (List ℕ)
+page_arguments Check = []
+page_arguments (Convert target nanos) = target.job ∷ target.instance ∷ decimal nanos ∷ []
+
+-- the words of a command over a page
+abbrev pub page_words : Format → PageCommand → List (List ℕ)
+page_words format what = page_verb what ∷ format_word format ∷ page_arguments what
+
+-- the ranges of the arguments of a command over a page
+abbrev pub PageLimits : PageCommand → Type 0
+PageLimits Check = ⊤
+PageLimits (Convert target nanos) = IsTarget target × (nanos ≤ most_nanos)
 
 -- the words of a load
 abbrev pub load_words : ℕ → ℕ → ℕ → List (List ℕ)
@@ -94,16 +111,15 @@ load_words number targets rounds = codes "load" ∷ decimal number ∷ decimal t
 abbrev pub fixed_row : List ℕ → CommandRow
 fixed_row word = record { words = λ words. words ≡ word ∷ []; limits = ⊤; reads = of_nothing; uses = uses_nothing; takes_memory = false; prints_pieces = false }
 
--- a command over the page on the input, with these words and limits
-abbrev pub page_row : List (List ℕ) → Type 0 → CommandRow
-page_row spelled Limits = record { words = λ words. words ≡ spelled; limits = Limits; reads = of_input most_page; uses = uses_nothing; takes_memory = true; prints_pieces = false }
+-- a command over the page on the input
+abbrev pub page_row : Format → PageCommand → CommandRow
+page_row format what = record { words = λ words. words ≡ page_words format what; limits = PageLimits what; reads = of_input most_page; uses = uses_nothing; takes_memory = true; prints_pieces = false }
 
 -- the table of the commands
 abbrev pub command_row : Command → CommandRow
 command_row Help = fixed_row (codes "--help")
 command_row Version = fixed_row (codes "--version")
-command_row (Check format) = page_row (codes "check" ∷ format_word format ∷ []) ⊤
-command_row (Convert format target nanos) = page_row (convert_words format target nanos) (IsTarget target × (nanos ≤ most_nanos))
+command_row (OverPage format what) = page_row format what
 command_row (Replay scrapers page) = record { words = AreReplayWords scrapers page; limits = AreScrapers scrapers × AreFewSelectors page; reads = of_input most_script; uses = uses_shelf; takes_memory = true; prints_pieces = true }
 command_row (Run path) = record { words = λ words. words ≡ codes "run" ∷ path ∷ []; limits = ⊤; reads = of_file path most_config; uses = uses_wires path; takes_memory = true; prints_pieces = true }
 command_row (Load number targets rounds) = record { words = λ words. words ≡ load_words number targets rounds; limits = IsLoad number targets rounds; reads = of_nothing; uses = uses_shelf; takes_memory = true; prints_pieces = true }

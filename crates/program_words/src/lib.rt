@@ -16,4 +16,4 @@ pub use status::{Status, end_code};
 pub use stop::Stop;
 pub use stop_texts::stop_text;
 pub use usage::{help, no_form, version};
-pub use words::{Command, command_of};
+pub use words::{Command, PageCommand, command_of};

@@ -9,6 +9,20 @@ use label_sets::{List, Text};
 use page_model::Format;
 use series_select::Selector;
 
+/// What a command asks of a page.
+#[derive(Drop)]
+pub enum PageCommand {
+    /// Whether it has a fault.
+    Check,
+    /// The one event that it is.
+    Convert {
+        /// The job and the instance that the page is of.
+        target: Target,
+        /// The time of the event, in nanoseconds since the Unix epoch, at most 2^62.
+        nanos: u64,
+    },
+}
+
 /// What the words of the command line ask for.
 #[derive(Drop)]
 pub enum Command {
@@ -16,19 +30,12 @@ pub enum Command {
     Help,
     /// The name and version of the program.
     Version,
-    /// Whether a page has a fault.
-    Check {
+    /// What is asked of a page.
+    OverPage {
         /// The format of the page.
         format: Format,
-    },
-    /// One event of a page.
-    Convert {
-        /// The format of the page.
-        format: Format,
-        /// The job and the instance that the page is of.
-        target: Target,
-        /// The time of the event, in nanoseconds since the Unix epoch, at most 2^62.
-        nanos: u64,
+        /// What is asked of it.
+        what: PageCommand,
     },
     /// What the scrapes of a script become.
     Replay {

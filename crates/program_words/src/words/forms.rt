@@ -7,9 +7,9 @@ ghost use Rattle.std.specs.Fmt.{decimal};
 ghost use Rattle.load_pages.specs.GeneratedScripts.{most_load_number};
 ghost use Rattle.replay_script.specs.ScriptParts.{format_word};
 
-use super::Command;
 use super::replay::replay_of;
 use super::target::target;
+use super::{Command, PageCommand};
 use crate::limits::{MOST_INSTANCE_HOST_BYTES, MOST_NANOS};
 use bridge_ports::MOST_JOB_BYTES;
 use label_sets::Text;
@@ -46,7 +46,10 @@ fn check_of(format: &str) -> Option<Command>
     ensures none { IfNone result (FitNoOther (codes "check" ∷ format.now ∷ [])) }
 {
     match format_named(format) {
-        Some(format) => Some(Command::Check { format }),
+        Some(format) => Some(Command::OverPage {
+            format,
+            what: PageCommand::Check,
+        }),
         None => None,
     }
 }
@@ -157,10 +160,9 @@ fn conversion(
         None => return Ok(None),
     };
     let target = target(alloc, job, instance, place.host, place.port)?;
-    Ok(Some(Command::Convert {
+    Ok(Some(Command::OverPage {
         format,
-        target,
-        nanos,
+        what: PageCommand::Convert { target, nanos },
     }))
 }
 
@@ -224,7 +226,7 @@ fn behind_replay(words: &[String]) -> Option<&[String]>
 /// ```rust
 /// let words = [String::from_str(alloc, "check")?, String::from_str(alloc, "text")?];
 /// let command = command_of(alloc, &words)?;
-/// assert!(rt; matches!(command, Some(Command::Check { format: Format::Text })));
+/// assert!(rt; matches!(command, Some(Command::OverPage { format: Format::Text, what: PageCommand::Check })));
 /// assert!(rt; command_of(alloc, &[])?.is_none());
 /// ```
 pub fn command_of(alloc: Global, words: &[String]) -> Result<Option<Command>, AllocError>

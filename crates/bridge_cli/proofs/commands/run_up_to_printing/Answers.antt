@@ -1,16 +1,15 @@
 use Rattle.std.proofs.Common.{◌∙◌}
-use Rattle.program_words.specs.declared.words.Command.TheVariants.{Help, Version, Check, Convert}
+use Rattle.program_words.specs.declared.words.Command.TheVariants.{Help, Version}
 use Rattle.program_words.specs.HelpTexts.{help_text, version_text}
 use Rattle.program_words.specs.StopAnswers.{StopsAs}
-use Rattle.program_words.proofs.Laws.{fixed_answer, stop_has, same_text}
+use Rattle.program_words.proofs.Laws.{fixed_answer, stop_has}
 use Rattle.script_commands.specs.ScriptAnswers.{IsScriptAnswer}
 use Rattle.script_commands.specs.Replays.{IsReplayWith}
 use Rattle.page_commands.specs.PageAnswers.{page_setting, IsPageAnswer}
-use Rattle.page_commands.specs.CheckTexts.{checked_text}
-use Rattle.page_commands.specs.ConvertTexts.{converted_text}
+use Rattle.page_commands.specs.PageTexts.{command_text}
 use Rattle.run_command.specs.RunAnswers.{IsRunAnswer}
 use Rattle.run_command.proofs.Laws.{run_stops, report_left}
-use Rattle.bridge_cli.proofs.PrintLaws.{whole_printed, bodies_printed, report_printed, report_printed_of}
+use Rattle.bridge_cli.proofs.PrintLaws.{whole_printed, page_text_printed, bodies_printed, report_printed, report_printed_of}
 use Rattle.bridge_cli.proofs.commands.run_up_to_printing.Goals as goal
 
 pub returns-in-Help-clause-printed : goal.returns-in-Help-clause-printed
@@ -20,27 +19,14 @@ pub returns-in-Version-clause-printed : goal.returns-in-Version-clause-printed
 returns-in-Version-clause-printed g c =
     rw (c.in-Version.is, c.done-in-Version.ensures.status, c.done-in-Version.ensures.printed) (whole_printed Version _ _ _ _ tt (λ e. absurd cc) (λ now text e. fixed_answer _ version_text text (e ∙ c.version.ensures)))
 
-pub returns-in_ok-text-in-Check-clause-printed : goal.returns-in_ok-text-in-Check-clause-printed
-returns-in_ok-text-in-Check-clause-printed g c =
-    rw (c.in-Check.is, c.done-in-Check.ensures.status, c.done-in-Check.ensures.printed) (
-    whole_printed (Check c.in-Check.format) _ _ _ _ tt (λ e. absurd cc)
-    (λ now text e. same_text (IsPageAnswer (page_setting c.in-Check.format) checked_text) _ _ _ text c.in_ok-text-in-Check.ensures.text e))
+pub returns-in_ok-text-in-OverPage-clause-printed : goal.returns-in_ok-text-in-OverPage-clause-printed
+returns-in_ok-text-in-OverPage-clause-printed g c =
+    rw (c.in-OverPage.is, c.done-in-OverPage.ensures.status, c.done-in-OverPage.ensures.printed) (
+    page_text_printed c.in-OverPage.format c.in-OverPage.what _ _ _ _ c.page_printed.result c.page_printed.ensures c.in_ok-text-in-OverPage.ensures.text)
 
-pub returns-in_ok-tree-in-Convert-clause-printed : goal.returns-in_ok-tree-in-Convert-clause-printed
-returns-in_ok-tree-in-Convert-clause-printed g c =
-    rw (c.in-Convert.is, c.done-in-Convert.ensures.status, c.done-in-Convert.ensures.printed) (
-    whole_printed (Convert c.in-Convert.format c.in-Convert.target c.in-Convert.nanos) _ _ _ _ tt (λ e. absurd cc)
-    (λ now text e. same_text (IsPageAnswer (page_setting c.in-Convert.format) (converted_text c.in-Convert.target c.in-Convert.nanos)) _ _ _ text c.in_ok-tree-in-Convert.ensures.text e))
-
-pub returns-in_err-text-in-Check-clause-stop : goal.returns-in_err-text-in-Check-clause-stop
-returns-in_err-text-in-Check-clause-stop g c =
-    rw c.in-Check.is (stop_has (StopsAs (IsPageAnswer (page_setting c.in-Check.format) checked_text) _) _ _ c.from_residual.ensures.1 c.in_err-text-in-Check.ensures.stop)
-
-pub returns-in_err-tree-in-Convert-clause-stop : goal.returns-in_err-tree-in-Convert-clause-stop
-returns-in_err-tree-in-Convert-clause-stop g c =
-    rw c.in-Convert.is (
-    stop_has (StopsAs (IsPageAnswer (page_setting c.in-Convert.format) (converted_text c.in-Convert.target c.in-Convert.nanos)) _) _ _
-    c.from_residual-in_err-tree-in-Convert.ensures.1 c.in_err-tree-in-Convert.ensures.stop)
+pub returns-in_err-text-in-OverPage-clause-stop : goal.returns-in_err-text-in-OverPage-clause-stop
+returns-in_err-text-in-OverPage-clause-stop g c =
+    rw c.in-OverPage.is (stop_has (StopsAs (IsPageAnswer (page_setting c.in-OverPage.format) (command_text c.in-OverPage.what)) _) _ _ c.from_residual.ensures.1 c.in_err-text-in-OverPage.ensures.stop)
 
 pub returns-in_ok-script-in-Replay-clause-printed : goal.returns-in_ok-script-in-Replay-clause-printed
 returns-in_ok-script-in-Replay-clause-printed g c =

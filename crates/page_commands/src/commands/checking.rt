@@ -35,15 +35,11 @@ fn counted_text(alloc: Global, counts: PageCounts) -> Result<Vec<u8>, AllocError
 /// # Errors
 ///
 /// The page has a fault or is too long, a read failed, or memory was wanted: [`Stop`] tells which.
-///
-/// # Example
-///
-/// ```rust
-/// let mut input = SureSource::new(Bytes::from_slice(alloc, b"# TYPE t gauge\nt 36.6\n")?);
-/// let text = check(alloc, Format::Text, &mut input)?;
-/// assert_eq!(rt; text.as_slice(), b"ok 1 families 1 samples\n".as_slice());
-/// ```
-pub fn check<I: Source>(alloc: Global, format: Format, input: &mut I) -> Result<Vec<u8>, Stop>
+pub(crate) fn check<I: Source>(
+    alloc: Global,
+    format: Format,
+    input: &mut I,
+) -> Result<Vec<u8>, Stop>
     ensures text { IfOk result (λ text. HasAnswer (IsPageAnswer (page_setting format) checked_text) (I.left input.old) (code_of Done) text.items) }
     ensures stop { IfErr result (StopsAs (IsPageAnswer (page_setting format) checked_text) (I.left input.old)) }
     ensures input { Leaves most_page (I.left input.old) (I.left input.new)

@@ -45,7 +45,7 @@ fn first_event(alloc: Global, target: &Target, nanos: u64, page: Page) -> Result
 /// # Errors
 ///
 /// The page has a fault or is too long, a read failed, or memory was wanted: [`Stop`] tells which.
-pub fn convert<I: Source>(
+pub(crate) fn convert<I: Source>(
     alloc: Global,
     format: Format,
     target: &Target,

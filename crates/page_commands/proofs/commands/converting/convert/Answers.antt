@@ -4,7 +4,7 @@ use Rattle.program_words.specs.StopAnswers.{StopsAs}
 use Rattle.program_words.proofs.Laws.{stop_has}
 use Rattle.page_commands.proofs.PageLaws.{page_answer}
 use Rattle.page_commands.proofs.ConvertLaws.{tree_text}
-use Rattle.page_commands.proofs.converting.convert.Goals as goal
+use Rattle.page_commands.proofs.commands.converting.convert.Goals as goal
 
 pub returns-in_err-page-clause-stop : goal.returns-in_err-page-clause-stop
 returns-in_err-page-clause-stop g c = stop_has (StopsAs (IsPageAnswer (page_setting c.args.format) (converted_text c.args.target.now c.args.nanos)) _) _ _ c.from_residual.ensures.1 (c.in_err-page.ensures.stop (converted_text c.args.target.now c.args.nanos))

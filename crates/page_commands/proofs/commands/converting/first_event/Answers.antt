@@ -4,7 +4,7 @@ use Rattle.page_model.specs.declared.event.Outcome.TheVariants.{Page}
 use Rattle.start_times.specs.Scrapes.{moment_after}
 use Rattle.bridge_ports.specs.Targets.{Scraped}
 use Rattle.target_core.specs.Events.{event_request}
-use Rattle.page_commands.proofs.converting.first_event.Goals as goal
+use Rattle.page_commands.proofs.commands.converting.first_event.Goals as goal
 
 pub returns : goal.returns
 returns c =
