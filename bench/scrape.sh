@@ -1,11 +1,11 @@
 #!/bin/sh
 # What a scrape costs over reading its page: a page of 20,000 samples, fed from memory to
 # `text_grammar::TextPage`, and scraped over a wire in memory, with a length and in chunks of 4,096 bytes, each in
-# pieces of 4,096 bytes and of 64 KiB. One program takes both in turn, pinned to one processor, and the least
-# time of each counts. A ratio above 1.20 is an error.
-# Needs rt, awk and taskset. Run from anywhere: bench/scrape.sh [TURNS]
+# pieces of 4,096 bytes and of 64 KiB. One program takes both in turn, pinned to one processor, and of each way the
+# median over the turns counts of what scraping takes of reading beside it. One above 1.03 is an error.
+# Needs rt, awk, python3 and taskset. Run from anywhere: bench/scrape.sh [TURNS]
 set -eu
-turns=${1:-15}
+turns=${1:-25}
 . "$(dirname "$0")/workspace.sh"
 core=$(($(nproc) - 1))
 
@@ -133,20 +133,26 @@ END
 add_parts time_scrape asked one_target
 build_program time_scrape 1
 taskset -c "$core" "$work/proved" "$turns" <"$work/page" >"$work/times"
-if ! awk '$5 != "true" || $6 != "true" { exit 1 }' "$work/times"; then
-    echo "a page did not come:"
-    cat "$work/times"
-    exit 1
-fi
-awk '
-    { key = $1 " " ($2 == "true" ? "in chunks" : "with a length") }
-    !(key in read) || $3 < read[key] { read[key] = $3 }
-    !(key in scraped) || $4 < scraped[key] { scraped[key] = $4 }
-    END {
-        for (key in read) {
-            ratio = scraped[key] / read[key]
-            printf "pieces of %s: scraping %.2f ms, reading %.2f ms, ratio %.2f\n", key, scraped[key] / 1e6, read[key] / 1e6, ratio
-            if (ratio > 1.2) late = 1
-        }
-        exit late
-    }' "$work/times"
+python3 - "$work/times" <<'COMPARE'
+import os
+import statistics
+import sys
+
+ratios, readings = {}, {}
+with open(sys.argv[1], encoding="utf-8") as lines:
+    for line in lines:
+        most, chunked, reading, scraping, *came = line.split()
+        if came != ["true", "true"]:
+            sys.exit(f"a page did not come: {line}")
+        way = f"pieces of {most} bytes, {'in chunks' if chunked == 'true' else 'with a length'}"
+        ratios.setdefault(way, []).append(int(scraping) / int(reading))
+        readings.setdefault(way, []).append(int(reading) / 1e6)
+late = False
+for way, seen in ratios.items():
+    low, middle, high = statistics.quantiles(seen, n=4)
+    reading = statistics.median(readings[way])
+    print(f"{way}: reading {reading:.2f} ms, scraping {middle:.3f} of it, half of the turns {low:.3f} to {high:.3f}")
+    late = late or middle > 1.03
+print(f"the load of the last minute: {os.getloadavg()[0]:.1f}")
+sys.exit(late)
+COMPARE
