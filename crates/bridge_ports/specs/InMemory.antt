@@ -37,29 +37,31 @@ pub record IsFreshConn (c : ConnState) : Type 0 where
   pub no_write_faults : c.sink.faults ≡ 0
   pub nothing_held : c.sink.held ≡ []
 
--- a door in memory: the connections that are to come, its counts, and whether one is out
+-- a door in memory: the connections that are to come, those that came back, its counts, and whether one is out
 pub record MemoryDoorState : Type 0 where
   pub conns : List ConnState
+  pub back : List ConnState
   pub faults : ℕ
   pub handed : ℕ
   pub out : Bool
   pub broken_reads : ℕ
   pub broken_writes : ℕ
 
--- what is seen of it as a door: it tells the bytes of each connection to come
+-- what is seen of it as a door: it tells the bytes of each connection to come, and what was written to each that came back
 abbrev pub door_of : MemoryDoorState → DoorState
 door_of d = record {
   faults = d.faults;
   coming = Some (map (λ (c : ConnState). c.source.left) d.conns);
   handed = d.handed;
   out = d.out;
+  replies = Some (map (λ (c : ConnState). c.sink.held) d.back);
   broken_reads = d.broken_reads;
   broken_writes = d.broken_writes;
 }
 
 -- a door that was just made
 abbrev pub new_memory_door : List ConnState → MemoryDoorState
-new_memory_door conns = record { conns = conns; faults = 0; handed = 0; out = false; broken_reads = 0; broken_writes = 0 }
+new_memory_door conns = record { conns = conns; back = []; faults = 0; handed = 0; out = false; broken_reads = 0; broken_writes = 0 }
 
 -- how many connections are out
 abbrev pub out_count : Bool → ℕ
@@ -67,9 +69,9 @@ out_count true = 1
 out_count false = 0
 
 -- a door with these parts
-abbrev pub door_state : List ConnState → (faults handed : ℕ) → Bool → (broken_reads broken_writes : ℕ) → MemoryDoorState
-door_state conns faults handed out broken_reads broken_writes =
-    record { conns = conns; faults = faults; handed = handed; out = out; broken_reads = broken_reads; broken_writes = broken_writes }
+abbrev pub door_state : (conns back : List ConnState) → (faults handed : ℕ) → Bool → (broken_reads broken_writes : ℕ) → MemoryDoorState
+door_state conns back faults handed out broken_reads broken_writes =
+    record { conns = conns; back = back; faults = faults; handed = handed; out = out; broken_reads = broken_reads; broken_writes = broken_writes }
 
 -- what the type of a door in memory keeps: none of the connections to come was used, and no more came back broken than were handed out
 pub record IsMemoryDoor (d : MemoryDoorState) : Type 0 where

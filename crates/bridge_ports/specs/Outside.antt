@@ -80,7 +80,7 @@ with_door_asked at faults left o = record o { world = record o.world { door_at =
 
 -- once this door came back
 abbrev pub with_back_door : DoorState → Outside → Outside
-with_back_door d o = with_world (record o.world { back_door = record { handed = d.handed; broken_reads = d.broken_reads; broken_writes = d.broken_writes; faults = d.faults } }) o
+with_back_door d o = with_world (record o.world { back_door = record { handed = d.handed; replies = d.replies; broken_reads = d.broken_reads; broken_writes = d.broken_writes; faults = d.faults } }) o
 
 -- ---- the shelf
 

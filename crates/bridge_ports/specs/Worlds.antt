@@ -7,16 +7,17 @@ use Rattle.bridge_ports.specs.Talks.{WireState}
 use Rattle.bridge_ports.specs.declared.talk.Stage.TheVariants as stages
 use Rattle.bridge_ports.specs.Plans.{MemoryState}
 
--- what came back of a door: how many connections it handed out, of how many a read failed, of how many a write failed, and its count of faults
+-- what came back of a door: how many connections it handed out, what was written to each, where that is told, of how many a read failed, of how many a write failed, and its count of faults
 pub record BackDoor : Type 0 where
   pub handed : ℕ
+  pub replies : Option (List (List ℕ))
   pub broken_reads : ℕ
   pub broken_writes : ℕ
   pub faults : ℕ
 
 -- no door came back
 abbrev pub no_back_door : BackDoor
-no_back_door = record { handed = 0; broken_reads = 0; broken_writes = 0; faults = 0 }
+no_back_door = record { handed = 0; replies = None; broken_reads = 0; broken_writes = 0; faults = 0 }
 
 -- a file that is open: its bytes still to come, where that is told
 pub record OpenFile : Type 0 where

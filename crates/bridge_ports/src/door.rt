@@ -27,7 +27,7 @@ pub trait Door: Send + Drop {
     /// Takes the connection back.
     fn close(&mut self, conn: Self::Conn)
         requires { (door self.old).out ≡ true }
-        ensures { door self.new ≡ closed_with (Self.Conn.read_faults conn)
+        ensures { door self.new ≡ closed_with (Self.Conn.held conn) (Self.Conn.read_faults conn)
             (Self.Conn.write_faults conn) (door self.old) };
 
     /// Says that no connection will be asked for any more, so that a peer that comes then need not be kept waiting.

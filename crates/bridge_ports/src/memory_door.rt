@@ -1,5 +1,5 @@
 //! Connections and doors in memory.
-ghost use Rattle.std.specs.Prelude.{◌≡◌, ◌<◌, [], ◌∷◌, Some, true, false, is_some, IfOk, OnErr, length, All};
+ghost use Rattle.std.specs.Prelude.{◌≡◌, ◌<◌, [], ◌∷◌, ◌++◌, Some, true, false, is_some, IfOk, OnErr, length, All};
 ghost use Rattle.std.specs.Io.{ReadsAtMost, WritesAtMost};
 ghost use Rattle.std.specs.Io.KnownBytes.{ReadConsumes, WriteAppends};
 ghost use Rattle.bridge_ports.specs.Causes.{HasCause};
@@ -7,7 +7,6 @@ ghost use Rattle.bridge_ports.specs.Doors.{HandsOut, closed_with, most_handed, b
 
 use crate::{Door, Failed, MemorySink, MemorySource, Sink, Source};
 use std::marker::Model;
-use std::vec::IntoIter;
 
 /// A source and a sink in one.
 #[derive(Drop)]
@@ -74,10 +73,12 @@ impl Sink for MemoryConn {
     }
 }
 
-/// A door at which given connections come in order.
+/// A door at which given connections come in order. It keeps those that came back.
 #[derive(Drop)]
 pub struct MemoryDoor {
-    conns: IntoIter<MemoryConn>,
+    // Those to come, and behind them those that came back.
+    conns: Vec<MemoryConn>,
+    left: usize,
     faults: u64,
     handed: u32,
     out: bool,
@@ -86,15 +87,16 @@ pub struct MemoryDoor {
 }
 
 impl Model for MemoryDoor {
-    ghost use Rattle.std.specs.Vec.Iter.{into_iter_items};
-    ghost use Rattle.bridge_ports.specs.InMemory.{MemoryDoorState, IsMemoryDoor, door_state};
+    ghost use Rattle.std.specs.Prelude.{◌+◌, ◌≤◌, take, drop, vec_len};
+    ghost use Rattle.std.specs.Vec.{vec_capacity};
+    ghost use Rattle.bridge_ports.specs.InMemory.{MemoryDoorState, IsMemoryDoor, door_state, out_count};
 
     ghost Value = { MemoryDoorState };
 
-    ghost view = { λ d. door_state (into_iter_items d.conns) d.faults d.handed d.out d.broken_reads d.broken_writes };
+    ghost view = { λ d. door_state (take d.left d.conns.items) (drop d.left d.conns.items) d.faults d.handed d.out d.broken_reads d.broken_writes };
 
-    ghost invariant = { λ d. IsMemoryDoor
-        (door_state (into_iter_items d.conns) d.faults d.handed d.out d.broken_reads d.broken_writes) };
+    ghost invariant = { λ d. (d.left ≤ vec_len d.conns) × (vec_len d.conns + out_count d.out ≤ vec_capacity d.conns)
+        × IsMemoryDoor (door_state (take d.left d.conns.items) (drop d.left d.conns.items) d.faults d.handed d.out d.broken_reads d.broken_writes) };
 }
 
 impl MemoryDoor {
@@ -105,14 +107,23 @@ impl MemoryDoor {
         requires { All IsFreshConn conns.items }
         ensures { result ≡ new_memory_door conns.items }
     {
+        let left = conns.len();
         MemoryDoor {
-            conns: conns.into_iter(),
+            conns,
+            left,
             faults: 0,
             handed: 0,
             out: false,
             broken_reads: 0,
             broken_writes: 0,
         }
+    }
+
+    /// The connections that came back, in order.
+    pub fn back(&self) -> &[MemoryConn]
+        ensures { result.now ≡ self.now.back }
+    {
+        &self.conns.as_slice()[self.left..]
     }
 }
 
@@ -138,26 +149,28 @@ impl Door for MemoryDoor {
         ensures used_up { OnErr result (self.old.conns ≡ []) }
         ensures fault { OnErr result (self.new.faults ≡ one_more self.old.faults) }
     {
-        match self.conns.next() {
-            Some(conn) => {
-                self.handed += 1;
-                self.out = true;
-                Ok(conn)
-            }
-            None => {
-                self.faults = self.faults.saturating_add(1);
-                Err(Failed)
-            }
+        if self.left == 0 {
+            self.faults = self.faults.saturating_add(1);
+            return Err(Failed);
         }
+        let conn = self.conns.remove(0);
+        self.left -= 1;
+        self.handed += 1;
+        self.out = true;
+        Ok(conn)
     }
 
     fn close(&mut self, conn: MemoryConn)
         requires { (door_of self.old).out ≡ true }
-        ensures { door_of self.new ≡ closed_with conn.source.faults conn.sink.faults (door_of self.old) }
+        ensures door { door_of self.new ≡ closed_with (Some conn.sink.held) conn.source.faults conn.sink.faults (door_of self.old) }
+
+        ensures kept { self.new.back ≡ self.old.back ++ conn ∷ [] }
+        ensures to_come { self.new.conns ≡ self.old.conns }
     {
         self.out = false;
         self.broken_reads += broken_count(conn.source.faults());
         self.broken_writes += broken_count(conn.sink.faults());
+        self.conns.push_reserved(conn);
     }
 
     /// Nobody waits in memory.

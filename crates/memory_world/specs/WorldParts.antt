@@ -61,7 +61,7 @@ open_file left = option_map (λ (bytes : List ℕ). record { left = Some bytes }
 -- what is seen of the door that came back last
 abbrev pub last_back : Option MemoryDoorState → BackDoor
 last_back None = no_back_door
-last_back (Some d) = record { handed = d.handed; broken_reads = d.broken_reads; broken_writes = d.broken_writes; faults = d.faults }
+last_back (Some d) = record { handed = d.handed; replies = (door_of d).replies; broken_reads = d.broken_reads; broken_writes = d.broken_writes; faults = d.faults }
 
 -- a door as it was given
 abbrev pub listen_given : MemoryListen → ListenState

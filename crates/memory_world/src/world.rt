@@ -75,7 +75,7 @@ impl Model for MemoryWorld {
 
 impl MemoryWorld {
     ghost use Rattle.bridge_ports.specs.WorldMaking.{MayBeMade, new_world, shown_pair, on_shelf};
-    ghost use Rattle.memory_world.specs.WorldParts.{file_given, fresh_pair, listen_given, shelved_given, both_wires};
+    ghost use Rattle.memory_world.specs.WorldParts.{file_given, fresh_pair, listen_given, shelved_given, both_wires, last_back};
 
     /// A world of these files, pairs and doors. `failing` names, counted from 1, the calls on files and doors
     /// that fail. It takes no memory.
@@ -123,6 +123,13 @@ impl MemoryWorld {
         ensures { on_shelf self.now ≡ Some (map shelved_given result.now) }
     {
         self.shelf.as_slice()
+    }
+
+    /// The door that came back, where one did.
+    pub fn closed_door(&self) -> Option<&MemoryDoor>
+        ensures { last_back (option_map (λ door. door.now) result) ≡ self.now.world.back_door }
+    {
+        self.back_door.as_ref()
     }
 
     /// The pair of this number, where it was given to the world or came back to it and is at home.

@@ -5,6 +5,9 @@ use Rattle.bridge_ports.specs.Doors.{DoorState}
 use Rattle.scraper_pool.specs.declared.turn.Turn.{Turn}
 use Rattle.scraper_pool.specs.declared.turn.Turn.TheVariants.{Visited, Nothing}
 use Rattle.scraper_pool.specs.Turns.{Seated, IsTurn}
+use Rattle.series_table.specs.HttpTalks.{talking}
+use Rattle.target_table.specs.Runs.{Run}
+use Rattle.scraper_pool.specs.Federating.{IsSelectedPage}
 use Rattle.scraper_pool.specs.Serving.{HasServed}
 
 -- a target was visited exactly where the count of takes rose, and there was none exactly where the count of idle turns rose
@@ -18,4 +21,4 @@ TurnsAreTold = (before after : Seated) (turn : Turn) → before.taken < 2 ^ 64 -
 
 -- no more connections were answered than were handed out
 abbrev pub FewServed : Type 0
-FewServed = (pages : ℕ) (old new : DoorState) (served : ℕ) → HasServed pages old new served → served ≤ new.handed
+FewServed = (run : Run) (pages : ℕ) (old new : DoorState) (served : ℕ) → HasServed (IsSelectedPage talking run) pages old new served → served ≤ new.handed

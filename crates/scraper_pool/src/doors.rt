@@ -70,7 +70,7 @@ impl<N: RunName, A: Lane, B: Lane, C: Lane, D: Lane, W: Wire> Pool<N, A, B, C, D
         pages: u32,
     ) -> u32
         requires { IsUnopened (E.door door.old) }
-        ensures { HasServed pages (E.door door.old) (E.door door.new) result }
+        ensures { HasServed (IsSelectedPage talking N.run) pages (E.door door.old) (E.door door.new) result }
     {
         let mut served = 0;
         for _ in 0..pages {
@@ -92,7 +92,7 @@ impl<N: RunName, A: Lane, B: Lane, C: Lane, D: Lane, W: Wire> Pool<N, A, B, C, D
         pages: u32,
     ) -> (E, u32)
         requires { IsUnopened (E.door door) }
-        ensures { HasServed pages (E.door door) (E.door result.0) result.1 }
+        ensures { HasServed (IsSelectedPage talking N.run) pages (E.door door) (E.door result.0) result.1 }
     {
         let mut door = door;
         let served = self.serve_pages(rt, alloc, &mut door, pages);

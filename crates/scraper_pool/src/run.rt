@@ -7,6 +7,7 @@ ghost use Rattle.series_table.specs.Tracks.{AreTracks, AreUnvisited};
 ghost use Rattle.target_table.specs.Tables.{next_place, IsRunOver};
 ghost use Rattle.scraper_pool.specs.declared.run.RunFault.TheVariants as faults;
 ghost use Rattle.scraper_pool.specs.declared.turn.Turn.TheVariants as turns;
+ghost use Rattle.scraper_pool.specs.Federating.{IsSelectedPage};
 ghost use Rattle.scraper_pool.specs.Serving.{IsUnopened, ServesAt};
 ghost use Rattle.scraper_pool.specs.Turns.{run_of};
 
@@ -101,7 +102,7 @@ pub fn run_with_door<W: Wire, K: Conn, E: Door<Conn = K>, R: Threads + Wait + Sy
     requires unvisited { AreUnvisited tracks.items }
     requires fresh { IfSome door (λ d. IsUnopened (E.door d)) }
     ensures over { IfOk result (λ ended. IsRunOver talking (run_of rounds tracks.items) ended.tracks.items) }
-    ensures served { IfOk result (λ ended. ServesAt pages (option_map E.door door) (option_map E.door ended.door) ended.served) }
+    ensures served { IfOk result (λ ended. ServesAt (IsSelectedPage talking (run_of rounds tracks.items)) pages (option_map E.door door) (option_map E.door ended.door) ended.served) }
     ensures back { IfErr result (λ fault. fault ≡ faults.Memory tracks door) }
 {
     let blanks = Blanks {

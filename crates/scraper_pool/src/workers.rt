@@ -7,6 +7,7 @@ ghost use Rattle.target_table.specs.Runs.{IsRightRun};
 ghost use Rattle.series_table.specs.Tracks.{AreTracks, AreUnvisited};
 ghost use Rattle.target_table.specs.Tables.{IsRunOver};
 ghost use Rattle.scraper_pool.specs.declared.run.RunFault.TheVariants as faults;
+ghost use Rattle.scraper_pool.specs.Federating.{IsSelectedPage};
 ghost use Rattle.scraper_pool.specs.Serving.{IsUnopened, ServesAt};
 ghost use Rattle.scraper_pool.specs.Turns.{IsFreeLane, IsWork, seated};
 
@@ -162,7 +163,7 @@ impl<
         requires d { IsFreeLane D.all D.parts shares.d.held }
         requires fresh { IfSome door (λ d. IsUnopened (E.door d)) }
         ensures home { (result.0.a.held ≡ 0) × (result.0.b.held ≡ 0) × (result.0.c.held ≡ 0) × (result.0.d.held ≡ 0) }
-        ensures served { ServesAt pages (option_map E.door door) (option_map E.door result.1) result.2 }
+        ensures served { ServesAt (IsSelectedPage talking N.run) pages (option_map E.door door) (option_map E.door result.1) result.2 }
     {
         let Some(door) = door else {
             return (self.work_all(rt, alloc, shares, scrapers), None, 0);
@@ -204,7 +205,7 @@ impl<
         requires d { IsFreeLane D.all D.parts shares.d.held }
         requires fresh { IfSome door (λ d. IsUnopened (E.door d)) }
         ensures over { IsRunOver talking N.run result.tracks.items }
-        ensures served { ServesAt pages (option_map E.door door) (option_map E.door result.door) result.served }
+        ensures served { ServesAt (IsSelectedPage talking N.run) pages (option_map E.door door) (option_map E.door result.door) result.served }
     {
         let (shares, door, served) = self.work_beside(rt, alloc, door, pages, shares, scrapers);
         let Pool { table } = self;
@@ -238,7 +239,7 @@ impl<
         requires c { (blanks.c.name ≡ C.name) × (blanks.c.parts ≡ C.parts) × (C.all ≡ C.parts) × (0 < C.all) }
         requires d { (blanks.d.name ≡ D.name) × (blanks.d.parts ≡ D.parts) × (D.all ≡ D.parts) × (0 < D.all) }
         ensures over { IfOk result (λ ended. IsRunOver talking N.run ended.tracks.items) }
-        ensures served { IfOk result (λ ended. ServesAt pages (option_map E.door door) (option_map E.door ended.door) ended.served) }
+        ensures served { IfOk result (λ ended. ServesAt (IsSelectedPage talking N.run) pages (option_map E.door door) (option_map E.door ended.door) ended.served) }
         ensures back { IfErr result (λ fault. fault ≡ faults.Memory tracks door) }
     {
         match Table::<N, A, B, C, D, W>::new(alloc, tracks, rounds, blanks) {

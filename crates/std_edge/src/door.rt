@@ -116,7 +116,7 @@ impl<R: Clock + Copy + Send + Drop> Door for NetDoor<R> {
     /// What the peer still sends is read off first, up to a limit.
     fn close(&mut self, conn: NetConn<R>)
         requires { self.old.out ≡ true }
-        ensures { self.new ≡ closed_with conn.reads conn.writes self.old }
+        ensures { self.new ≡ closed_with untold conn.reads conn.writes self.old }
     {
         self.out = false;
         self.counts.broken_reads += broken_count(conn.reads());

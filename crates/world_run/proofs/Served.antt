@@ -7,11 +7,10 @@ use Rattle.bridge_ports.specs.Doors.{DoorState, new_door}
 use Rattle.bridge_ports.specs.Worlds.{WorldState}
 use Rattle.bridge_ports.specs.Outside.{Outside, Coming, at_address, with_door_asked, with_back_door}
 use Rattle.bridge_ports.proofs.Laws.{at_other_addresses}
-use Rattle.scraper_pool.specs.Serving.{ServesAt}
 use Rattle.bridge_config.specs.declared.config.Config.{Config}
 use Rattle.run_report.specs.declared.target_end.TargetEnd.{TargetEnd}
 use Rattle.world_run.specs.Ends.{KeepsRest, IsRunEnd, IsNotBegun}
-use Rattle.world_run.specs.Serving.{HasAsked, nothing_asked, asked_in_vain, asked_and_opened, comes_back, IsServedRun, IsUnserved, KeepsOtherComing, ChangesAtMost}
+use Rattle.world_run.specs.Serving.{HasAsked, nothing_asked, asked_in_vain, asked_and_opened, comes_back, ServesRun, IsServedRun, IsUnserved, KeepsOtherComing, ChangesAtMost}
 
 -- ---- the door
 
@@ -42,19 +41,19 @@ rest_known : (many : ℕ) (during over : Outside) → KeepsRest many during over
 rest_known many during over rest known = subst (λ (o : Outside). IsSome o.world.door_at) (sym rest.but_pairs) known
 
 -- a door that comes back is one that was asked for
-pub known_still : {T X D : Type 0} (r : Result T X) (shown : D → DoorState) (ends : T → List TargetEnd) (served : T → ℕ) (many : ℕ) (c : Config) (during over : Outside) (opened closed : Option D) → IfSome opened (λ d. IsSome during.world.door_at)
-    → IfOk r (λ t. IsRunEnd c during over (ends t)) → IfOk r (λ t. ServesAt many (option_map shown opened) (option_map shown closed) (served t)) → OnErr r (IsNotBegun c during over) → OnErr r (closed ≡ opened) → IfSome closed (λ d. IsSome over.world.door_at)
-known_still (Ok t) shown ends served many c during over opened None known run serves none same = tt
-known_still (Ok t) shown ends served many c during over None (Some d) known run serves none same = absurd serves
-known_still (Ok t) shown ends served many c during over (Some o) (Some d) known run serves none same = rest_known _ during over run.rest known
-known_still (Err x) shown ends served many c during over opened closed known run serves none same =
+pub known_still : {T X D : Type 0} (r : Result T X) (shown : D → DoorState) (ends : T → List TargetEnd) (served : T → ℕ) (c : Config) (during over : Outside) (opened closed : Option D) → IfSome opened (λ d. IsSome during.world.door_at)
+    → IfOk r (λ t. IsRunEnd c during over (ends t)) → IfOk r (λ t. ServesRun c (option_map shown opened) (option_map shown closed) (served t)) → OnErr r (IsNotBegun c during over) → OnErr r (closed ≡ opened) → IfSome closed (λ d. IsSome over.world.door_at)
+known_still (Ok t) shown ends served c during over opened None known run serves none same = tt
+known_still (Ok t) shown ends served c during over None (Some d) known run serves none same = absurd serves.serves
+known_still (Ok t) shown ends served c during over (Some o) (Some d) known run serves none same = rest_known _ during over run.rest known
+known_still (Err x) shown ends served c during over opened closed known run serves none same =
     subst (λ o. IfSome o (λ d. IsSome over.world.door_at)) (sym same) (weaker (IsSome during.world.door_at) (IsSome over.world.door_at) opened (rest_known _ during over none.rest) known)
 
 -- ---- runs
 
 -- what comes of a run is that of a run beside the door
 pub result_served : {T X : Type 0} (r : Result T X) (ends : T → List TargetEnd) (served : T → ℕ) (c : Config) (before during over after : Outside) (opened closed : Option DoorState) → HasAsked c before during opened → after ≡ comes_back closed over
-    → IfOk r (λ t. IsRunEnd c during over (ends t)) → IfOk r (λ t. ServesAt c.pages opened closed (served t)) → IfOk r (λ t. IsServedRun c before after (ends t) (served t))
+    → IfOk r (λ t. IsRunEnd c during over (ends t)) → IfOk r (λ t. ServesRun c opened closed (served t)) → IfOk r (λ t. IsServedRun c before after (ends t) (served t))
 result_served (Ok t) ends served c before during over after opened closed asked back run serves =
     record { during = during; over = over; opened = opened; closed = closed; asked = asked; run = run; serves = serves; back = back }
 result_served (Err x) ends served c before during over after opened closed asked back run serves = tt

@@ -18,6 +18,7 @@ use Rattle.bridge_config.specs.RightConfigs.{IsRightConfig}
 use Rattle.run_report.specs.declared.target_end.TargetEnd.{TargetEnd}
 use Rattle.run_report.specs.Ends.{track_end}
 use Rattle.world_run.specs.Taken.{EachTrack, IsFirstTrack, end_names, track_names}
+use Rattle.world_run.specs.Serving.{IsRunOf}
 
 -- ---- the run of tracks
 
@@ -49,6 +50,19 @@ right_run c ks right first targets =
       settings = All-map (λ (f : Followed). AreInRange f.settings) (λ (k : Kept). k.followed) ks (λ i d less. (first i d less).at.track.ranges);
       rounds = between 1 1000000 c.rounds right.numbers.rounds;
     }
+
+-- it is the run of the configuration
+pub own_run : (c : Config) (ks : List Kept) → EachTrack (IsFirstTrack c) ks → map (λ (k : Kept). k.followed.target) ks ≡ c.targets → IsRunOf c (run_of c.rounds ks)
+own_run c ks first targets = record {
+  targets = targets_of ks ∙ targets;
+  settings = All-map (λ (f : Followed). f.settings ≡ c.settings) (λ (k : Kept). k.followed) ks (λ i d less. (first i d less).settings);
+  collector = All-map (λ (f : Followed). f.to ≡ c.collector) (λ (k : Kept). k.followed) ks (λ i d less. (first i d less).to);
+  rounds = refl;
+}
+  where
+    targets_of : (ks : List Kept) → map (λ (f : Followed). f.target) (map (λ (k : Kept). k.followed) ks) ≡ map (λ (k : Kept). k.followed.target) ks
+    targets_of [] = refl
+    targets_of (k ∷ ks) = ap (λ ts. k.followed.target ∷ ts) (targets_of ks)
 
 -- each track is that of its own target
 own_tracks_from : (ks : List Kept) (place : ℕ) → ((i : ℕ) (d : Kept) → i < length ks → IsTrackAt talking (get_or ks i d).followed (place + i) (get_or ks i d)) → AreTracks talking place (map (λ (k : Kept). k.followed) ks) ks

@@ -1,11 +1,15 @@
 -- A run beside a door: which door was asked for, and what came back of it.
 -- The bridge's own.
-use Rattle.std.specs.Prelude.{◌≡◌, ◌⊎◌, ℕ, List, Option, Some, None}
+use Rattle.std.specs.Prelude.{◌≡◌, ◌⊎◌, ℕ, List, map, All, Option, Some, None}
 use Rattle.bridge_ports.specs.Causes.{Rose}
 use Rattle.bridge_ports.specs.Doors.{DoorState, new_door}
 use Rattle.bridge_ports.specs.Worlds.{WorldState, KeepsComing}
 use Rattle.bridge_ports.specs.Outside.{Outside, Coming, with_door_asked, with_back_door}
 use Rattle.bridge_ports.specs.declared.talk.Address.{Address}
+use Rattle.series_table.specs.Talking.{Followed}
+use Rattle.series_table.specs.HttpTalks.{talking}
+use Rattle.target_table.specs.Runs.{Run}
+use Rattle.scraper_pool.specs.Federating.{IsSelectedPage}
 use Rattle.scraper_pool.specs.Serving.{ServesAt}
 use Rattle.bridge_config.specs.declared.config.Config.{Config}
 use Rattle.run_report.specs.declared.target_end.TargetEnd.{TargetEnd}
@@ -22,6 +26,19 @@ abbrev pub comes_back : Option DoorState → Outside → Outside
 comes_back None o = o
 comes_back (Some d) o = with_back_door d o
 
+-- the run of a configuration: its targets, in order, each followed with its settings and posted to its collector, as often as it says
+pub record IsRunOf (c : Config) (run : Run) : Type 0 where
+  pub targets : map (λ (f : Followed). f.target) run.targets ≡ c.targets
+  pub settings : All (λ (f : Followed). f.settings ≡ c.settings) run.targets
+  pub collector : All (λ (f : Followed). f.to ≡ c.collector) run.targets
+  pub rounds : run.rounds ≡ c.rounds
+
+-- what came of the door of a configuration, if it was opened: each of its connections was served, with pages of the configuration's run where it asked for them, and so many were answered
+pub record ServesRun (c : Config) (opened closed : Option DoorState) (served : ℕ) : Type 0 where
+  pub run : Run
+  pub run_is : IsRunOf c run
+  pub serves : ServesAt (IsSelectedPage talking run) c.pages opened closed served
+
 -- a run beside the door of a configuration, of which so many connections were answered: the door was asked for before the run and came back behind it, and the run is one over the wires alone
 pub record IsServedRun (c : Config) (before after : Outside) (ends : List TargetEnd) (served : ℕ) : Type 0 where
   pub during : Outside
@@ -30,7 +47,7 @@ pub record IsServedRun (c : Config) (before after : Outside) (ends : List Target
   pub closed : Option DoorState
   pub asked : HasAsked c before during opened
   pub run : IsRunEnd c during over ends
-  pub serves : ServesAt c.pages opened closed served
+  pub serves : ServesRun c opened closed served
   pub back : after ≡ comes_back closed over
 
 -- a run that was not begun: the door came back as it was opened, if it was asked for

@@ -3,12 +3,12 @@ ghost use Rattle.std.specs.Prelude.{◌≡◌, None, map, option_map, IfOk, IfEr
 ghost use Rattle.series_table.specs.HttpTalks.{talking};
 ghost use Rattle.series_table.specs.Records.{Kept};
 ghost use Rattle.target_table.specs.Tables.{IsRunOver};
-ghost use Rattle.scraper_pool.specs.Serving.{IsUnopened, ServesAt};
+ghost use Rattle.scraper_pool.specs.Serving.{IsUnopened};
 ghost use Rattle.scraper_pool.specs.Turns.{run_of};
 ghost use Rattle.bridge_config.specs.RightConfigs.{IsRightConfig};
 ghost use Rattle.world_run.specs.Unused.{AreUnused};
 ghost use Rattle.world_run.specs.Ends.{IsRunEnd, IsNotBegun};
-ghost use Rattle.world_run.specs.Serving.{IsServedRun, IsUnserved};
+ghost use Rattle.world_run.specs.Serving.{ServesRun, IsServedRun, IsUnserved};
 ghost use Rattle.run_report.specs.Ends.{track_end};
 ghost use Rattle.world_run.specs.Taken.{EachTrack, IsFirstTrack};
 
@@ -56,7 +56,7 @@ fn visit_all<R: Threads + Wait + Sync, W: Wire, K: Conn, E: Door<Conn = K>>(
     requires fresh { IfSome door (λ d. IsUnopened (E.door d)) }
     ensures over { IfOk result (λ made. IsRunOver talking (run_of config.now.rounds tracks.items) made.tracks.items) }
     ensures ends { IfOk result (λ made. made.end.targets.items ≡ map track_end made.tracks.items) }
-    ensures served { IfOk result (λ made. ServesAt config.now.pages (option_map E.door door) (option_map E.door made.door) made.end.served) }
+    ensures served { IfOk result (λ made. ServesRun config.now (option_map E.door door) (option_map E.door made.door) made.end.served) }
     ensures back { IfErr result (λ back. back.0.items ≡ tracks.items) }
     ensures door { IfErr result (λ back. back.1 ≡ door) }
 {
@@ -101,7 +101,7 @@ fn run_beside<R: Threads + Wait + Sync, K: Conn, E: Door<Conn = K>, W: World<Doo
     requires unused { AreUnused (W.seen world.old).home }
     requires fresh { IfSome door (λ d. IsUnopened (E.door d)) }
     ensures run { IfOk result.end (λ end. IsRunEnd config.now (W.seen world.old) (W.seen world.new) end.targets.items) }
-    ensures served { IfOk result.end (λ end. ServesAt config.now.pages (option_map E.door door) (option_map E.door result.door) end.served) }
+    ensures served { IfOk result.end (λ end. ServesRun config.now (option_map E.door door) (option_map E.door result.door) end.served) }
     ensures memory { OnErr result.end (IsNotBegun config.now (W.seen world.old) (W.seen world.new)) }
     ensures door { OnErr result.end (result.door ≡ door) }
 {

@@ -250,3 +250,31 @@ fn posted_by_a_run<R: Threads + Wait + Sync>(
 fn a_run_posts_its_scrapes(rt: HostRuntime) {
     assert!(rt; posted_by_a_run(&rt, rt.alloc(), FIRST_BODY) == Ok((2, true)));
 }
+
+/// Whether the door that came back has one connection, which holds a page.
+fn holds_a_page(world: &MemoryWorld) -> bool {
+    let Some(door) = world.closed_door() else {
+        return false;
+    };
+    match door.back() {
+        [conn] => conn.held().starts_with(b"HTTP/1.1 200 OK\r\n"),
+        _ => false,
+    }
+}
+
+/// The same behind a run.
+fn page_served_by_a_run<R: Threads + Wait + Sync>(rt: &R, alloc: Global) -> Result<bool, Memory> {
+    let mut world = world(alloc, TWO_ROUNDS.as_bytes())?;
+    let ending = ending_in(rt, alloc, &mut world, TWO_VISITS);
+    let holds = holds_a_page(&world);
+    drop(world);
+    match ending {
+        Ok(_) => Ok(holds),
+        Err(memory) => Err(memory),
+    }
+}
+
+#[test]
+fn a_run_serves_its_page(rt: HostRuntime) {
+    assert!(rt; page_served_by_a_run(&rt, rt.alloc()) == Ok(true));
+}

@@ -13,7 +13,7 @@ run_beside-beside-requires-clause-unused g c κs within = subst AreUnused (sym (
 
 pub close_door-requires-after_bounds : goal.close_door-requires-after_bounds
 close_door-requires-after_bounds g c κs within =
-    known_still c.run_beside-beside.result.end g.E.Door.door (λ (e : RunEnd). e.targets.items) (λ (e : RunEnd). e.served) c.args.config.now.pages c.args.config.now (g.W.World.seen c.open_door.new.world) (g.W.World.seen c.run_beside-beside.new.world) c.in_ok-door.door c.run_beside-beside.result.door c.in_ok-door.ensures.known
+    known_still c.run_beside-beside.result.end g.E.Door.door (λ (e : RunEnd). e.targets.items) (λ (e : RunEnd). e.served) c.args.config.now (g.W.World.seen c.open_door.new.world) (g.W.World.seen c.run_beside-beside.new.world) c.in_ok-door.door c.run_beside-beside.result.door c.in_ok-door.ensures.known
     c.run_beside-beside.ensures.run c.run_beside-beside.ensures.served c.run_beside-beside.ensures.memory c.run_beside-beside.ensures.door
 
 pub returns-clause-run : goal.returns-clause-run

@@ -1,8 +1,9 @@
 use Rattle.std.proofs.Common.{refl, sym, ◌∙◌, ap, map}
 use Rattle.run_report.specs.Ends.{track_end}
+use Rattle.scraper_pool.specs.Turns.{run_of}
 use Rattle.world_run.specs.Taken.{end_names, track_names}
 use Rattle.series_table.specs.Records.{Kept}
-use Rattle.world_run.proofs.Tracks.{right_run, own_tracks, same_followed, same_names}
+use Rattle.world_run.proofs.Tracks.{right_run, own_run, own_tracks, same_followed, same_names}
 use Rattle.world_run.proofs.run.visit_all.Goals as goal
 
 pub run_with_door-requires-clause-run : goal.run_with_door-requires-clause-run
@@ -20,3 +21,10 @@ renew_ends-requires-after_bounds g c κs within =
 
 pub returns-in-Err-Memory-clause-back : goal.returns-in-Err-Memory-clause-back
 returns-in-Err-Memory-clause-back g c = rw c.in-Err-Memory.ensures.back refl
+
+pub returns-in-Ok-run_with_door-clause-served : goal.returns-in-Ok-run_with_door-clause-served
+returns-in-Ok-run_with_door-clause-served g c = record {
+  run = run_of c.args.config.now.rounds c.args.tracks.items;
+  run_is = own_run c.args.config.now c.args.tracks.items c.requires.first c.requires.targets;
+  serves = c.in-Ok-run_with_door.ensures.served;
+}

@@ -1,4 +1,4 @@
-use Rattle.std.proofs.Common.{◌≡◌, ◌∙◌, Some, map, ap}
+use Rattle.std.proofs.Common.{◌∙◌, Some, map, ap}
 use Rattle.bridge_ports.specs.MemoryWorlds.{MemoryWorldState, file_of, given_of, coming_of}
 use Rattle.bridge_ports.specs.Outside.{at_address}
 use Rattle.bridge_ports.proofs.Laws.{seen_by, is_at_address}

@@ -1,6 +1,6 @@
-use Rattle.std.proofs.Common.{◌≡◌, ◌∙◌, Option, Some, None, IsSome, ap, sym, subst}
+use Rattle.std.proofs.Common.{◌∙◌, Option, Some, None, IsSome, ap, sym, subst}
 use Rattle.bridge_ports.specs.Worlds.{Given}
-use Rattle.bridge_ports.specs.MemoryWorlds.{MemoryWorldState, PairState, file_of, given_of, coming_of}
+use Rattle.bridge_ports.specs.MemoryWorlds.{MemoryWorldState, file_of, given_of, coming_of}
 use Rattle.bridge_ports.specs.Outside.{SeenPair, at_number}
 use Rattle.bridge_ports.proofs.Laws.{seen_by}
 use Rattle.memory_world.specs.WorldParts.{seen_home}
