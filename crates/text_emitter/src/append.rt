@@ -4,7 +4,7 @@ ghost use Rattle.std.specs.Prelude.{◌≡◌, [], length, take, OnOk, OnErr};
 ghost use Rattle.text_emitter.specs.Emitters.{append_push, Appended, Holds, HoldsMore};
 
 use crate::byte_emitter::Pieces;
-use arrayvec::ArrayVec;
+use crate::room::Room;
 use bridge_ports::{AllBytes, Piece};
 use std::alloc::AllocError;
 use std::marker::Model;
@@ -22,7 +22,7 @@ const ROOM: usize = 2_048;
 pub(crate) struct Growing {
     bytes: Vec<u8>,
     /// What stands behind the bytes, and is not yet appended to them.
-    room: ArrayVec<u8, ROOM>,
+    room: Room<ROOM>,
     /// How many bytes stood there before the text.
     start: usize,
     failed: bool,
@@ -36,13 +36,13 @@ impl Model for Growing {
 
     ghost view = { λ g. appended g.all.bytes g.start };
 
-    ghost invariant = { λ g. Holds g.bytes.items g.room.items g.failed (appended g.all.bytes g.start) };
+    ghost invariant = { λ g. Holds g.bytes.items g.room g.failed (appended g.all.bytes g.start) };
 }
 
 /// Appends what is in the room. Where there is no memory for it, that is told through `failed`.
-fn flush(bytes: &mut Vec<u8>, room: &mut ArrayVec<u8, ROOM>, failed: &mut bool)
-    ensures empty { room.new.items ≡ [] }
-    ensures holds { (all : Appended) → Holds bytes.old.items room.old.items failed.old all → Holds bytes.new.items [] failed.new all }
+fn flush(bytes: &mut Vec<u8>, room: &mut Room<ROOM>, failed: &mut bool)
+    ensures empty { room.new ≡ [] }
+    ensures holds { (all : Appended) → Holds bytes.old.items room.old failed.old all → Holds bytes.new.items [] failed.new all }
 {
     if bytes.extend_from_slice(room.as_slice()).is_err() {
         *failed = true;
@@ -52,8 +52,8 @@ fn flush(bytes: &mut Vec<u8>, room: &mut ArrayVec<u8, ROOM>, failed: &mut bool)
 
 /// Appends a piece for which there is no room behind what is in it, or puts it there.
 #[cold]
-fn put_long(bytes: &mut Vec<u8>, room: &mut ArrayVec<u8, ROOM>, failed: &mut bool, piece: &[u8])
-    ensures { HoldsMore (Holds bytes.old.items room.old.items failed.old) (Holds bytes.new.items room.new.items failed.new) piece.now }
+fn put_long(bytes: &mut Vec<u8>, room: &mut Room<ROOM>, failed: &mut bool, piece: &[u8])
+    ensures { HoldsMore (Holds bytes.old.items room.old failed.old) (Holds bytes.new.items room.new failed.new) piece.now }
 {
     flush(bytes, room, failed);
     if room.try_extend_from_slice(piece).is_err() && bytes.extend_from_slice(piece).is_err() {
@@ -76,7 +76,7 @@ impl Growing {
         Growing {
             start: bytes.len(),
             bytes,
-            room: ArrayVec::new(),
+            room: Room::new(),
             failed: false,
             all,
         }

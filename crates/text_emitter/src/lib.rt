@@ -12,6 +12,7 @@ mod emit;
 mod emitter;
 mod last_integers;
 mod print;
+mod room;
 
 pub use emit::{Emit, length, print_line, write};
 pub use emitter::Emitter;

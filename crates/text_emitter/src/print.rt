@@ -5,7 +5,7 @@ ghost use Rattle.bridge_ports.specs.Causes.{HasCause};
 ghost use Rattle.text_emitter.specs.Printing.{Printing as Written, print_push, Prints, PrintsOn};
 
 use crate::byte_emitter::Pieces;
-use arrayvec::ArrayVec;
+use crate::room::Room;
 use bridge_ports::{AllBytes, Piece, Sink, write_all};
 use std::marker::Model;
 use std::snapshot::Snapshot;
@@ -19,7 +19,7 @@ const ROOM: usize = 32_768;
 #[derive(Drop)]
 pub(crate) struct Printing<'a, O: Sink> {
     output: &'a mut O,
-    room: ArrayVec<u8, ROOM>,
+    room: Room<ROOM>,
     failed: bool,
     /// The output before the text, which only proofs read.
     before: Snapshot<O>,
@@ -33,14 +33,14 @@ impl<'a, O: Sink> Model for Printing<'a, O> {
 
     ghost view = { λ p. printing_to p.output.ghost_name (O.held p.before.value) (O.write_faults p.before.value) p.all.bytes };
 
-    ghost invariant = { λ p. Prints (O.held p.output.now) (O.write_faults p.output.now) p.room.items p.failed
+    ghost invariant = { λ p. Prints (O.held p.output.now) (O.write_faults p.output.now) p.room p.failed
         (printing_to p.output.ghost_name (O.held p.before.value) (O.write_faults p.before.value) p.all.bytes) };
 }
 
 /// Writes what is in the room, unless a write failed.
-fn flush<O: Sink>(output: &mut O, room: &mut ArrayVec<u8, ROOM>, failed: &mut bool)
-    ensures empty { room.new.items ≡ [] }
-    ensures prints { (p : Written) → Prints (O.held output.old) (O.write_faults output.old) room.old.items failed.old p
+fn flush<O: Sink>(output: &mut O, room: &mut Room<ROOM>, failed: &mut bool)
+    ensures empty { room.new ≡ [] }
+    ensures prints { (p : Written) → Prints (O.held output.old) (O.write_faults output.old) room.old failed.old p
         → Prints (O.held output.new) (O.write_faults output.new) [] failed.new p }
 {
     if !*failed {
@@ -51,9 +51,9 @@ fn flush<O: Sink>(output: &mut O, room: &mut ArrayVec<u8, ROOM>, failed: &mut bo
 
 /// Writes a piece for which there is no room behind what is in it, or puts it there.
 #[cold]
-fn put_long<O: Sink>(output: &mut O, room: &mut ArrayVec<u8, ROOM>, failed: &mut bool, piece: &[u8])
-    ensures { PrintsOn (Prints (O.held output.old) (O.write_faults output.old) room.old.items failed.old)
-        (Prints (O.held output.new) (O.write_faults output.new) room.new.items failed.new) piece.now }
+fn put_long<O: Sink>(output: &mut O, room: &mut Room<ROOM>, failed: &mut bool, piece: &[u8])
+    ensures { PrintsOn (Prints (O.held output.old) (O.write_faults output.old) room.old failed.old)
+        (Prints (O.held output.new) (O.write_faults output.new) room.new failed.new) piece.now }
 {
     flush(output, room, failed);
     if room.try_extend_from_slice(piece).is_err() && !*failed {
@@ -72,7 +72,7 @@ impl<'a, O: Sink> Printing<'a, O> {
         let before = Snapshot::of(&*output);
         Printing {
             output,
-            room: ArrayVec::new(),
+            room: Room::new(),
             failed: false,
             before,
             all: AllBytes::new(),
