@@ -12,7 +12,7 @@ use Rattle.page_commands.specs.PageAnswers.{page_setting}
 use Rattle.page_commands.specs.PageTexts.{command_text}
 use Rattle.bridge_cli.specs.Answers.{Answers, Says, answers, unread, wanting, in_part}
 use Rattle.bridge_cli.specs.CommandReads.{IsAllTold}
-use Rattle.bridge_cli.specs.CommandRuns.{IsWritten, written_whole, written_part, IsAnswered, IsOnlyAnswer}
+use Rattle.bridge_cli.specs.CommandRuns.{IsWritten, written_whole, written_part, WritesAnswer, IsOnlyAnswer}
 use Rattle.script_commands.specs.Replays.{IsReplayWith}
 use Rattle.load_pages.specs.GeneratedScripts.{generated_script}
 use Rattle.script_commands.proofs.Laws.{report_once, replay_with_once, script_once_at}
@@ -58,7 +58,7 @@ told_written status text held now code told (written_whole all) = (refl, all)
 told_written status text held now code told (written_part front) = absurd (told.1 refl)
 
 -- what was answered is the only answer
-pub only_answer : (command : Command) (left : Option (List ℕ)) (before after : Outside) (held now : Option (List ℕ)) (code : ℕ) → IsAnswered command left before after held now code → IsTold code
+pub only_answer : (command : Command) (left : Option (List ℕ)) (before after : Outside) (held now : Option (List ℕ)) (code : ℕ) → WritesAnswer command left before after held now code → IsTold code
     → IsOnlyAnswer command left before after held now code
 only_answer command left before after held now code answered told all_told bytes other text on_input answer =
     let all = told_written answered.status answered.text held now code told answered.written in

@@ -15,7 +15,7 @@ use Rattle.run_command.proofs.Laws.{cut_left, files_stay}
 use Rattle.bridge_cli.specs.declared.answer.Printed.{Printed}
 use Rattle.bridge_cli.specs.declared.answer.Printed.TheVariants.{Whole, Tree, Bodies, Report}
 use Rattle.bridge_cli.specs.CommandReads.{ChangesOnly, IsAlone, LeavesUsed}
-use Rattle.bridge_cli.specs.CommandRuns.{written_whole, written_part, IsAnswered, WritesPieces, ShelvesVisits}
+use Rattle.bridge_cli.specs.CommandRuns.{written_whole, written_part, WritesAnswer, WritesPieces, ShelvesVisits}
 use Rattle.bridge_cli.specs.Printed.{Gives, GivesPart, IsNothing, IsPrintable, IsWhole, IsShelved, Ended, printed, stopped, wanting, AnswersVisits, IsPrintedOf}
 use Rattle.bridge_cli.proofs.PrintLaws.{whole_or_not, whole_part, says_pieces}
 
@@ -61,14 +61,14 @@ ended_status status p before after result other (wanting text gives written piec
 
 -- the text of what the command came to was written, whole or in part
 pub ended_answered : (command : Command) (left : Option (List ℕ)) (before after now : Outside) (status : Status) (p : Printed) (held written_now : Option (List ℕ)) (result : ℕ) → IsPrintedOf command left before after status p
-    → (IsWhole p → now ≡ after) → Ended status p held written_now result → IsAnswered command left before now held written_now result
+    → (IsWhole p → now ≡ after) → Ended status p held written_now result → WritesAnswer command left before now held written_now result
 ended_answered command left before after now status p held written_now result of same (printed text gives written) =
     record { status = code_of status; text = text; says = of.gives now same text gives; written = written_whole written }
 ended_answered command left before after now status p held written_now result of same (wanting text gives written other) =
     record { status = code_of statuses.WantOfMemory; text = text; says = says_pieces command before now left text (of.parts now text gives other); written = written_whole written }
 ended_answered command left before after now status p held written_now result of same (stopped text gives front) = by (whole_or_not p)
   where
-    by : IsWhole p ⊎ (¬ IsWhole p) → IsAnswered command left before now held written_now (code_of statuses.WriteFailed)
+    by : IsWhole p ⊎ (¬ IsWhole p) → WritesAnswer command left before now held written_now (code_of statuses.WriteFailed)
     by (inl is) = record { status = code_of status; text = text; says = of.gives now same text (whole_part p text is gives); written = written_part front }
     by (inr other) = record { status = code_of statuses.WantOfMemory; text = text; says = says_pieces command before now left text (of.parts now text gives other); written = written_part front }
 

@@ -36,7 +36,7 @@ use Rattle.run_command.specs.RunReports.{IsReportOfRun}
 use Rattle.run_command.specs.RunAnswers.{run_status, run_over}
 use Rattle.bridge_cli.specs.Answers.{Answers, Says, SaysPieces, answers, unread, in_part}
 use Rattle.bridge_cli.specs.Answers as spec
-use Rattle.bridge_cli.specs.Printed.{Gives, GivesPart, IsNothing, IsPrintable, IsWhole, Ended, printed, stopped, AnswersVisits, IsPrintedOf, IsStopPrinted, IsPageTextPrinted, IsReportPrinted, IsOver}
+use Rattle.bridge_cli.specs.Printed.{Gives, GivesPart, IsNothing, IsPrintable, IsWhole, Ended, printed, stopped, AnswersVisits, IsPrintedOf, IsStopPrinted, IsPageTextPrinted, IsReportPrinted, IsStatusSoFar}
 use Rattle.bridge_cli.specs.Printed as ends
 
 -- ---- what is to be printed
@@ -210,16 +210,16 @@ stop_nothing stop status _ is untold = absurd is
 
 -- ---- the status of what is over
 
-pub over_statuses : (command : Command) (status : Status) → IsOver command status → (status ≢ statuses.WriteFailed) × (status ≢ statuses.NoForm)
+pub over_statuses : (command : Command) (status : Status) → IsStatusSoFar command status → (status ≢ statuses.WriteFailed) × (status ≢ statuses.NoForm)
 over_statuses command status (inl done) = (λ e. let both : statuses.Done ≡ statuses.WriteFailed = sym done ∙ e in absurd cc, λ e. let both : statuses.Done ≡ statuses.NoForm = sym done ∙ e in absurd cc)
 over_statuses command status (inr some) =
     (λ e. let both : statuses.WantOfMemory ≡ statuses.WriteFailed = sym some.0 ∙ e in absurd cc, λ e. let both : statuses.WantOfMemory ≡ statuses.NoForm = sym some.0 ∙ e in absurd cc)
 
-pub over_read : (command : Command) (status : Status) → IsOver command status → status ≢ statuses.ReadFailed
+pub over_read : (command : Command) (status : Status) → IsStatusSoFar command status → status ≢ statuses.ReadFailed
 over_read command status (inl done) e = let both : statuses.Done ≡ statuses.ReadFailed = sym done ∙ e in absurd cc
 over_read command status (inr some) e = let both : statuses.WantOfMemory ≡ statuses.ReadFailed = sym some.0 ∙ e in absurd cc
 
-pub over_memory : (command : Command) (status : Status) → IsOver command status → status ≡ statuses.WantOfMemory → (command_row command).prints_pieces ≡ true
+pub over_memory : (command : Command) (status : Status) → IsStatusSoFar command status → status ≡ statuses.WantOfMemory → (command_row command).prints_pieces ≡ true
 over_memory command status (inl done) e = let both : statuses.Done ≡ statuses.WantOfMemory = sym done ∙ e in absurd cc
 over_memory command status (inr some) e = some.1
 

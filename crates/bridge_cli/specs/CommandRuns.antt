@@ -22,7 +22,7 @@ pub data IsWritten (status : ℕ) (text : List ℕ) (held after : Option (List �
   written_part : WroteFront held after text → IsWritten status text held after (code_of WriteFailed)
 
 -- what a command comes to, by some bytes that may have been on the input and a world before and after it, was written, whole or in part, and this is the status of the process
-pub record IsAnswered (command : Command) (left : Option (List ℕ)) (before after : Outside) (held held_now : Option (List ℕ)) (code : ℕ) : Type 0 where
+pub record WritesAnswer (command : Command) (left : Option (List ℕ)) (before after : Outside) (held held_now : Option (List ℕ)) (code : ℕ) : Type 0 where
   pub status : ℕ
   pub text : List ℕ
   pub says : HasAnswer (Says command before after) left status text
@@ -60,7 +60,7 @@ pub record RanCommand {I O W : Type 0} (command : Command) (left : I → Option 
   -- the status is one of the program's, and not that of words that fit no form
   pub statuses : IsStatus status × (status ≢ code_of NoForm)
   -- the text of what it came to was written: whole, or a front of it where a write failed
-  pub answered : IsAnswered command (left input) (seen world) (seen world_now) (held output) (held output_now) status
+  pub answered : WritesAnswer command (left input) (seen world) (seen world_now) (held output) (held output_now) status
   -- there is no other answer, neither another status nor another text
   pub only_answer : IsTold status → IsOnlyAnswer command (left input) (seen world) (seen world_now) (held output) (held output_now) status
   -- nothing was written where a read failed

@@ -93,8 +93,8 @@ pub record IsPrintedOf (command : Command) (left : Option (List ℕ)) (before af
   pub visits : status ≡ Done → AnswersVisits command left p
 
 -- the status of a command that has something to print: done; or of one that prints in pieces, where memory was wanting for a part
-abbrev pub IsOver : Command → Status → Type 0
-IsOver command status = (status ≡ Done) ⊎ ((status ≡ WantOfMemory) × ((command_row command).prints_pieces ≡ true))
+abbrev pub IsStatusSoFar : Command → Status → Type 0
+IsStatusSoFar command status = (status ≡ Done) ⊎ ((status ≡ WantOfMemory) × ((command_row command).prints_pieces ≡ true))
 
 -- the answer to a stop is printed whole
 abbrev pub IsStopPrinted : Stop → Status → Printed → Type 0

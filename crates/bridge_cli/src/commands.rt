@@ -4,7 +4,7 @@ ghost use Rattle.program_words.specs.declared.status.Status.TheVariants.{Done};
 ghost use Rattle.bridge_cli.specs.Answers.{Answers};
 ghost use Rattle.bridge_cli.specs.CommandReads.{LeavesInput, LeavesRun, IsAlone, ReadsOf};
 ghost use Rattle.page_commands.specs.PageTexts.{text_in};
-ghost use Rattle.bridge_cli.specs.Printed.{IsOver, IsPageTextPrinted, IsPrintedOf, IsReportPrinted};
+ghost use Rattle.bridge_cli.specs.Printed.{IsStatusSoFar, IsPageTextPrinted, IsPrintedOf, IsReportPrinted};
 ghost use Rattle.program_words.specs.CommandWords.{command_row, scrapers_asked, takes_memory};
 ghost use Rattle.program_words.specs.StopAnswers.{StopsAs};
 ghost use Rattle.run_command.specs.RunAnswers.{run_status};
@@ -78,7 +78,7 @@ pub(crate) fn run_up_to_printing<
     requires asked { (W.seen world.old).world.asked ≡ None }
     requires no_door { (W.seen world.old).world.door_at ≡ None }
     requires unused { AreUnused (W.seen world.old).home }
-    ensures status { IfOk result (λ a. IsOver command a.status) }
+    ensures status { IfOk result (λ a. IsStatusSoFar command a.status) }
     ensures printed { IfOk result (λ a. IsPrintedOf command (I.left input.old) (W.seen world.old) (W.seen world.new) a.status a.printed) }
     ensures stop { IfErr result (StopsAs (Answers command (W.seen world.old) (W.seen world.new)) (I.left input.old)) }
     ensures reads { ReadsOf (command_row command).reads I.left I.read_faults input.old input.new W.seen world.old world.new result }

@@ -10,7 +10,7 @@ use Rattle.page_model.specs.declared.event.Cause.{Cause}
 use Rattle.page_model.specs.declared.event.Cause.TheVariants as causes
 use Rattle.http_talk.specs.declared.chunk_place.ChunkPlace.{ChunkPlace}
 use Rattle.http_talk.specs.declared.chunk_place.ChunkPlace.TheVariants as places
-use Rattle.http_talk.specs.Heads.{HeadRead, unfinished, missing, found, head_cause, format_of, framing_of, Framing, in_chunks, to_the_end, of_length, is_long}
+use Rattle.http_talk.specs.Heads.{HeadRead, unfinished, missing, found, head_cause, head_format, framing_of, Framing, in_chunks, to_the_end, of_length, is_long}
 use Rattle.http_talk.specs.Chunks.{Chunks, with_bytes, with_byte, no_chunks, place_after, held_after, is_body_end, is_wrong, is_too_much, is_certain}
 use Rattle.http_talk.specs.Replies.{Judged, waits, goes_on, decided, refused, whole, judged, head_judged, body_judged, or_waits, chunks_verdict, IsJudged}
 use Rattle.http_talk.specs.declared.part.Part.{Part}
@@ -89,7 +89,7 @@ short_read : (most : ℕ) (head : HeadRead) → IsShortBody most (judged most he
 unfolding judged
 short_read most unfinished = tt
 short_read most missing = tt
-short_read most (found h rest) = short_behind most h rest (head_cause most h) (format_of h) refl
+short_read most (found h rest) = short_behind most h rest (head_cause most h) (head_format h) refl
 
 pub body_is_short : (most : ℕ) (got : List ℕ) (known : Judged) → IsJudged most got known → IsShortBody most known
 body_is_short most got known x = subst (IsShortBody most) (sym x.known_is) (short_read most x.head)

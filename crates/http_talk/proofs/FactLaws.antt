@@ -17,7 +17,7 @@ use Rattle.http_talk.specs.declared.head_facts.Media.{Media}
 use Rattle.http_talk.specs.declared.head_facts.Media.TheVariants as medias
 use Rattle.http_talk.specs.declared.head_facts.Lengths.{Lengths}
 use Rattle.http_talk.specs.declared.head_facts.Lengths.TheVariants as lengths
-use Rattle.http_talk.specs.Heads.{is_word, is_length, media_type, format_named, format_of, values_of, has_other_coding, framing_of, is_long, head_cause}
+use Rattle.http_talk.specs.Heads.{is_word, is_length, media_type, format_named, head_format, values_of, has_other_coding, framing_of, is_long, head_cause}
 use Rattle.http_talk.specs.HeadFacts.{no_facts, with_coding, with_transfer, media_by, with_media, with_one_length, with_length, with_field, facts_by, IsTransfer, IsMedia, AreLengths, AreFactsOf, IsFramed, IsHeadFault, has_bad_lengths}
 
 -- ---- fields of one name, by their values
@@ -171,11 +171,11 @@ module _ (most : ℕ) (h : ResponseHead) (code : ℕ) (few : length h.fields ≤
     cause_coding coded = rw (le-ltb 64 (length h.fields) few, fine, coded) refl
 
     module _ (plain : has_other_coding h ≡ false) where
-      pub cause_media : format_of h ≡ None → Some causes.MediaType ≡ head_cause most h
+      pub cause_media : head_format h ≡ None → Some causes.MediaType ≡ head_cause most h
       unfolding head_cause
       cause_media none = rw (le-ltb 64 (length h.fields) few, fine, plain, none) refl
 
-      module _ (format : Format) (known : format_of h ≡ Some format) where
+      module _ (format : Format) (known : head_format h ≡ Some format) where
         cause_lengths : has_bad_lengths h ≡ true → Some causes.Head ≡ head_cause most h
         unfolding head_cause
         cause_lengths bad = rw (le-ltb 64 (length h.fields) few, fine, plain, known, bad) refl
@@ -188,7 +188,7 @@ module _ (most : ℕ) (h : ResponseHead) (code : ℕ) (few : length h.fields ≤
         unfolding head_cause
         no_cause right short = rw (le-ltb 64 (length h.fields) few, fine, plain, known, right, short) refl
 
-pub cause_framed : (fault : ReplyFault) (most : ℕ) (h : ResponseHead) (code : ℕ) (format : Format) → length h.fields ≤ 64 → code ≡ status_code h → code ≡ 200 → has_other_coding h ≡ false → format_of h ≡ Some format
+pub cause_framed : (fault : ReplyFault) (most : ℕ) (h : ResponseHead) (code : ℕ) (format : Format) → length h.fields ≤ 64 → code ≡ status_code h → code ≡ 200 → has_other_coding h ≡ false → head_format h ≡ Some format
     → IsFramed most h (Err fault) → IsHeadFault most h fault
 cause_framed faults.Head most h code format few is good plain known x = cause_lengths most h code few is good plain format known x
 cause_framed faults.TooLong most h code format few is good plain known x = cause_long most h code few is good plain format known x.0 x.1

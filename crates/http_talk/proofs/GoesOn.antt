@@ -14,7 +14,7 @@ use Rattle.label_sets.specs.Lists.{first_some, when_true}
 use Rattle.page_model.specs.declared.event.Cause.TheVariants as causes
 use Rattle.http_talk.specs.declared.seen.HeadSeen.{HeadSeen}
 use Rattle.http_talk.specs.declared.seen.HeadSeen.TheVariants as seen
-use Rattle.http_talk.specs.Heads.{HeadRead, unfinished, missing, found, HeadIs, head_cause, format_of, framing_of, Framing, in_chunks, to_the_end, of_length, head_seen, Shows}
+use Rattle.http_talk.specs.Heads.{HeadRead, unfinished, missing, found, HeadIs, head_cause, head_format, framing_of, Framing, in_chunks, to_the_end, of_length, head_seen, Shows}
 use Rattle.http_talk.proofs.HeadTrees.{never_in_front}
 
 -- where something is certain, more bytes change nothing
@@ -98,7 +98,7 @@ known_on : (most : ℕ) (head : HeadRead) (more : List ℕ) (v : Verdict) → ju
 unfolding judged
 known_on most unfinished more v e = absurd (cc e)
 known_on most missing more v e = e
-known_on most (found h rest) more v e = head_stays most h rest more (head_cause most h) (format_of h) v e
+known_on most (found h rest) more v e = head_stays most h rest more (head_cause most h) (head_format h) v e
 
 not_unfinished : (most : ℕ) (head : HeadRead) (v : Verdict) → judged most head ≡ decided v → head ≢ unfinished
 unfolding judged

@@ -20,7 +20,7 @@ use Rattle.http_talk.specs.declared.fault.Progress.TheVariants as progresses
 use Rattle.http_talk.specs.declared.fault.ReplyFault.{ReplyFault}
 use Rattle.http_talk.specs.declared.fault.ReplyFault.TheVariants as faults
 use Rattle.http_talk.specs.declared.seen.HeadSeen.TheVariants as seen
-use Rattle.http_talk.specs.Heads.{Shows, HeadRead, unfinished, missing, found, HeadIs, head_cause, format_of, framing_of, Framing, in_chunks, to_the_end, of_length}
+use Rattle.http_talk.specs.Heads.{Shows, HeadRead, unfinished, missing, found, HeadIs, head_cause, head_format, framing_of, Framing, in_chunks, to_the_end, of_length}
 use Rattle.http_talk.specs.Chunks.{Chunks, no_chunks, with_bytes, is_certain, is_body_end, is_too_much, is_wrong}
 use Rattle.http_talk.specs.ChunkFeeding.{part_behind}
 use Rattle.http_talk.specs.HeadFacts.{IsHeadFault, first_part, IsFirstPart}
@@ -255,7 +255,7 @@ refused_head faults.Chunk most got h rest is at = (causes.Chunk, refl, record { 
 refused_head faults.Truncated most got h rest is at = absurd is
 refused_head faults.Memory most got h rest is at = absurd is
 
-module _ (most : ℕ) (fed : List ℕ) (h : ResponseHead) (format : Format) (got : ℕ) (at : HeadIs fed (found h [])) (taken : head_cause most h ≡ None) (known : format_of h ≡ Some format) (count : got ≡ length (print_response h)) (short : got ≤ 16384) where
+module _ (most : ℕ) (fed : List ℕ) (h : ResponseHead) (format : Format) (got : ℕ) (at : HeadIs fed (found h [])) (taken : head_cause most h ≡ None) (known : head_format h ≡ Some format) (count : got ≡ length (print_response h)) (short : got ≤ 16384) where
   abbrev body_begun : (framing : Framing) → framing_of h ≡ framing → HasBody most fed format framing
   body_begun framing is = record { head = h; rest = []; head_is = at; taken = taken; format_is = known; framing_is = is }
 

@@ -9,7 +9,7 @@ use Rattle.page_model.specs.declared.format.Format.{Format}
 use Rattle.page_model.specs.declared.event.Cause.{Cause}
 use Rattle.page_model.specs.declared.event.Cause.TheVariants as causes
 use Rattle.http_talk.specs.declared.seen.HeadSeen.TheVariants as seen
-use Rattle.http_talk.specs.Heads.{HeadRead, unfinished, missing, found, HeadIs, head_cause, format_of, framing_of, Framing, in_chunks, to_the_end, of_length, is_long, has_other_coding, has_transfer_coding, are_bad_lengths, values_of, head_seen, Shows}
+use Rattle.http_talk.specs.Heads.{HeadRead, unfinished, missing, found, HeadIs, head_cause, head_format, framing_of, Framing, in_chunks, to_the_end, of_length, is_long, has_other_coding, has_transfer_coding, are_bad_lengths, values_of, head_seen, Shows}
 use Rattle.http_talk.specs.Chunks.{Chunks, with_bytes, with_byte, no_chunks}
 use Rattle.http_talk.specs.Chunks as chunks
 use Rattle.http_talk.specs.Replies.{Judged, waits, goes_on, decided, refused, whole, judged, head_judged, body_judged, or_waits, chunks_verdict, IsJudged, Verdict, is_decided}
@@ -68,7 +68,7 @@ pub not_long : (most : ℕ) (h : ResponseHead) → head_cause most h ≡ None �
 unfolding head_cause
 not_long most h x =
     none_last
-    (nat_lt 64 (length h.fields)) (not (status_code h == 200)) (has_other_coding h) (is_none (format_of h))
+    (nat_lt 64 (length h.fields)) (not (status_code h == 200)) (has_other_coding h) (is_none (head_format h))
     (not (has_transfer_coding h) && are_bad_lengths (values_of (codes "content-length") h)) (is_long most (framing_of h))
     causes.Head (causes.Status (status_code h)) causes.Encoding causes.MediaType causes.Head causes.TooLong x
 
@@ -98,7 +98,7 @@ unfolding judged
 few_read most got unfinished x e = omega (arith, x.0)
 few_read most got missing x e = absurd (cc e)
 few_read most got (found h rest) x e =
-    omega (arith, few_behind most h rest (head_cause most h) (format_of h) x.1 refl e, ap (length {A = ℕ}) x.0.1, length-append (print_response h) rest)
+    omega (arith, few_behind most h rest (head_cause most h) (head_format h) x.1 refl e, ap (length {A = ℕ}) x.0.1, length-append (print_response h) rest)
 
 pub undecided_is_short : (most : ℕ) (got : List ℕ) (known : Judged) → IsJudged most got known → is_decided known ≡ false → length got ≤ 8 * most + 65536
 undecided_is_short most got known x e = few_read most got x.head x.head_is (subst (λ k. is_decided k ≡ false) x.known_is e)

@@ -11,7 +11,7 @@ use Rattle.http_talk.specs.declared.part.Part.{Part}
 use Rattle.http_talk.specs.declared.part.Part.TheVariants as parts
 use Rattle.http_talk.specs.declared.fault.Progress.TheVariants as progresses
 use Rattle.http_talk.specs.declared.fault.ReplyFault.{ReplyFault}
-use Rattle.http_talk.specs.Heads.{HeadRead, unfinished, missing, found, HeadIs, head_cause, format_of, framing_of, Framing, in_chunks, to_the_end, of_length}
+use Rattle.http_talk.specs.Heads.{HeadRead, unfinished, missing, found, HeadIs, head_cause, head_format, framing_of, Framing, in_chunks, to_the_end, of_length}
 use Rattle.http_talk.specs.Chunks.{Chunks, no_chunks, with_bytes, is_body_end, is_too_much, is_wrong}
 use Rattle.http_talk.specs.Replies.{Judged, waits, goes_on, decided, refused, whole, judged, head_judged, body_judged, or_waits, chunks_verdict, IsJudged, HasVerdict, is_decided}
 use Rattle.http_talk.specs.ReplyReading.{HasBody, HasKept, Stands, kept_by, progress_of}
@@ -48,7 +48,7 @@ body_gave (of_length n) most head format f given rest e =
     ] e
 
 head_gave : (most : ℕ) (fed : List ℕ) (format : Format) (given : List ℕ) (h : ResponseHead) (rest : List ℕ) (cause : Option Cause) (f : Option Format) → HeadIs fed (found h rest)
-    → head_cause most h ≡ cause → format_of h ≡ f → decided (whole format given) ≡ head_judged most h rest cause f → HasGiven most fed (Some format) given
+    → head_cause most h ≡ cause → head_format h ≡ f → decided (whole format given) ≡ head_judged most h rest cause f → HasGiven most fed (Some format) given
 head_gave most fed format given h rest (Some cause) f at caused formed e = absurd (cc e)
 head_gave most fed format given h rest None None at caused formed e = absurd (cc e)
 head_gave most fed format given h rest None (Some f) at caused formed e =
@@ -60,7 +60,7 @@ read_gave : (head : HeadRead) (most : ℕ) (fed : List ℕ) (format : Format) (g
 unfolding judged
 read_gave unfinished most fed format given at e = absurd (cc e)
 read_gave missing most fed format given at e = absurd (cc e)
-read_gave (found h rest) most fed format given at e = head_gave most fed format given h rest (head_cause most h) (format_of h) at refl refl e
+read_gave (found h rest) most fed format given at e = head_gave most fed format given h rest (head_cause most h) (head_format h) at refl refl e
 
 gave_by : (part : Part) (most : ℕ) (fed : List ℕ) (format : Format) (kept given : List ℕ) (got : ℕ) → HasKept part most fed format (kept_by part kept given) got → (part ≡ parts.Head → given ≡ []) → HasGiven most fed (told_at part format) given
 gave_by parts.Head most fed format kept given got k none = (none refl, k.1)

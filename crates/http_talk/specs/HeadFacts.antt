@@ -18,7 +18,7 @@ use Rattle.http_talk.specs.declared.fault.ReplyFault.{ReplyFault}
 use Rattle.http_talk.specs.declared.fault.ReplyFault.TheVariants as faults
 use Rattle.page_model.specs.declared.format.Format.TheVariants.{Text}
 use Rattle.http_talk.specs.declared.chunk_place.ChunkPlace.TheVariants.{Digits}
-use Rattle.http_talk.specs.Heads.{is_word, is_length, media_type, format_named, format_by, format_of, values_of, has_content_coding, has_transfer_coding, is_only_chunked, are_bad_lengths, framing_by, framing_of, is_long, head_cause, Framing, in_chunks, to_the_end, of_length}
+use Rattle.http_talk.specs.Heads.{is_word, is_length, media_type, format_named, format_by, head_format, values_of, has_content_coding, has_transfer_coding, is_only_chunked, are_bad_lengths, framing_by, framing_of, is_long, head_cause, Framing, in_chunks, to_the_end, of_length}
 use Rattle.http_talk.specs.ChunkFeeding.{IsChunkPlace}
 use Rattle.http_talk.specs.Replies.{cause_of}
 
@@ -136,5 +136,5 @@ IsFramed most h (Err fault) = ⊥
 
 -- how a body begins behind a head that is taken, or the cause for which it is refused
 abbrev pub IsStart : ℕ → ResponseHead → Result Start ReplyFault → Type 0
-IsStart most h (Ok start) = (head_cause most h ≡ None) × (format_of h ≡ Some start.format) × (start.part ≡ first_part (framing_of h))
+IsStart most h (Ok start) = (head_cause most h ≡ None) × (head_format h ≡ Some start.format) × (start.part ≡ first_part (framing_of h))
 IsStart most h (Err fault) = IsHeadFault most h fault

@@ -91,8 +91,8 @@ format_by [] = Some Text
 format_by (value ∷ values) = format_named (media_type value)
 
 -- the format of the body, where it is one that the bridge reads
-abbrev pub format_of : ResponseHead → Option Format
-format_of h = format_by (values_of (codes "content-type") h)
+abbrev pub head_format : ResponseHead → Option Format
+head_format h = format_by (values_of (codes "content-type") h)
 
 -- a length is 1 to 18 digits
 abbrev pub is_length : List ℕ → Bool
@@ -132,7 +132,7 @@ head_cause most h = first_some (λ cause. cause) (
     when_true (nat_lt field_limit (length h.fields)) causes.Head
     ∷ when_true (not (status_code h == 200)) (causes.Status (status_code h))
     ∷ when_true (has_other_coding h) causes.Encoding
-    ∷ when_true (is_none (format_of h)) causes.MediaType
+    ∷ when_true (is_none (head_format h)) causes.MediaType
     ∷ when_true (not (has_transfer_coding h) && are_bad_lengths (values_of (codes "content-length") h)) causes.Head
     ∷ when_true (is_long most (framing_of h)) causes.TooLong
     ∷ [])

@@ -16,7 +16,7 @@ use Rattle.page_model.specs.Written.{Setting}
 use Rattle.page_model.specs.Pages.{FirstFault, IsPageOf}
 use Rattle.http_talk.specs.declared.fault.ReplyFault.{ReplyFault}
 use Rattle.http_talk.specs.declared.fault.ReplyFault.TheVariants as faults
-use Rattle.http_talk.specs.Heads.{HeadRead, unfinished, missing, found, HeadIs, head_cause, format_of, framing_of, Framing, in_chunks, to_the_end, of_length}
+use Rattle.http_talk.specs.Heads.{HeadRead, unfinished, missing, found, HeadIs, head_cause, head_format, framing_of, Framing, in_chunks, to_the_end, of_length}
 use Rattle.http_talk.specs.Chunks.{Chunks, no_chunks, with_bytes, is_body_end, is_wrong, is_too_much}
 
 -- the least number of bytes that a body may be allowed
@@ -83,7 +83,7 @@ head_judged most h rest None None = decided (refused causes.MediaType)
 unfoldable pub judged : ℕ → HeadRead → Judged
 judged most unfinished = waits
 judged most missing = decided (refused causes.Head)
-judged most (found h rest) = head_judged most h rest (head_cause most h) (format_of h)
+judged most (found h rest) = head_judged most h rest (head_cause most h) (head_format h)
 
 -- this is what is known of a reply that begins with these bytes
 pub record IsJudged (most : ℕ) (got : List ℕ) (known : Judged) : Type 0 where

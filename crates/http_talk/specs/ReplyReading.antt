@@ -11,7 +11,7 @@ use Rattle.http_talk.specs.declared.fault.Body.{Body}
 use Rattle.http_talk.specs.declared.fault.ReplyFault.{ReplyFault}
 use Rattle.http_talk.specs.declared.fault.ReplyFault.TheVariants as faults
 use Rattle.page_model.specs.declared.event.Cause.{Cause}
-use Rattle.http_talk.specs.Heads.{unfinished, found, HeadIs, head_cause, format_of, framing_of, Framing, in_chunks, to_the_end, of_length}
+use Rattle.http_talk.specs.Heads.{unfinished, found, HeadIs, head_cause, head_format, framing_of, Framing, in_chunks, to_the_end, of_length}
 use Rattle.http_talk.specs.Chunks.{no_chunks, with_bytes}
 use Rattle.http_talk.specs.Chunks as chunks
 use Rattle.http_talk.specs.Replies.{Judged, waits, goes_on, decided, refused, whole, IsJudged, HasVerdict, cause_of}
@@ -31,7 +31,7 @@ pub record HasBody (most : ℕ) (got : List ℕ) (format : Format) (framing : Fr
   pub rest : List ℕ
   pub head_is : HeadIs got (found head rest)
   pub taken : head_cause most head ≡ None
-  pub format_is : format_of head ≡ Some format
+  pub format_is : head_format head ≡ Some format
   pub framing_is : framing_of head ≡ framing
 
 -- what a reader keeps once it was fed these bytes, by what it is reading

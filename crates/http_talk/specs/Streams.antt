@@ -16,7 +16,7 @@ use Rattle.http_talk.specs.declared.fault.Progress.TheVariants as progresses
 use Rattle.http_talk.specs.declared.fault.ReplyFault.{ReplyFault}
 use Rattle.http_talk.specs.declared.fault.ReplyFault.TheVariants as faults
 use Rattle.http_talk.specs.HeadFacts.{IsHeadFault, first_part}
-use Rattle.http_talk.specs.Heads.{unfinished, found, HeadIs, head_cause, format_of, framing_of, Framing, in_chunks, to_the_end, of_length}
+use Rattle.http_talk.specs.Heads.{unfinished, found, HeadIs, head_cause, head_format, framing_of, Framing, in_chunks, to_the_end, of_length}
 use Rattle.http_talk.specs.Chunks.{no_chunks, with_bytes}
 use Rattle.http_talk.specs.ChunkFeeding.{IsChunkPlace}
 use Rattle.http_talk.specs.Replies.{Judged, waits, goes_on, refused, whole, IsJudged, HasVerdict, is_decided}
@@ -142,7 +142,7 @@ step_behind (Err fault) from to = Err fault
 -- behind a head of so many bytes that is found in what is kept the body begins, or the head is refused
 abbrev pub BeginsBody : Streaming → Streaming → ResponseHead → ℕ → Result Format ReplyFault → Type 0
 BeginsBody old new h len (Ok format) =
-    (head_cause old.most h ≡ None) × (format_of h ≡ Some format)
+    (head_cause old.most h ≡ None) × (head_format h ≡ Some format)
     × (new ≡ record old { part = first_part (framing_of h); format = format; kept = []; body = 0; got = len })
 BeginsBody old new h len (Err fault) = IsHeadFault old.most h fault
 

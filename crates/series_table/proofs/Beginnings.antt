@@ -12,7 +12,7 @@ use Rattle.series_table.specs.declared.counts.Counts.{Counts}
 use Rattle.series_table.specs.Talking.{Talking, Followed, AreInRange}
 use Rattle.series_table.specs.Counting.{visit_counts}
 use Rattle.series_table.specs.Records.{IsFresh, IsTrack, IsShownOf, BodiesOf}
-use Rattle.series_table.specs.Keeping.{followed_by, kept_by}
+use Rattle.series_table.specs.Keeping.{followed_by, kept_with}
 use Rattle.series_table.proofs.Shows.{shows_nothing}
 use Rattle.series_table.proofs.FewRows.{few_rows_behind}
 
@@ -28,7 +28,7 @@ nothing_posted w f = record {
 
 pub new_track : (w : Talking) (aim : Aim) (s p : WireState) (f : Following) (shown : Shown) (counts : Counts) → AreInRange aim.settings → IsFresh s → IsFresh p
     → StandsFor aim.target (record { keep = aim.settings.keep; honor = aim.target.honor }) f [] → shown ≡ latest_shown aim.target [] → counts ≡ visit_counts (followed_by aim s.plan p.plan) [] []
-    → IsTrack w (kept_by aim s p f shown None counts false)
+    → IsTrack w (kept_with aim s p f shown None counts false)
 new_track w aim s p f shown counts ranges scrape post stands shows counted =
     let followed = followed_by aim s.plan p.plan in
     record {

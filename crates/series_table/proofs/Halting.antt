@@ -12,7 +12,7 @@ use Rattle.series_table.specs.declared.counts.Counts.{Counts}
 use Rattle.series_table.specs.Talking.{Talking}
 use Rattle.series_table.specs.Records.{Kept, IsTrack, IsHalted, IsHalt, PostsWhatItsTalksTell, talks_of}
 use Rattle.series_table.specs.Making.{TookAtMostOne}
-use Rattle.series_table.specs.Keeping.{followed_by, kept_by}
+use Rattle.series_table.specs.Keeping.{followed_by, kept_with}
 use Rattle.series_table.proofs.FewRows.{few_rows_kept}
 use Rattle.series_table.proofs.Tellings.{tells_before, tells_both, tells_on}
 use Rattle.series_table.proofs.Histories.{talk_follows}
@@ -38,7 +38,7 @@ halted_track plans aim s p following shown second counts = record {
 }
 
 halts_with : (w : Talking) (aim : Aim) (s0 s1 p : WireState) (f0 f1 : Following) (shown : Shown) (second : Option Shown) (counts : Counts)
-    → IsTrack w (kept_by aim s0 p f0 shown second counts false) → IsCutShort s0 s1 → TookAtMostOne aim f0 f1 → IsTrack w (halted_track (s0.plan, p.plan) aim s1 p f1 shown second counts)
+    → IsTrack w (kept_with aim s0 p f0 shown second counts false) → IsCutShort s0 s1 → TookAtMostOne aim f0 f1 → IsTrack w (halted_track (s0.plan, p.plan) aim s1 p f1 shown second counts)
 halts_with w aim s0 s1 p f0 f1 shown second counts h cut took =
     let r = h.history in
     record {
@@ -66,12 +66,12 @@ halts_with w aim s0 s1 p f0 f1 shown second counts h cut took =
 
 -- what a track keeps stays where a visit finds no memory
 pub track_halts : (w : Talking) (aim : Aim) (s0 s1 p0 p1 : WireState) (f0 f1 : Following) (shown : Shown) (second : Option Shown) (counts : Counts) (halted : Bool)
-    → IsTrack w (kept_by aim s0 p0 f0 shown second counts halted) → halted ≡ false → IsCutShort s0 s1 → p1 ≡ p0 → TookAtMostOne aim f0 f1 → IsTrack w (kept_by aim s1 p1 f1 shown second counts true)
+    → IsTrack w (kept_with aim s0 p0 f0 shown second counts halted) → halted ≡ false → IsCutShort s0 s1 → p1 ≡ p0 → TookAtMostOne aim f0 f1 → IsTrack w (kept_with aim s1 p1 f1 shown second counts true)
 track_halts w aim s0 s1 p0 p1 f0 f1 shown second counts halted h working cut same took =
-    let track : IsTrack w (kept_by aim s0 p0 f0 shown second counts false) = subst (λ b. IsTrack w (kept_by aim s0 p0 f0 shown second counts b)) working h in
+    let track : IsTrack w (kept_with aim s0 p0 f0 shown second counts false) = subst (λ b. IsTrack w (kept_with aim s0 p0 f0 shown second counts b)) working h in
     let made : IsTrack w (halted_track (s0.plan, p0.plan) aim s1 p0 f1 shown second counts) = halts_with w aim s0 s1 p0 f0 f1 shown second counts track cut took in
-    let planned : IsTrack w (kept_by aim s1 p0 f1 shown second counts true) = subst (λ plan. IsTrack w (halted_track (plan, p0.plan) aim s1 p0 f1 shown second counts)) (sym cut.plan) made in
-    subst (λ p. IsTrack w (kept_by aim s1 p f1 shown second counts true)) (sym same) planned
+    let planned : IsTrack w (kept_with aim s1 p0 f1 shown second counts true) = subst (λ plan. IsTrack w (halted_track (plan, p0.plan) aim s1 p0 f1 shown second counts)) (sym cut.plan) made in
+    subst (λ p. IsTrack w (kept_with aim s1 p f1 shown second counts true)) (sym same) planned
 
 few_talks : (old new posts : List Talk) → GrewByOne old new → IsHalt 1 old posts new posts
 few_talks old new posts (inl same) = record { further = []; scraped = same; few = omega arith; posted = refl }
@@ -79,7 +79,7 @@ few_talks old new posts (inr grew) = record { further = grew.0 ∷ []; scraped =
 
 -- what such a visit did
 pub visit_halts : (aim : Aim) (s0 s1 p0 p1 : WireState) (f0 f1 : Following) (shown : Shown) (second : Option Shown) (counts : Counts) (halted : Bool)
-    → halted ≡ false → IsCutShort s0 s1 → p1 ≡ p0 → IsHalted (kept_by aim s0 p0 f0 shown second counts halted) (kept_by aim s1 p1 f1 shown second counts true)
+    → halted ≡ false → IsCutShort s0 s1 → p1 ≡ p0 → IsHalted (kept_with aim s0 p0 f0 shown second counts halted) (kept_with aim s1 p1 f1 shown second counts true)
 visit_halts aim s0 s1 p0 p1 f0 f1 shown second counts halted working cut same = record {
   halted = refl;
   counts = refl;

@@ -21,7 +21,7 @@ use Rattle.series_table.specs.Emission.{tracking_of, IsEventOf, post_text_after}
 use Rattle.series_table.specs.Counting.{with_visit, visit_counts, has_failed}
 use Rattle.series_table.specs.Making.{IsMade, IsPrepared, point_counts, whole_request}
 use Rattle.series_table.specs.Records.{Kept, IsTrack, IsDone, IsBodyOf, IsShownOf, BodiesOf, talks_of}
-use Rattle.series_table.specs.Keeping.{followed_by, kept_by}
+use Rattle.series_table.specs.Keeping.{followed_by, kept_with}
 use Rattle.series_table.proofs.Tellings.{told_talks, tells_before, tells_both, tells_on}
 use Rattle.series_table.proofs.Histories.{event_fits, run_fits, all_counted, visit_fits}
 use Rattle.series_table.proofs.Halting.{same_plans}
@@ -41,7 +41,7 @@ event_text aim s p events e f1 made m = m.text
 
 -- the facts of a visit that was made, before the plans of its wires are seen to be the same
 record Facts (aim : Aim) (s0 s1 p0 p1 : WireState) (f0 f1 : Following) (shown : Shown) (second : Option Shown) (counts : Counts) (made : Prepared) (event : Event) (last : Try) : Type 0 where
-  track : IsTrack talking (kept_by aim s0 p0 f0 shown second counts false)
+  track : IsTrack talking (kept_with aim s0 p0 f0 shown second counts false)
   few : counts.visits < 1000000
   prepared : IsPrepared aim s0 s1 p0 (made_ready aim.settings.tries (length (whole_request made.text)) p0) f0 f1 made event
   idle_post : p1.stage ≡ stages.Idle
@@ -130,7 +130,7 @@ goes_on aim s0 s1 p0 p1 f0 f1 shown second counts made event last x =
 
 did : (aim : Aim) (s0 s1 p0 p1 : WireState) (f0 f1 : Following) (shown : Shown) (second : Option Shown) (counts : Counts) (made : Prepared) (event : Event) (last : Try)
     → Facts aim s0 s1 p0 p1 f0 f1 shown second counts made event last
-    → IsDone talking (kept_by aim s0 p0 f0 shown second counts false) (kept_by aim s1 p1 f1 made.shown (Some made.second) (with_visit counts made.failed made.points (posted_of last)) false)
+    → IsDone talking (kept_with aim s0 p0 f0 shown second counts false) (kept_with aim s1 p1 f1 made.shown (Some made.second) (with_visit counts made.failed made.points (posted_of last)) false)
 did aim s0 s1 p0 p1 f0 f1 shown second counts made event last x =
     let f = followed_before aim s0 p0 in
     let r = x.track.history in
@@ -170,10 +170,10 @@ did aim s0 s1 p0 p1 f0 f1 shown second counts made event last x =
 -- ---- what the code has
 
 facts_of : (aim : Aim) (s0 s1 p0 m p1 : WireState) (f0 f1 : Following) (shown : Shown) (second : Option Shown) (counts : Counts) (halted : Bool) (made : Prepared) (event : Event) (posted : Posted)
-    → IsTrack talking (kept_by aim s0 p0 f0 shown second counts halted) → halted ≡ false → counts.visits < 1000000 → IsPrepared aim s0 s1 p0 m f0 f1 made event
+    → IsTrack talking (kept_with aim s0 p0 f0 shown second counts halted) → halted ≡ false → counts.visits < 1000000 → IsPrepared aim s0 s1 p0 m f0 f1 made event
     → (done : IsPosting aim.settings.tries (whole_request made.text) m p1 posted) → Facts aim s0 s1 p0 p1 f0 f1 shown second counts made event done.last
 facts_of aim s0 s1 p0 m p1 f0 f1 shown second counts halted made event posted track working few prepared done = record {
-  track = subst (λ b. IsTrack talking (kept_by aim s0 p0 f0 shown second counts b)) working track;
+  track = subst (λ b. IsTrack talking (kept_with aim s0 p0 f0 shown second counts b)) working track;
   few = few;
   prepared = subst (λ (w : WireState). IsPrepared aim s0 s1 p0 w f0 f1 made event) prepared.room prepared;
   idle_post = done.free;
@@ -184,8 +184,8 @@ facts_of aim s0 s1 p0 m p1 f0 f1 shown second counts halted made event posted tr
 
 -- what a track keeps stays where a visit was made
 pub track_goes_on : (aim : Aim) (s0 s1 p0 m p1 : WireState) (f0 f1 : Following) (shown : Shown) (second : Option Shown) (counts : Counts) (halted : Bool) (made : Prepared) (event : Event) (posted : Posted)
-    → IsTrack talking (kept_by aim s0 p0 f0 shown second counts halted) → halted ≡ false → counts.visits < 1000000 → IsPrepared aim s0 s1 p0 m f0 f1 made event → IsPosting aim.settings.tries (whole_request made.text) m p1 posted
-    → IsTrack talking (kept_by aim s1 p1 f1 made.shown (Some made.second) (with_visit counts made.failed made.points posted) halted)
+    → IsTrack talking (kept_with aim s0 p0 f0 shown second counts halted) → halted ≡ false → counts.visits < 1000000 → IsPrepared aim s0 s1 p0 m f0 f1 made event → IsPosting aim.settings.tries (whole_request made.text) m p1 posted
+    → IsTrack talking (kept_with aim s1 p1 f1 made.shown (Some made.second) (with_visit counts made.failed made.points posted) halted)
 track_goes_on aim s0 s1 p0 m p1 f0 f1 shown second counts halted made event posted track working few prepared done =
     let x = facts_of aim s0 s1 p0 m p1 f0 f1 shown second counts halted made event posted track working few prepared done in
     let base : IsTrack talking (done_track aim s0 s1 p0 p1 f1 counts made (posted_of done.last)) = goes_on aim s0 s1 p0 p1 f0 f1 shown second counts made event done.last x in
@@ -200,17 +200,17 @@ track_goes_on aim s0 s1 p0 m p1 f0 f1 shown second counts halted made event post
       counts = with_visit counts made.failed made.points posted;
       halted = false;
     })) (sym (same_plans aim s1.plan p1.plan s0.plan p0.plan x.prepared.scrape.plan x.plan_post)) posted_so in
-    subst (λ b. IsTrack talking (kept_by aim s1 p1 f1 made.shown (Some made.second) (with_visit counts made.failed made.points posted) b)) (sym working) planned
+    subst (λ b. IsTrack talking (kept_with aim s1 p1 f1 made.shown (Some made.second) (with_visit counts made.failed made.points posted) b)) (sym working) planned
 
 -- what such a visit did
 pub visit_done : (aim : Aim) (s0 s1 p0 m p1 : WireState) (f0 f1 : Following) (shown : Shown) (second : Option Shown) (counts : Counts) (halted : Bool) (made : Prepared) (event : Event) (posted : Posted)
-    → IsTrack talking (kept_by aim s0 p0 f0 shown second counts halted) → halted ≡ false → counts.visits < 1000000 → IsPrepared aim s0 s1 p0 m f0 f1 made event → IsPosting aim.settings.tries (whole_request made.text) m p1 posted
-    → IsDone talking (kept_by aim s0 p0 f0 shown second counts halted) (kept_by aim s1 p1 f1 made.shown (Some made.second) (with_visit counts made.failed made.points posted) halted)
+    → IsTrack talking (kept_with aim s0 p0 f0 shown second counts halted) → halted ≡ false → counts.visits < 1000000 → IsPrepared aim s0 s1 p0 m f0 f1 made event → IsPosting aim.settings.tries (whole_request made.text) m p1 posted
+    → IsDone talking (kept_with aim s0 p0 f0 shown second counts halted) (kept_with aim s1 p1 f1 made.shown (Some made.second) (with_visit counts made.failed made.points posted) halted)
 visit_done aim s0 s1 p0 m p1 f0 f1 shown second counts halted made event posted track working few prepared done =
     let x = facts_of aim s0 s1 p0 m p1 f0 f1 shown second counts halted made event posted track working few prepared done in
     let base = did aim s0 s1 p0 p1 f0 f1 shown second counts made event done.last x in
-    let posted_so = subst (λ p. IsDone talking (kept_by aim s0 p0 f0 shown second counts false) (kept_by aim s1 p1 f1 made.shown (Some made.second) (with_visit counts made.failed made.points p) false)) (sym done.result_is) base in
-    subst (λ b. IsDone talking (kept_by aim s0 p0 f0 shown second counts b) (kept_by aim s1 p1 f1 made.shown (Some made.second) (with_visit counts made.failed made.points posted) b)) (sym working) posted_so
+    let posted_so = subst (λ p. IsDone talking (kept_with aim s0 p0 f0 shown second counts false) (kept_with aim s1 p1 f1 made.shown (Some made.second) (with_visit counts made.failed made.points p) false)) (sym done.result_is) base in
+    subst (λ b. IsDone talking (kept_with aim s0 p0 f0 shown second counts b) (kept_with aim s1 p1 f1 made.shown (Some made.second) (with_visit counts made.failed made.points posted) b)) (sym working) posted_so
 
 -- ---- the body
 
@@ -224,7 +224,7 @@ told_event f e None new h scrapes is = absurd (none-some scrapes is)
 -- a visit that was made gives its body
 pub gives_body : (aim : Aim) (s0 s1 p0 m p1 : WireState) (f0 f1 : Following) (shown shown_now : Shown) (second second_now : Option Shown) (counts counts_now : Counts) (halted halted_now : Bool) (made : Prepared) (event : Event)
     → IsPrepared aim s0 s1 p0 m f0 f1 made event
-    → IsBodyOf talking (kept_by aim s0 p0 f0 shown second counts halted) (kept_by aim s1 p1 f1 shown_now second_now counts_now halted_now) made.text.body.items
+    → IsBodyOf talking (kept_with aim s0 p0 f0 shown second counts halted) (kept_with aim s1 p1 f1 shown_now second_now counts_now halted_now) made.text.body.items
 gives_body aim s0 s1 p0 m p1 f0 f1 shown shown_now second second_now counts counts_now halted halted_now made event prepared = record {
   event = event;
   told = λ scrapes is. told_event (followed_by aim s0.plan p0.plan) event s0.told s1.told prepared.scrape.told scrapes is;

@@ -14,8 +14,8 @@ abbrev pub followed_by : Aim → Option Plan → Option Plan → Followed
 followed_by aim scrape_plan post_plan = record { target = aim.target; to = aim.to; settings = aim.settings; scrape_plan = scrape_plan; post_plan = post_plan }
 
 -- a track of these fields
-abbrev pub kept_by : Aim → WireState → WireState → Following → Shown → Option Shown → Counts → Bool → Kept
-kept_by aim scrape post following shown second counts halted = record {
+abbrev pub kept_with : Aim → WireState → WireState → Following → Shown → Option Shown → Counts → Bool → Kept
+kept_with aim scrape post following shown second counts halted = record {
   followed = followed_by aim scrape.plan post.plan;
   scrape = scrape;
   post = post;

@@ -54,15 +54,15 @@ pub enum TrackFault<W: Wire> {
 
 impl<W: Wire> Model for Track<W> {
     ghost use Rattle.series_table.specs.Records.{Kept, IsTrack};
-    ghost use Rattle.series_table.specs.Keeping.{kept_by};
+    ghost use Rattle.series_table.specs.Keeping.{kept_with};
     ghost use Rattle.series_table.specs.HttpTalks.{talking};
 
     ghost Value = { Kept };
 
-    ghost view = { λ t. kept_by t.aim (W.state t.scrape) (W.state t.post) t.state t.shown t.second t.counts t.halted };
+    ghost view = { λ t. kept_with t.aim (W.state t.scrape) (W.state t.post) t.state t.shown t.second t.counts t.halted };
 
     ghost invariant = { λ t.
-        IsTrack talking (kept_by t.aim (W.state t.scrape) (W.state t.post) t.state t.shown t.second t.counts t.halted) };
+        IsTrack talking (kept_with t.aim (W.state t.scrape) (W.state t.post) t.state t.shown t.second t.counts t.halted) };
 }
 
 /// What a target's track begins with: its state, and what it shows.

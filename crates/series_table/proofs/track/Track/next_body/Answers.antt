@@ -2,7 +2,7 @@ use Rattle.std.proofs.Common.{ℕ, ◌<◌, List, Some, sym, ap, subst, true}
 use Rattle.otlp_sender.specs.Posting.{IsPosting}
 use Rattle.series_table.specs.declared.counts.Counts.{Counts}
 use Rattle.series_table.specs.HttpTalks.{talking}
-use Rattle.series_table.specs.Keeping.{kept_by}
+use Rattle.series_table.specs.Keeping.{kept_with}
 use Rattle.series_table.specs.Making.{whole_request}
 use Rattle.series_table.specs.Records.{Kept, IsTrack, IsBodyOf, IsDone, IsHalted, PostsWhatItsTalksTell}
 use Rattle.series_table.proofs.Halting.{track_halts, visit_halts, posts_what_talks_tell}
@@ -24,7 +24,7 @@ invariant_of-self g c =
     let few : inside.counts.visits < 1000000 = subst (λ (k : Kept). k.counts.visits < 1000000) (sym c.self.view_is) c.requires in
     let done : IsPosting inside.aim.settings.tries (whole_request made.text) (state c.prepare.new.post) (state c.post_parts-posted.new.wire) c.post_parts-posted.result =
     subst (λ (text : List ℕ). IsPosting inside.aim.settings.tries text (state c.prepare.new.post) (state c.post_parts-posted.new.wire) c.post_parts-posted.result) (cc (c.parts.ensures.head, c.parts.ensures.body)) c.post_parts-posted.ensures in
-    subst (λ (counts : Counts). IsTrack talking (kept_by inside.aim (state c.prepare.new.wire) (state c.post_parts-posted.new.wire) c.prepare.new.state made.shown (Some made.second) counts inside.halted)) (sym c.with_visit-self-inside.ensures)
+    subst (λ (counts : Counts). IsTrack talking (kept_with inside.aim (state c.prepare.new.wire) (state c.post_parts-posted.new.wire) c.prepare.new.state made.shown (Some made.second) counts inside.halted)) (sym c.with_visit-self-inside.ensures)
     (track_goes_on inside.aim (state inside.scrape) (state c.prepare.new.wire) (state inside.post) (state c.prepare.new.post) (state c.post_parts-posted.new.wire) inside.state c.prepare.new.state inside.shown inside.second inside.counts inside.halted
     made c.in-Ok.ensures.0 c.post_parts-posted.result c.self.invariant c.if-self.false few c.in-Ok.ensures.1 done)
 
@@ -43,9 +43,9 @@ returns-in-Ok-clause-visit g c =
     let few : inside.counts.visits < 1000000 = subst (λ (k : Kept). k.counts.visits < 1000000) (sym c.self.view_is) c.requires in
     let done : IsPosting inside.aim.settings.tries (whole_request made.text) (state c.prepare.new.post) (state c.post_parts-posted.new.wire) c.post_parts-posted.result =
     subst (λ (text : List ℕ). IsPosting inside.aim.settings.tries text (state c.prepare.new.post) (state c.post_parts-posted.new.wire) c.post_parts-posted.result) (cc (c.parts.ensures.head, c.parts.ensures.body)) c.post_parts-posted.ensures in
-    subst (λ (before : Kept). IsDone talking before (kept_by inside.aim (state c.prepare.new.wire) (state c.post_parts-posted.new.wire) c.prepare.new.state made.shown (Some made.second) c.with_visit-self-inside.result inside.halted)) c.self.view_is
-    (subst (λ (counts : Counts). IsDone talking (kept_by inside.aim (state inside.scrape) (state inside.post) inside.state inside.shown inside.second inside.counts inside.halted)
-    (kept_by inside.aim (state c.prepare.new.wire) (state c.post_parts-posted.new.wire) c.prepare.new.state made.shown (Some made.second) counts inside.halted)) (sym c.with_visit-self-inside.ensures)
+    subst (λ (before : Kept). IsDone talking before (kept_with inside.aim (state c.prepare.new.wire) (state c.post_parts-posted.new.wire) c.prepare.new.state made.shown (Some made.second) c.with_visit-self-inside.result inside.halted)) c.self.view_is
+    (subst (λ (counts : Counts). IsDone talking (kept_with inside.aim (state inside.scrape) (state inside.post) inside.state inside.shown inside.second inside.counts inside.halted)
+    (kept_with inside.aim (state c.prepare.new.wire) (state c.post_parts-posted.new.wire) c.prepare.new.state made.shown (Some made.second) counts inside.halted)) (sym c.with_visit-self-inside.ensures)
     (visit_done inside.aim (state inside.scrape) (state c.prepare.new.wire) (state inside.post) (state c.prepare.new.post) (state c.post_parts-posted.new.wire) inside.state c.prepare.new.state inside.shown inside.second inside.counts inside.halted
     made c.in-Ok.ensures.0 c.post_parts-posted.result c.self.invariant c.if-self.false few c.in-Ok.ensures.1 done))
 
@@ -56,7 +56,7 @@ pub returns-in-Err-clause-visit : goal.returns-in-Err-clause-visit
 returns-in-Err-clause-visit g c =
     let inside = c.self.inside in
     let state = g.W.Wire.state in
-    subst (λ (before : Kept). IsHalted before (kept_by inside.aim (state c.prepare.new.wire) (state c.prepare.new.post) c.prepare.new.state inside.shown inside.second inside.counts true)) c.self.view_is
+    subst (λ (before : Kept). IsHalted before (kept_with inside.aim (state c.prepare.new.wire) (state c.prepare.new.post) c.prepare.new.state inside.shown inside.second inside.counts true)) c.self.view_is
     (visit_halts inside.aim (state inside.scrape) (state c.prepare.new.wire) (state inside.post) (state c.prepare.new.post) inside.state c.prepare.new.state inside.shown inside.second inside.counts inside.halted c.if-self.false
     c.in-Err.ensures.0 c.in-Err.ensures.1)
 
@@ -68,7 +68,7 @@ returns-in-Ok-clause-body g c =
     let inside = c.self.inside in
     let made = c.in-Ok.made in
     let state = g.W.Wire.state in
-    subst (λ (before : Kept). IsBodyOf talking before (kept_by inside.aim (state c.prepare.new.wire) (state c.post_parts-posted.new.wire) c.prepare.new.state made.shown (Some made.second) c.with_visit-self-inside.result inside.halted) c.into_body.result.items) c.self.view_is
-    (subst (λ (bytes : List ℕ). IsBodyOf talking (kept_by inside.aim (state inside.scrape) (state inside.post) inside.state inside.shown inside.second inside.counts inside.halted) (kept_by inside.aim (state c.prepare.new.wire) (state c.post_parts-posted.new.wire) c.prepare.new.state made.shown (Some made.second) c.with_visit-self-inside.result inside.halted) bytes)
+    subst (λ (before : Kept). IsBodyOf talking before (kept_with inside.aim (state c.prepare.new.wire) (state c.post_parts-posted.new.wire) c.prepare.new.state made.shown (Some made.second) c.with_visit-self-inside.result inside.halted) c.into_body.result.items) c.self.view_is
+    (subst (λ (bytes : List ℕ). IsBodyOf talking (kept_with inside.aim (state inside.scrape) (state inside.post) inside.state inside.shown inside.second inside.counts inside.halted) (kept_with inside.aim (state c.prepare.new.wire) (state c.post_parts-posted.new.wire) c.prepare.new.state made.shown (Some made.second) c.with_visit-self-inside.result inside.halted) bytes)
     (ap (λ (v : _). v.items) (sym c.into_body.ensures))
     (gives_body inside.aim (state inside.scrape) (state c.prepare.new.wire) (state inside.post) (state c.prepare.new.post) (state c.post_parts-posted.new.wire) inside.state c.prepare.new.state inside.shown made.shown inside.second (Some made.second) inside.counts c.with_visit-self-inside.result inside.halted inside.halted made c.in-Ok.ensures.0 c.in-Ok.ensures.1))
