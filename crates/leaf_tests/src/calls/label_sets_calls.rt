@@ -1,5 +1,5 @@
 //! Tests of `label_sets`.
-use label_sets::{Kind, Label, LabelFault, LabelSet, List, Name, SeriesKey, Text};
+use label_sets::{Kind, Label, LabelFault, LabelSet, Name, SeriesKey, Text};
 use std::alloc::{AllocError, Global};
 use std::collections::{BTreeMap, BTreeSet, HashMap};
 
@@ -19,40 +19,6 @@ fn pairs(alloc: Global, written: &[(&str, &str)]) -> Result<Vec<Label>, AllocErr
 
 fn set(alloc: Global, written: &[(&str, &str)]) -> Result<LabelSet, LabelFault> {
     LabelSet::build(alloc, pairs(alloc, written)?, 64)
-}
-
-/// The labels as `a=1,b=2`.
-fn shown(alloc: Global, set: &LabelSet) -> Result<String, AllocError> {
-    let mut text = String::new(alloc);
-    for label in set.labels() {
-        if !text.is_empty() {
-            text.push_str(",")?;
-        }
-        text.push_str(label.name.as_str())?;
-        text.push_str("=")?;
-        text.push_str(label.value.as_str())?;
-    }
-    Ok(text)
-}
-
-/// Whether a set that is built of these labels has those.
-fn is_built(alloc: Global, written: &[(&str, &str)], expected: &str) -> Result<bool, LabelFault> {
-    let set = set(alloc, written)?;
-    let shown = shown(alloc, &set);
-    drop(set);
-    Ok(shown?.as_str() == expected)
-}
-
-const BUILT: &[&[(&str, &str)]] = &[
-    &[("b", "1"), ("a", "2"), ("c", "")],
-    &[("a", "2"), ("b", "1")],
-];
-
-#[test]
-fn sets_are_sorted_without_empty_values(rt: HostRuntime) {
-    for written in BUILT {
-        assert!(rt; is_built(rt.alloc(), written, "a=2,b=1") == Ok(true));
-    }
 }
 
 /// Whether a set equals its copy.
@@ -112,42 +78,6 @@ fn a_label_is_left_out(rt: HostRuntime) {
     assert!(rt; are_without(rt.alloc()) == Ok([true, true, false, false]));
 }
 
-/// Whether the labels of a set of these, as those of a page are renamed, are those.
-fn is_renamed(alloc: Global, written: &[(&str, &str)], expected: &str) -> Result<bool, LabelFault> {
-    let renamed = set(alloc, written)?.renamed(alloc)?;
-    let shown = shown(alloc, &renamed);
-    drop(renamed);
-    Ok(shown?.as_str() == expected)
-}
-
-// Labels of a page, and what they become.
-const RENAMED: &[(&[(&str, &str)], &str)] = &[
-    (&[("job", "a"), ("zone", "z")], "exported_job=a,zone=z"),
-    (
-        &[("job", "a"), ("exported_job", "b")],
-        "exported_exported_job=a,exported_job=b",
-    ),
-    (
-        &[
-            ("job", "a"),
-            ("instance", "i"),
-            ("exported_job", "b"),
-            ("exported_exported_job", "c"),
-        ],
-        "exported_exported_exported_job=a,exported_exported_job=c,exported_instance=i,exported_job=b",
-    ),
-];
-
-#[test]
-fn labels_of_the_target_are_renamed(rt: HostRuntime) {
-    for (written, expected) in RENAMED {
-        assert!(rt;
-            is_renamed(rt.alloc(), written, expected) == Ok(true),
-            "{expected}"
-        );
-    }
-}
-
 /// A label whose name has this number.
 fn numbered(alloc: Global, number: u32) -> Result<Label, AllocError> {
     let name = Name::from_string(format!(in alloc; "l{number:03}")?)?;
@@ -162,27 +92,6 @@ fn many(alloc: Global, count: u32) -> Result<Vec<Label>, AllocError> {
         labels.push(numbered(alloc, number)?)?;
     }
     Ok(labels)
-}
-
-/// How many labels a set of so many has, and whether they are sorted.
-fn of_many(alloc: Global, count: u32) -> Result<(usize, bool), LabelFault> {
-    let set = LabelSet::build(alloc, many(alloc, count)?, 64)?;
-    let first = set.labels().first();
-    let is_sorted = first.is_some_and(|label| label.name.as_str() == "l000");
-    let count = set.len();
-    drop(set);
-    Ok((count, is_sorted))
-}
-
-#[test]
-fn a_set_has_64_labels_at_most(rt: HostRuntime) {
-    const ROWS: &[(u32, Result<(usize, bool), LabelFault>)] = &[
-        (64, Ok((64, true))),
-        (65, Err(LabelFault::TooMany)),
-    ];
-    for (count, expected) in ROWS {
-        assert!(rt; of_many(rt.alloc(), *count) == *expected);
-    }
 }
 
 /// Forty labels, and one of a name that one of them has.
@@ -322,21 +231,6 @@ fn names_are_told(alloc: Global) -> Result<[bool; 2], AllocError> {
 #[test]
 fn names_of_bytes(rt: HostRuntime) {
     assert!(rt; names_are_told(rt.alloc()) == Ok([true, true]));
-}
-
-/// The copy of a list of one value.
-fn copied(alloc: Global) -> Result<List<u64>, AllocError> {
-    List::from_vec(vec![in alloc; 7]?)?.copy()
-}
-
-/// Whether it has that value.
-fn is_list_copied(alloc: Global) -> Result<bool, AllocError> {
-    Ok(copied(alloc)?.as_slice() == [7].as_slice())
-}
-
-#[test]
-fn a_copy_of_a_list_has_its_values(rt: HostRuntime) {
-    assert!(rt; is_list_copied(rt.alloc()) == Ok(true));
 }
 
 /// Whether a text is that of a name of these bytes, which is copied.

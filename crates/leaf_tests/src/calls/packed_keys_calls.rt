@@ -1,6 +1,6 @@
 //! Tests of `packed_keys`.
 use label_sets::{Kind, Label, LabelSet, List, Memory, Name, SeriesKey, Text};
-use packed_keys::{Keys, SampleKey, SeenKeys, SeenNames, SeenSets, SeriesPlaces};
+use packed_keys::{Keys, SampleKey, SeenKeys, SeriesPlaces};
 use std::alloc::{AllocError, Global};
 
 /// A label that is written as `name=value`.
@@ -125,102 +125,6 @@ fn are_long_parts_kept(alloc: Global) -> Result<bool, Memory> {
 #[test]
 fn long_parts_are_read_back(rt: HostRuntime) {
     assert!(rt; are_long_parts_kept(rt.alloc()) == Ok(true));
-}
-
-/// The place of a set without its `le`.
-fn place(alloc: Global, seen: &mut SeenSets, labels: &str) -> Result<usize, Memory> {
-    let labels = set(alloc, labels)?;
-    let place = seen.insert_without(&labels, b"le");
-    drop(labels);
-    place
-}
-
-/// The places of four sets without their `le`.
-fn four_places(alloc: Global, seen: &mut SeenSets) -> Result<[usize; 4], Memory> {
-    let first = place(alloc, seen, "job=a le=1")?;
-    let same = place(alloc, seen, "job=a le=2")?;
-    let other = place(alloc, seen, "job=b le=1")?;
-    let bare = place(alloc, seen, "job=a")?;
-    Ok([first, same, other, bare])
-}
-
-/// Whether the set at a place is the one that is written so.
-fn is_set(alloc: Global, seen: &SeenSets, at: usize, labels: &str) -> Result<bool, Memory> {
-    if at >= seen.len() {
-        return Ok(false);
-    }
-    let expected = set(alloc, labels)?;
-    let is_set = match seen.set(alloc, at) {
-        Ok(found) => Ok(found == expected),
-        Err(memory) => Err(memory),
-    };
-    drop(expected);
-    is_set
-}
-
-/// Whether four sets are two without their `le`, of which the second is `job=b`.
-fn are_two_without_le(alloc: Global) -> [bool; 3] {
-    let mut seen = SeenSets::new(alloc);
-    let places = four_places(alloc, &mut seen);
-    let is_second = is_set(alloc, &seen, 1, "job=b");
-    let count = seen.len();
-    drop(seen);
-    [
-        places == Ok([0, 0, 1, 0]),
-        is_second == Ok(true),
-        count == 2,
-    ]
-}
-
-#[test]
-fn sets_are_seen_without_a_label(rt: HostRuntime) {
-    assert!(rt; are_two_without_le(rt.alloc()) == [true; 3]);
-}
-
-/// Where a name was put in before, where it was; it is put in.
-fn put_name(alloc: Global, seen: &mut SeenNames, name: &str) -> Result<Option<usize>, Memory> {
-    let name = Name::from_str(alloc, name)?;
-    seen.insert(&name)
-}
-
-/// Where a name was put in, where it was.
-fn find_name(alloc: Global, seen: &SeenNames, name: &str) -> Result<Option<usize>, Memory> {
-    let name = Name::from_str(alloc, name)?;
-    Ok(seen.find(&name))
-}
-
-/// Puts in two names, the first once more, and answers what each call finds.
-fn two_names(alloc: Global, seen: &mut SeenNames) -> Result<[Option<usize>; 4], Memory> {
-    let new = put_name(alloc, seen, "requests")?;
-    let unknown = find_name(alloc, seen, "request")?;
-    let other = put_name(alloc, seen, "request")?;
-    let known = put_name(alloc, seen, "requests")?;
-    Ok([new, unknown, other, known])
-}
-
-/// Whether the name at a place is this one.
-fn is_name(alloc: Global, seen: &SeenNames, at: usize, name: &str) -> Result<bool, Memory> {
-    if at >= seen.len() {
-        return Ok(false);
-    }
-    Ok(seen.name(alloc, at)?.as_str() == name)
-}
-
-/// Whether only the first of two names is found as it is put in once more, and the second is `request`.
-fn are_names_seen_once(alloc: Global) -> [bool; 2] {
-    let mut seen = SeenNames::new(alloc);
-    let found = two_names(alloc, &mut seen);
-    let is_second = is_name(alloc, &seen, 1, "request");
-    drop(seen);
-    [
-        found == Ok([None, None, None, Some(0)]),
-        is_second == Ok(true),
-    ]
-}
-
-#[test]
-fn names_are_seen_once(rt: HostRuntime) {
-    assert!(rt; are_names_seen_once(rt.alloc()) == [true; 2]);
 }
 
 /// A key of this name and kind.

@@ -1,4 +1,4 @@
-//! Pages by their lines, at every cut of their bytes, and the limit on a line.
+//! Pages by their lines, at every cut of their bytes.
 use page_lines::{Last, Lines, Step};
 use std::alloc::{AllocError, Global};
 
@@ -78,43 +78,4 @@ fn pages_come_in_any_pieces(rt: HostRuntime) {
     for (page, want) in PAGES {
         assert!(rt; is_told(rt.alloc(), page, want) == Ok(true), "{page}");
     }
-}
-
-/// A line of 65,536 bytes, and this one behind it.
-fn long_line(alloc: Global, last: u8) -> Result<Vec<u8>, AllocError> {
-    let mut line = vec![in alloc; b'x'; 65_536]?;
-    line.push(last)?;
-    Ok(line)
-}
-
-/// What such a line comes to: how much of it is taken, how long the line is, and its number.
-fn long_fed(
-    alloc: Global,
-    lines: &mut Lines,
-    last: u8,
-) -> Result<Option<(Step, u32, usize, u32)>, AllocError> {
-    let line = long_line(alloc, last)?;
-    if !lines.has_room(line.as_slice()) {
-        return Ok(None);
-    }
-    let mut taken = 0;
-    let step = lines.feed(line.as_slice(), &mut taken);
-    Ok(Some((step, taken, lines.line().len(), lines.number())))
-}
-
-/// Whether one that ends is a line, and one that goes on is too long.
-fn are_long(alloc: Global) -> Result<[bool; 2], AllocError> {
-    let mut lines = Lines::new(alloc, 65_536)?;
-    let first = long_fed(alloc, &mut lines, b'\n');
-    let second = long_fed(alloc, &mut lines, b'x');
-    drop(lines);
-    Ok([
-        first == Ok(Some((Step::Line, 65_537, 65_536, 1))),
-        second == Ok(Some((Step::TooLong, 65_537, 65_536, 2))),
-    ])
-}
-
-#[test]
-fn a_line_has_65536_bytes_at_most(rt: HostRuntime) {
-    assert!(rt; are_long(rt.alloc()) == Ok([true, true]));
 }

@@ -1,4 +1,4 @@
-//! Pages that are read and written.
+//! A page that is read and written, with a gauge histogram, which no command prints.
 use crate::calls::pages::page_of;
 use label_sets::Memory;
 use open_writing::write;
@@ -79,54 +79,4 @@ fn is_written(alloc: Global) -> Result<bool, PageFault> {
 #[test]
 fn writes_behind_what_is_there(rt: HostRuntime) {
     assert!(rt; is_written(rt.alloc()) == Ok(true));
-}
-
-/// Whether a page is written, or what was there stays.
-fn is_written_or_not(alloc: Global, page: &Page) -> Result<bool, Memory> {
-    let mut out = Vec::from_slice(alloc, b"> ")?;
-    let expected = match write(page, &mut out) {
-        Ok(()) => WRITTEN,
-        Err(_) => "> ",
-    };
-    Ok(out.as_slice() == expected.as_bytes())
-}
-
-/// The same of the page that is read.
-fn is_read_page_written_or_not(alloc: Global) -> Result<bool, PageFault> {
-    let page = open_page(alloc, READ.as_bytes())?;
-    let is_right = is_written_or_not(alloc, &page);
-    drop(page);
-    Ok(is_right?)
-}
-
-// With any allocation failing, what was there stays.
-#[test]
-fn writes_all_or_nothing(rt: HostRuntime) {
-    assert!(rt; is_read_page_written_or_not(rt.alloc()) == Ok(true));
-}
-
-/// A page of one sample whose label has a value of so many bytes.
-fn long_text(alloc: Global, len: usize) -> Result<Vec<u8>, Memory> {
-    let mut text = Vec::from_slice(alloc, b"# TYPE x unknown\nx{k=\"")?;
-    for _ in 0..len {
-        text.push(b'v')?;
-    }
-    text.extend_from_slice(b"\"} 1\n# EOF\n")?;
-    Ok(text)
-}
-
-/// Whether such a page is written as it was read.
-fn is_kept(alloc: Global, len: usize) -> Result<bool, PageFault> {
-    let text = long_text(alloc, len)?;
-    Ok(written_again(alloc, text.as_slice(), b"")? == text)
-}
-
-// Lines of 4,095 to 4,097 bytes, of which the last is longer than what is put at once, and a far longer one.
-const LENGTHS: &[usize] = &[4085, 4086, 4087, 9000];
-
-#[test]
-fn writes_long_lines(rt: HostRuntime) {
-    for len in LENGTHS {
-        assert!(rt; is_kept(rt.alloc(), *len) == Ok(true), "{len}");
-    }
 }

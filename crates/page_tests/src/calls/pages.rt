@@ -1,6 +1,7 @@
 //! The pages of texts, for the tests.
-use page_model::{Format, Page, PageCounts, PageFault, Treatment};
-use page_reader::{AnyReader, KnownFronts};
+use line_scan::KnownFronts;
+use page_model::{Format, Page, PageFault, Treatment};
+use page_reader::AnyReader;
 use std::alloc::Global;
 
 /// Feeds a text, where a reader has room for it. Its fault, the end answers again.
@@ -48,16 +49,4 @@ pub(crate) fn page_behind(
     let mut reader = AnyReader::with_fronts(alloc, format, Treatment::Scraped, 200_000, fronts)?;
     feed(&mut reader, text);
     reader.finish()
-}
-
-/// How many families and samples the page of a text has.
-pub(crate) fn counts_of(
-    alloc: Global,
-    format: Format,
-    limit: u32,
-    text: &[u8],
-) -> Result<PageCounts, PageFault> {
-    let mut reader = AnyReader::counting(alloc, format, Treatment::Scraped, limit)?;
-    feed(&mut reader, text);
-    reader.count()
 }
