@@ -3,7 +3,6 @@ mod bare_runs;
 mod doors;
 mod gated_world;
 mod inputs;
-mod loads;
 mod nearest_words;
 mod overlap;
 mod shelves;

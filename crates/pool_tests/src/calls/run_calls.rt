@@ -92,30 +92,6 @@ fn two_scrapes_overlap(rt: HostRuntime) {
     assert!(rt; gated_run(&rt, rt.alloc()) == Ok((true, true)));
 }
 
-// None, one, four and more workers make the same visits of six targets.
-#[test]
-fn all_visits_are_made(rt: HostRuntime) {
-    const WANTED: &[Came] = &[
-        (b'j', 3, 0, 3, false),
-        (b'k', 3, 0, 3, false),
-        (b'l', 3, 0, 3, false),
-        (b'm', 3, 0, 3, false),
-        (b'n', 3, 0, 3, false),
-        (b'o', 3, 0, 3, false),
-    ];
-    const SCRAPERS: &[u32] = &[0, 1, 2, 3, 4, 9];
-    for scrapers in SCRAPERS {
-        let plan = Plan {
-            targets: 6,
-            rounds: 3,
-            scrapers: *scrapers,
-            lean: 0,
-        };
-        let came = run_plan(&rt, rt.alloc(), Waits::Nothing, plan, WANTED);
-        assert!(rt; came == Ok(true), "{scrapers} scrapers");
-    }
-}
-
 // A track that found no memory is given back in its place, with the visits that were made, and the others have theirs.
 #[test]
 fn a_halted_track_is_given_back(rt: HostRuntime) {

@@ -8,7 +8,15 @@ use std::sync::Wait;
 use std::thread::Threads;
 
 const TWO_TARGETS: &[u8] =
-    b"bridge-script 1\nrounds 2\ntarget j h:1 /metrics\npage 10 text 21\n# TYPE c counter\nc 5\n\nscrape 20 connect 0\n\ntarget k h:2 /metrics\nscrape 10 connect 0\n\nscrape 20 connect 0\n\n";
+    b"bridge-script 1\nrounds 2\ntarget j h:1 /metrics\npage 10 text 21\n# TYPE c counter\nc 5\n\nscrape 20 connect 0\n\npost 10 connect 0\n\npost 10 write 0\n\npost 10 read 0\n\ntarget k h:2 /metrics\nscrape 10 write 0\n\npost 10 connect 0\n\npost 10 write 0\n\npost 10 read 0\n\nscrape 20 read 0\n\n";
+
+/// How the posts of each target end: the three tries of its first body, and the one of its second.
+const POSTS: &[End] = &[
+    End::ConnectFailed,
+    End::WriteFailed,
+    End::ReadFailed,
+    End::Left,
+];
 
 /// Whether the finished talks of a wire ended so, in order, and the wire keeps what was sent.
 fn ended_so(wire: &MemoryWire, ends: &[End]) -> bool {
@@ -25,12 +33,12 @@ fn ended_so(wire: &MemoryWire, ends: &[End]) -> bool {
     true
 }
 
-/// How many pairs of wires are on the shelf of a world, and how many of them made the talks of these scrapes and two posts
-/// that were taken.
+/// How many pairs of wires are on the shelf of a world, and how many of them made the talks of these scrapes and of the
+/// posts.
 fn shelved(world: &MemoryWorld, scrapes: &[[End; 2]]) -> (usize, usize) {
     let mut right = 0usize;
     for (pair, ends) in world.shelf().iter().zip(scrapes) {
-        if ended_so(&pair.scrape, ends) && ended_so(&pair.post, &[End::Left, End::Left]) {
+        if ended_so(&pair.scrape, ends) && ended_so(&pair.post, POSTS) {
             right = right.saturating_add(1);
         }
     }
@@ -57,7 +65,7 @@ fn replayed<R: Threads + Wait + Sync>(
 fn wires_of_a_replay_are_shelved(rt: HostRuntime) {
     const SCRAPES: &[[End; 2]] = &[
         [End::Left, End::ConnectFailed],
-        [End::ConnectFailed, End::ConnectFailed],
+        [End::WriteFailed, End::ReadFailed],
     ];
     assert!(rt; replayed(&rt, rt.alloc(), SCRAPES) == Ok((0, (2, 2))));
 }

@@ -1,5 +1,4 @@
-//! What no clause says: that scrapes succeed, in pieces of one byte too, and that a failing call changes
-//! the cause alone.
+//! What no clause says: that scrapes succeed, and that a failing call changes the cause alone.
 ghost use Rattle.std.specs.Prelude.{◌≡◌, ◌≤◌, IfOk};
 ghost use Rattle.bridge_ports.specs.declared.talk.Stage.TheVariants as stages;
 
@@ -7,9 +6,8 @@ use crate::calls::one_target::target;
 use crate::calls::plans::{Planned, replies};
 use bridge_ports::{End, MemoryWire, Place};
 use label_sets::{List, Memory};
-use open_writing::write;
 use page_model::{Cause, Outcome, Rule};
-use scrape_client::{KnownFronts, outcome, scrape, scrape_again};
+use scrape_client::scrape;
 use std::alloc::{AllocError, Global};
 
 const CHUNKED: &[u8] =
@@ -17,19 +15,9 @@ const CHUNKED: &[u8] =
 
 const TO_THE_END: &[u8] = b"HTTP/1.1 200 OK\r\n\r\nx 1\n";
 
-const OPEN_METRICS: &[u8] =
-    b"HTTP/1.1 200 OK\r\nContent-Type: application/openmetrics-text; version=1.0.0\r\n\r\nx 1\n# EOF\n";
+const CUT_OFF: &[u8] = b"HTTP/1.1 200 OK\r\nTransfer-Encoding: chunked\r\n\r\n4;a=b\r\nx 1\n\r\n";
 
 const BAD_PAGE: &[u8] = b"HTTP/1.1 200 OK\r\n\r\nx 1\nx\n";
-
-// A page that is written as it was read.
-const LABELS: &str = concat!(
-    "HTTP/1.1 200 OK\r\nContent-Type: application/openmetrics-text; version=1.0.0\r\n\r\n",
-    "# TYPE x gauge\nx{a=\"1\"} 1\nx{a=\"1\",b=\"2\"} 2\nx{b=\"2\"} 3\n# EOF\n",
-);
-
-// Of its label sets it has one, and another twice.
-const OTHER_LABELS: &str = "HTTP/1.1 200 OK\r\n\r\nx{b=\"1\"} 1\ny{b=\"2\"} 1\ny{b=\"1\"} 1\n";
 
 /// Why a scrape failed; nothing where it gave a page.
 fn cause(outcome: &Outcome) -> Option<Cause> {
@@ -85,102 +73,22 @@ fn scraped(
     cause
 }
 
-/// The same of the whole bytes of a talk that its peer ended.
-fn outcome_of(alloc: Global, got: &[u8]) -> Result<Option<Cause>, Memory> {
-    let outcome = outcome(alloc, got, End::Ended, 1_000, 1_024)?;
-    let cause = cause(&outcome);
-    drop(outcome);
-    Ok(cause)
-}
-
-/// What comes of scraping a target that sends these bytes, with the fronts of the scrape before.
-fn outcome_again(alloc: Global, reply: &[u8], fronts: &mut KnownFronts) -> Result<Outcome, Memory> {
-    let target = target(alloc)?;
-    let mut wire = wire(alloc, (reply, End::Ended), 16, &[])?;
-    let event = scrape_again(alloc, &mut wire, &target, 0, 1_000, 1_024, fronts);
-    drop(target);
-    drop(wire);
-    Ok(event?.outcome)
-}
-
-/// The fronts that a scrape leaves of a target that sends these bytes.
-fn fronts_of(alloc: Global, reply: &[u8]) -> Result<KnownFronts, Memory> {
-    let mut fronts = KnownFronts::new(alloc);
-    let outcome = outcome_again(alloc, reply, &mut fronts)?;
-    drop(outcome);
-    Ok(fronts)
-}
-
-/// Whether an outcome is that page.
-fn are_labels(alloc: Global, outcome: &Outcome) -> Result<bool, Memory> {
-    match outcome {
-        Outcome::Page(page) => {
-            let mut text = Vec::new(alloc);
-            write(page, &mut text)?;
-            let body = LABELS.split_once("\r\n\r\n");
-            Ok(matches!(body, Some((_, body)) if text.as_slice() == body.as_bytes()))
-        }
-        Outcome::Failed(_) => Ok(false),
-    }
-}
-
-/// Whether that page is scraped behind these bytes.
-fn are_scraped_behind(alloc: Global, before: &[u8]) -> Result<bool, Memory> {
-    let mut fronts = fronts_of(alloc, before)?;
-    let outcome = outcome_again(alloc, LABELS.as_bytes(), &mut fronts);
-    drop(fronts);
-    let outcome = outcome?;
-    let same = are_labels(alloc, &outcome);
-    drop(outcome);
-    same
-}
-
-#[test]
-fn page_before_changes_no_page(rt: HostRuntime) {
-    const BEFORE: &[&str] = &[LABELS, OTHER_LABELS, ""];
-    for before in BEFORE {
-        assert!(rt; are_scraped_behind(rt.alloc(), before.as_bytes()) == Ok(true));
-    }
-}
-
-#[test]
-fn replies_come_to_pages(rt: HostRuntime) {
-    const REPLIES: &[&[u8]] = &[CHUNKED, TO_THE_END, OPEN_METRICS];
-    for most in &[1u32, 16, 4_096] {
-        let most = (*most).max(1);
-        for reply in REPLIES {
-            assert!(rt; scraped(rt.alloc(), (*reply, End::Ended), most, &[]) == Ok(None));
-        }
-    }
-}
-
-#[test]
-fn bytes_come_to_a_page(rt: HostRuntime) {
-    assert!(rt; outcome_of(rt.alloc(), CHUNKED) == Ok(None));
-}
-
-#[test]
-fn reply_that_is_cut_off_is_truncated(rt: HostRuntime) {
-    let cut_off = &CHUNKED[..60];
-    let over = scraped(rt.alloc(), (cut_off, End::Ended), 1, &[]);
-    let whole = outcome_of(rt.alloc(), cut_off);
-    assert!(rt; [over, whole] == [Ok(Some(Cause::Truncated)); 2]);
-}
-
 #[test]
 fn the_cause_of_the_reply_goes_first(rt: HostRuntime) {
-    const ROWS: &[(End, Cause)] = &[
+    const ROWS: &[(&[u8], End, Cause)] = &[
+        (CUT_OFF, End::Ended, Cause::Truncated),
         (
+            BAD_PAGE,
             End::Ended,
             Cause::Page {
                 line: 2,
                 rule: Rule::Syntax,
             },
         ),
-        (End::ReadFailed, Cause::Read),
+        (BAD_PAGE, End::ReadFailed, Cause::Read),
     ];
-    for (end, cause) in ROWS {
-        assert!(rt; scraped(rt.alloc(), (BAD_PAGE, *end), 4_096, &[]) == Ok(Some(*cause)));
+    for (reply, end, cause) in ROWS {
+        assert!(rt; scraped(rt.alloc(), (*reply, *end), 4_096, &[]) == Ok(Some(*cause)));
     }
 }
 

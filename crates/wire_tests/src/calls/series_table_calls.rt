@@ -14,8 +14,6 @@ use std::alloc::{AllocError, Global};
 
 const PAGE: &[u8] = b"HTTP/1.1 200 OK\r\n\r\nx 1\n";
 
-const REFUSED_PAGE: &[u8] = b"HTTP/1.1 404 No\r\n\r\n";
-
 const TAKEN: &[u8] = b"HTTP/1.1 200 OK\r\n\r\n";
 
 const LATER: &[u8] = b"HTTP/1.1 503 Later\r\n\r\n";
@@ -163,12 +161,6 @@ fn two_counted(alloc: Global, pages: &[Planned<'_>]) -> Result<[u64; 5], AllocEr
     ])
 }
 
-#[test]
-fn scrapes_and_points_are_counted(rt: HostRuntime) {
-    let failing = [GOOD, (REFUSED_PAGE, End::Ended)];
-    assert!(rt; two_counted(rt.alloc(), &failing) == Ok([2, 1, 5, 1, 2]));
-}
-
 // The target is described anew, so the series of the first visit is gone, which the second part of the second body tells.
 #[test]
 fn points_of_both_parts_are_counted(rt: HostRuntime) {
@@ -215,11 +207,6 @@ fn each_ready_finds_no_memory(rt: HostRuntime) {
                 && scrape == Ok((before, true, before, before))
         );
     }
-}
-
-#[test]
-fn each_ready_finds_memory(rt: HostRuntime) {
-    assert!(rt; lean_visits(rt.alloc(), 9, 9) == Ok((3, false, 3, 3)));
 }
 
 /// What three visits come to, of which this call on the post wire fails: the visits that were counted, whether the

@@ -1,5 +1,4 @@
-//! What no clause says: that streams succeed with ample memory. Heads at each border of their limit, and chunks cut
-//! at each byte: what is given is the body, whole and byte by byte.
+//! What no clause says: that streams succeed with ample memory. Chunks cut at each byte: what is given is the body.
 ghost use Rattle.std.specs.Prelude.{◌<◌, ◌^◌, length};
 
 use http_talk::{Flow, ReplyFault, Stream};
@@ -103,35 +102,4 @@ fn first_other_cut(alloc: Global, bytes: &[u8]) -> Result<Option<usize>, AllocEr
 #[test]
 fn chunks_are_cut_at_each_byte(rt: HostRuntime) {
     assert!(rt; first_other_cut(rt.alloc(), CHUNKED) == Ok(None));
-}
-
-/// How many bytes are given of a reply in chunks, and whether it is whole.
-fn given_of(alloc: Global, bytes: &[u8]) -> Result<(u32, u32, bool), AllocError> {
-    if bytes.len() > 100_000 {
-        return Ok((0, 0, false));
-    }
-    let told = in_two(alloc, bytes, b"")?;
-    Ok((told.pages, told.given, told.end == Ok(true)))
-}
-
-#[test]
-fn nine_bytes_are_given(rt: HostRuntime) {
-    assert!(rt; given_of(rt.alloc(), CHUNKED) == Ok((1, 9, true)));
-}
-
-/// What a head of so many bytes comes to, with one byte of body behind it, that is cut in front of its last bytes.
-fn head_of(alloc: Global, size: usize) -> Result<(u32, u32, bool), AllocError> {
-    let mut bytes = Vec::from_slice(alloc, b"HTTP/1.1 200 OK\r\na: ")?;
-    for _ in 24..size.min(50_000) {
-        bytes.push(b'v')?;
-    }
-    bytes.extend_from_slice(b"\r\n\r\n+")?;
-    given_of(alloc, bytes.as_slice())
-}
-
-#[test]
-fn heads_at_their_border(rt: HostRuntime) {
-    assert!(rt; head_of(rt.alloc(), 16_383) == Ok((1, 1, false)));
-    assert!(rt; head_of(rt.alloc(), 16_384) == Ok((1, 1, false)));
-    assert!(rt; head_of(rt.alloc(), 16_385) == Ok((0, 0, false)));
 }
