@@ -23,48 +23,6 @@ const HONEST: &[u64] = &[1];
 /// Two words that share the second hash, found by a search of some 2^32 steps.
 const SAME_SECOND: [u64; 2] = [0x2855_8660_04d6_e65f, 0x7d2d_609b_d50a_0c3b];
 
-/// Puts in two strings, the first once more, and answers what each call finds.
-fn two_put_in(
-    table: &mut ByteTable,
-    first: &[u8],
-    second: &[u8],
-) -> Result<[Option<usize>; 3], AllocError> {
-    let new = table.insert(first)?;
-    let other = table.insert(second)?;
-    let known = table.insert(first)?;
-    Ok([new, other, known])
-}
-
-/// Where a table of two strings finds the second and a third one, and whether its first is this one.
-fn found_in(table: &ByteTable) -> (Option<usize>, Option<usize>, bool) {
-    (
-        table.find(b""),
-        table.find(b"two"),
-        table.get(0) == Some(b"one".as_slice()),
-    )
-}
-
-/// Whether a table answers right in front of two strings, as they are put in, and behind them, and has no more.
-fn are_kept_once(alloc: Global) -> [bool; 4] {
-    let mut table = ByteTable::new(alloc);
-    let none = table.find(b"").is_none();
-    let put_in = two_put_in(&mut table, b"one", b"");
-    let found = found_in(&table);
-    let has_no_more = table.len() == 2 && table.get(2).is_none();
-    drop(table);
-    [
-        none,
-        put_in == Ok([None, None, Some(0)]),
-        found == (Some(1), None, true),
-        has_no_more,
-    ]
-}
-
-#[test]
-fn strings_are_kept_once(rt: HostRuntime) {
-    assert!(rt; are_kept_once(rt.alloc()) == [true; 4]);
-}
-
 /// A string that begins with words, then has a number.
 fn string(alloc: Global, words: &[u64], number: u64) -> Result<Vec<u8>, AllocError> {
     let mut string = Vec::new(alloc);

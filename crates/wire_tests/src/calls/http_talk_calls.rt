@@ -1,8 +1,6 @@
-//! What no clause says: that calls succeed with ample memory. Replies past each limit, whole and byte by byte, with why
-//! they are refused, which no row of `rows` shows; those that are taken stand there.
-use bridge_ports::Address;
-use http_talk::{HeadSeen, Progress, Reply, ReplyFault, get_text, post_text, status_of};
-use label_sets::Bytes;
+//! Replies past each limit, whole and byte by byte, with why they are refused, which no row of `rows` shows; those that
+//! are taken stand there.
+use http_talk::{HeadSeen, Reply, ReplyFault, status_of};
 use std::alloc::{AllocError, Global};
 
 const BODY_LIMIT: u32 = 1_024;
@@ -66,43 +64,6 @@ fn read(
         whole(alloc, bytes.as_slice()),
         by_bytes(alloc, bytes.as_slice()),
     ])
-}
-
-fn address(alloc: Global) -> Result<Address, AllocError> {
-    Ok(Address {
-        host: Bytes::from_slice(alloc, b"h")?,
-        port: 80,
-        path: Bytes::from_slice(alloc, b"/metrics")?,
-    })
-}
-
-/// Whether the request for a page is this one.
-fn is_get(alloc: Global, to: &Address) -> Result<bool, AllocError> {
-    let text = get_text(alloc, to)?;
-    Ok(
-        text.as_slice()
-            == b"GET /metrics HTTP/1.1\r\nHost: h:80\r\nAccept: text/plain;version=0.0.4;q=0.9,application/openmetrics-text;version=1.0.0;q=0.5\r\nAccept-Encoding: identity\r\nConnection: close\r\n\r\n".as_slice(),
-    )
-}
-
-/// Whether the request that posts two bytes is this one.
-fn is_post(alloc: Global, to: &Address) -> Result<bool, AllocError> {
-    let text = post_text(alloc, to, b"{}")?;
-    Ok(
-        text.as_slice()
-            == b"POST /metrics HTTP/1.1\r\nHost: h:80\r\nContent-Type: application/json\r\nContent-Length: 2\r\nConnection: close\r\n\r\n{}".as_slice(),
-    )
-}
-
-/// Whether both requests are these.
-fn are_requests(alloc: Global) -> Result<bool, AllocError> {
-    let to = address(alloc)?;
-    Ok(is_get(alloc, &to)? && is_post(alloc, &to)?)
-}
-
-#[test]
-fn requests_are_written(rt: HostRuntime) {
-    assert!(rt; are_requests(rt.alloc()) == Ok(true));
 }
 
 /// The parts of a reply, and what it comes to.
@@ -282,32 +243,4 @@ fn statuses_of_posts(rt: HostRuntime) {
     for (parts, expected) in ROWS {
         assert!(rt; status_seen(rt.alloc(), parts) == Ok(*expected));
     }
-}
-
-/// What a reply says to each of these pieces, and at its end.
-fn said(
-    alloc: Global,
-    pieces: &[&[u8]; 3],
-) -> Result<([Result<Progress, ReplyFault>; 3], Result<usize, ReplyFault>), AllocError> {
-    let mut reply = Reply::new(alloc, BODY_LIMIT)?;
-    let fed = [
-        reply.feed(pieces[0]),
-        reply.feed(pieces[1]),
-        reply.feed(pieces[2]),
-    ];
-    Ok((fed, ended(reply)))
-}
-
-#[test]
-fn what_was_said_is_said_again(rt: HostRuntime) {
-    let seen = said(
-        rt.alloc(),
-        &[b"HTTP/1.1 200\nContent-Length: 1\n\n", b"a", b"b"],
-    );
-    assert!(rt;
-        seen == Ok((
-            [Ok(Progress::More), Ok(Progress::Whole), Ok(Progress::Whole)],
-            Ok(1)
-        ))
-    );
 }
