@@ -95,8 +95,6 @@ fn timed<R: Threads + Wait + Clock + Sync>(
     let plan = Plan {
         targets: TARGETS,
         rounds,
-        scrapers,
-        lean: 0,
     };
     let tracks = new_tracks(rt, alloc, reply, waits(pause), plan)?;
     let start = match Instant::now(rt) {
@@ -132,14 +130,10 @@ fn main(rt: HostRuntime) -> io::Result<()> {
 }
 MAIN
 
-# The tracks are made by the file by which the tests of the pool make theirs, and by what is proved of it.
-tests=$here/../crates/pool_tests
-proofs=$work/crates/time_pool/proofs
-cp "$tests/src/calls/tracks.rt" "$work/crates/time_pool/src/"
-mkdir -p "$proofs/posted"
-cp -R "$tests/proofs/Lib.antt" "$tests/proofs/Lettered.antt" "$tests/proofs/calls/tracks" "$proofs/"
-find "$proofs" -type f -exec sed -i 's/Rattle\.pool_tests\.proofs\.\(calls\.\)*/Rattle.time_pool.proofs./' {} +
-sed 's/proofs\.tracks\.close\./proofs.posted./' "$proofs/tracks/close/Invariants.antt" >"$proofs/posted/Invariants.antt"
+# The tracks, and what is proved of them: the gate takes a file that ends as code does for a crate's.
+cp "$here/pool/tracks.rt.txt" "$work/crates/time_pool/src/tracks.rt"
+cp -R "$here/pool/proofs" "$work/crates/time_pool/"
+find "$work/crates/time_pool/proofs" -name '*.txt' | while read -r file; do mv "$file" "${file%.txt}"; done
 
 add_parts time_pool asked
 build_program time_pool 1 1 0

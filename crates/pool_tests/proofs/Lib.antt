@@ -1,1 +1,1 @@
-mod Lettered
+mod OneTrack

@@ -1,5 +1,3 @@
 //! The tests, and what they share.
-mod door_calls;
+mod one_track;
 mod page_calls;
-mod run_calls;
-mod tracks;

@@ -5,4 +5,3 @@ mod gated_world;
 mod inputs;
 mod nearest_words;
 mod overlap;
-mod shelves;

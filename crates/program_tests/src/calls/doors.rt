@@ -161,18 +161,6 @@ pub(crate) fn ending_in<R: Threads + Wait + Sync, K: Conn, E: Door<Conn = K>, W:
     Ok((status, is_wanted))
 }
 
-/// The same of a run over wires in memory, beside a door.
-fn ending_beside_a_door<R: Threads + Wait + Sync>(
-    rt: &R,
-    alloc: Global,
-    wanted: &str,
-) -> Result<(u8, bool), Memory> {
-    let mut world = world(alloc, TWO_ROUNDS.as_bytes())?;
-    let ending = ending_in(rt, alloc, &mut world, wanted);
-    drop(world);
-    ending
-}
-
 const TWO_VISITS: &str =
     "target 1 a h1:80 visits 2 failed 0 points 6 markers 0 accepted 2 refused 0 givenup 0 halted 0
 target 2 b h2:80 visits 2 failed 0 points 6 markers 0 accepted 2 refused 0 givenup 0 halted 0
@@ -180,12 +168,77 @@ all visits 4 failed 0 points 12 markers 0 accepted 4 refused 0 givenup 0 halted 
 served 1
 ";
 
-#[test]
-fn two_targets_are_visited_beside_a_door(rt: HostRuntime) {
-    assert!(rt; ending_beside_a_door(&rt, rt.alloc(), TWO_VISITS) == Ok((0, true)));
+/// The body of the first scrape of the first target.
+const FIRST_BODY: &[u8] =
+    br#"{"resourceMetrics":[{"resource":{"attributes":[{"key":"service.name","value":{"stringValue":"a"}},{"key":"service.instance.id","value":{"stringValue":"h1:80"}},{"key":"server.address","value":{"stringValue":"h1"}},{"key":"server.port","value":{"intValue":"80"}},{"key":"url.scheme","value":{"stringValue":"http"}}]},"scopeMetrics":[{"scope":{"name":"bridge"},"metrics":[{"name":"x","gauge":{"dataPoints":[{"timeUnixNano":"10","asDouble":1}]}}]},{"scope":{"name":"bridge.target"},"metrics":[{"name":"up","gauge":{"dataPoints":[{"timeUnixNano":"10","asDouble":1}]}},{"name":"scrape_samples_scraped","gauge":{"dataPoints":[{"timeUnixNano":"10","asDouble":1}]}}]}]}]}"#;
+
+/// How many posts the wire of a target made in a world, and whether the first ended in this body.
+fn posted(world: &MemoryWorld, number: u32, body: &[u8]) -> (u64, bool) {
+    let Some(pair) = world.home(number) else {
+        return (0, false);
+    };
+    let count = pair.post.finished();
+    if count == 0 {
+        return (0, false);
+    }
+    let ends_so = match pair.post.sent(1) {
+        Some(sent) => sent.ends_with(body),
+        None => false,
+    };
+    (count, ends_so)
 }
 
-/// The same where the door can't be had, which the world is asked for behind the three calls on the file.
+/// Whether the door that came back has one connection, which holds a page.
+fn holds_a_page(world: &MemoryWorld) -> bool {
+    let Some(door) = world.closed_door() else {
+        return false;
+    };
+    match door.back() {
+        [conn] => conn.held().starts_with(b"HTTP/1.1 200 OK\r\n"),
+        _ => false,
+    }
+}
+
+/// What a run beside a door came to.
+#[derive(Clone, Copy, PartialEq, Eq)]
+struct Came {
+    /// Its status, and whether its output is as wanted.
+    ending: (u8, bool),
+    /// How many bodies the first target posted, and whether the first of them ends as wanted.
+    posted: (u64, bool),
+    /// Whether the one connection at the door holds a page.
+    holds_a_page: bool,
+}
+
+/// What a run over wires in memory comes to, beside a door.
+fn came_beside_a_door<R: Threads + Wait + Sync>(rt: &R, alloc: Global) -> Result<Came, Memory> {
+    let mut world = world(alloc, TWO_ROUNDS.as_bytes())?;
+    let ending = ending_in(rt, alloc, &mut world, TWO_VISITS);
+    let posted = posted(&world, 1, FIRST_BODY);
+    let holds_a_page = holds_a_page(&world);
+    drop(world);
+    match ending {
+        Ok(ending) => Ok(Came {
+            ending,
+            posted,
+            holds_a_page,
+        }),
+        Err(memory) => Err(memory),
+    }
+}
+
+#[test]
+fn two_targets_are_visited_beside_a_door(rt: HostRuntime) {
+    const WANTED: Came = Came {
+        ending: (0, true),
+        posted: (2, true),
+        holds_a_page: true,
+    };
+    assert!(rt; came_beside_a_door(&rt, rt.alloc()) == Ok(WANTED));
+}
+
+/// The status of a run whose door can't be had, which the world is asked for behind the three calls on the file, and
+/// whether its output is this.
 fn ending_without_its_door<R: Threads + Wait + Sync>(
     rt: &R,
     alloc: Global,
@@ -208,73 +261,4 @@ served 0
 #[test]
 fn a_door_that_fails_is_no_fault_of_a_run(rt: HostRuntime) {
     assert!(rt; ending_without_its_door(&rt, rt.alloc(), TWO_VISITS_UNSERVED) == Ok((0, true)));
-}
-
-/// The body of the first scrape of the first target.
-const FIRST_BODY: &[u8] =
-    br#"{"resourceMetrics":[{"resource":{"attributes":[{"key":"service.name","value":{"stringValue":"a"}},{"key":"service.instance.id","value":{"stringValue":"h1:80"}},{"key":"server.address","value":{"stringValue":"h1"}},{"key":"server.port","value":{"intValue":"80"}},{"key":"url.scheme","value":{"stringValue":"http"}}]},"scopeMetrics":[{"scope":{"name":"bridge"},"metrics":[{"name":"x","gauge":{"dataPoints":[{"timeUnixNano":"10","asDouble":1}]}}]},{"scope":{"name":"bridge.target"},"metrics":[{"name":"up","gauge":{"dataPoints":[{"timeUnixNano":"10","asDouble":1}]}},{"name":"scrape_samples_scraped","gauge":{"dataPoints":[{"timeUnixNano":"10","asDouble":1}]}}]}]}]}"#;
-
-/// How many posts the wire of a target made in a world, and whether the first ended in this body.
-fn posted(world: &MemoryWorld, number: u32, body: &[u8]) -> (u64, bool) {
-    let Some(pair) = world.home(number) else {
-        return (0, false);
-    };
-    let count = pair.post.finished();
-    if count == 0 {
-        return (0, false);
-    }
-    let ends_so = match pair.post.sent(1) {
-        Some(sent) => sent.ends_with(body),
-        None => false,
-    };
-    (count, ends_so)
-}
-
-/// The same of the first target of a run that is over.
-fn posted_by_a_run<R: Threads + Wait + Sync>(
-    rt: &R,
-    alloc: Global,
-    body: &[u8],
-) -> Result<(u64, bool), Memory> {
-    let mut world = world(alloc, TWO_ROUNDS.as_bytes())?;
-    let ending = ending_in(rt, alloc, &mut world, TWO_VISITS);
-    let posted = posted(&world, 1, body);
-    drop(world);
-    match ending {
-        Ok(_) => Ok(posted),
-        Err(memory) => Err(memory),
-    }
-}
-
-#[test]
-fn a_run_posts_its_scrapes(rt: HostRuntime) {
-    assert!(rt; posted_by_a_run(&rt, rt.alloc(), FIRST_BODY) == Ok((2, true)));
-}
-
-/// Whether the door that came back has one connection, which holds a page.
-fn holds_a_page(world: &MemoryWorld) -> bool {
-    let Some(door) = world.closed_door() else {
-        return false;
-    };
-    match door.back() {
-        [conn] => conn.held().starts_with(b"HTTP/1.1 200 OK\r\n"),
-        _ => false,
-    }
-}
-
-/// The same behind a run.
-fn page_served_by_a_run<R: Threads + Wait + Sync>(rt: &R, alloc: Global) -> Result<bool, Memory> {
-    let mut world = world(alloc, TWO_ROUNDS.as_bytes())?;
-    let ending = ending_in(rt, alloc, &mut world, TWO_VISITS);
-    let holds = holds_a_page(&world);
-    drop(world);
-    match ending {
-        Ok(_) => Ok(holds),
-        Err(memory) => Err(memory),
-    }
-}
-
-#[test]
-fn a_run_serves_its_page(rt: HostRuntime) {
-    assert!(rt; page_served_by_a_run(&rt, rt.alloc()) == Ok(true));
 }

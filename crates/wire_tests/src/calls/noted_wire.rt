@@ -4,12 +4,23 @@ ghost use Rattle.std.specs.Prelude.{◌≡◌, IfOk};
 ghost use Rattle.bridge_ports.specs.Plans.{seen_of};
 ghost use Rattle.series_table.specs.Records.{IsFresh};
 
-use bridge_ports::{End, Failed, MemoryReply, MemoryWire, Notice, Place, Wire};
+use crate::calls::one_target::target;
+use bridge_ports::{Address, End, Failed, MemoryReply, MemoryWire, Notice, Place, Settings, Wire};
 use label_sets::{Bytes, List, Memory};
+use series_table::{Track, TrackFault};
 use std::alloc::{AllocError, Global};
 
 /// A reply that ends behind its bytes, with the reading of the clock at which its talk begins.
 pub(crate) type Timed<'a> = (u64, &'a [u8]);
+
+/// Settings by which a body is tried three times, and 10 nanoseconds lie between two scrapes.
+const SETTINGS: Settings = Settings {
+    keep: 2,
+    tries: 3,
+    limit: 1_000,
+    max_page: 1_024,
+    interval: 10,
+};
 
 /// How many notices are written down.
 pub(crate) const MOST_TOLD: usize = 3;
@@ -101,6 +112,40 @@ impl Wire for NotedWire {
         if self.count < MOST_TOLD {
             self.told[self.count] = Some(notice);
             self.count += 1;
+        }
+    }
+}
+
+/// Where bodies are posted to.
+fn collector(alloc: Global) -> Result<Address, Memory> {
+    Ok(Address {
+        host: Bytes::from_slice(alloc, "h".as_bytes())?,
+        port: 1,
+        path: Bytes::from_slice(alloc, b"/p")?,
+    })
+}
+
+/// A track of the target over these wires.
+pub(crate) fn noted_track(
+    alloc: Global,
+    scrape: NotedWire,
+    post: NotedWire,
+) -> Result<Track<NotedWire>, AllocError>
+    requires scrape { IsFresh (seen_of scrape.wire) }
+    requires post { IsFresh (seen_of post.wire) }
+{
+    let (target, to) = (target(alloc)?, collector(alloc)?);
+    match Track::new(alloc, target, to, SETTINGS, scrape, post) {
+        Ok(track) => Ok(track),
+        Err(TrackFault::Memory(_scrape, _post)) => Err(AllocError),
+    }
+}
+
+/// Makes so many visits, where there are as many more.
+pub(crate) fn visit_often(alloc: Global, track: &mut Track<NotedWire>, rounds: u32) {
+    for _ in 0..rounds {
+        if track.counts().visits < 1_000_000 {
+            let _visited = track.visit(alloc);
         }
     }
 }

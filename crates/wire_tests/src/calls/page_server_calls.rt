@@ -4,7 +4,7 @@ ghost use Rattle.std.specs.Prelude.{◌≡◌};
 use bridge_ports::{Conn, Door, Failed, MemoryConn, MemorySink, MemorySource};
 use label_sets::{Bytes, List, Memory};
 use page_server::{Asked, ReplyStatus, ServeFault, hear_request, say_reply};
-use std::alloc::Global;
+use std::alloc::{AllocError, Global};
 use std::io::{Read, Write};
 use std::net::{Ipv4Addr, SocketAddr, TcpListener, TcpStream};
 use std_edge::NetDoor;
@@ -24,13 +24,32 @@ fn serve<K: Conn>(alloc: Global, conn: &mut K) -> Result<ReplyStatus, ServeFault
     say_reply(alloc, conn, asked.status(), page)
 }
 
+/// The numbers of calls that fail.
+fn numbers(alloc: Global, failing: &[u64]) -> Result<List<u64>, Memory> {
+    List::from_vec(Vec::from_slice(alloc, failing)?)
+}
+
+/// What such a connection hands out.
+fn source(alloc: Global, request: &[u8], failing: &[u64]) -> Result<MemorySource, Memory> {
+    let failing = numbers(alloc, failing)?;
+    Ok(MemorySource::new(Bytes::from_slice(alloc, request)?, failing))
+}
+
+/// What such a connection takes.
+fn sink(alloc: Global, failing: &[u64]) -> Result<MemorySink, Memory> {
+    MemorySink::new(alloc, 1_000, numbers(alloc, failing)?)
+}
+
 /// A connection over which this request comes, and on which these reads and these writes fail.
 fn conn(alloc: Global, request: &[u8], failing: (&[u64], &[u64])) -> Result<MemoryConn, Memory> {
-    let writes = List::from_vec(Vec::from_slice(alloc, failing.1)?)?;
-    let sink = MemorySink::new(alloc, 1_000, writes)?;
-    let reads = List::from_vec(Vec::from_slice(alloc, failing.0)?)?;
-    let source = MemorySource::new(Bytes::from_slice(alloc, request)?, reads);
-    Ok(MemoryConn::new(source, sink))
+    let source = source(alloc, request, failing.0)?;
+    match sink(alloc, failing.1) {
+        Ok(sink) => Ok(MemoryConn::new(source, sink)),
+        Err(AllocError) => {
+            drop(source);
+            Err(AllocError)
+        }
+    }
 }
 
 /// What comes of such a connection, and how many bytes were written, where these are the front of this reply.
@@ -155,66 +174,6 @@ fn failed_calls_are_told(rt: HostRuntime) {
     ];
     for (failing, fault) in ROWS {
         assert!(rt; served(rt.alloc(), GET, *failing, PAGE) == Ok((Err(*fault), Some(0))));
-    }
-}
-
-#[test]
-fn failed_write_is_told_behind_a_part(rt: HostRuntime) {
-    let came = served(rt.alloc(), GET, (&[], &[2]), PAGE);
-    assert!(rt; matches!(came, Ok((Err(ServeFault::Write), Some(_)))));
-}
-
-/// The request for the page with this behind its first line, so many times this part, and an end.
-fn long_request(
-    alloc: Global,
-    front: &[u8],
-    part: &[u8],
-    times: u32,
-    end: &[u8],
-) -> Result<Vec<u8>, Memory> {
-    let mut request = Vec::from_slice(alloc, b"GET /federate HTTP/1.1\r\n")?;
-    request.extend_from_slice(front)?;
-    for _ in 0..times {
-        request.extend_from_slice(part)?;
-    }
-    request.extend_from_slice(end)?;
-    Ok(request)
-}
-
-/// What such a request is answered.
-fn answered(
-    alloc: Global,
-    front: &[u8],
-    part: &[u8],
-    times: u32,
-    end: &[u8],
-) -> Result<Result<ReplyStatus, ServeFault>, Memory> {
-    let request = long_request(alloc, front, part, times, end)?;
-    let (came, _) = served(alloc, request.as_slice(), (&[], &[]), PAGE)?;
-    Ok(came)
-}
-
-// A head of 16,384 bytes is taken, one of a byte more is not.
-#[test]
-fn head_has_so_many_bytes(rt: HostRuntime) {
-    // 29 bytes stand in front of the blanks, and 4 behind them.
-    const ROWS: &[(u32, ReplyStatus)] = &[
-        (16_351, ReplyStatus::Page),
-        (16_352, ReplyStatus::BadRequest),
-    ];
-    for (blanks, status) in ROWS {
-        let came = answered(rt.alloc(), b"Host:", b" ", *blanks, b"\r\n\r\n");
-        assert!(rt; came == Ok(Ok(*status)));
-    }
-}
-
-// 64 fields are taken, 65 are not.
-#[test]
-fn head_has_so_many_fields(rt: HostRuntime) {
-    const ROWS: &[(u32, ReplyStatus)] = &[(64, ReplyStatus::Page), (65, ReplyStatus::BadRequest)];
-    for (fields, status) in ROWS {
-        let came = answered(rt.alloc(), b"", b"a: b\r\n", *fields, b"\r\n");
-        assert!(rt; came == Ok(Ok(*status)));
     }
 }
 

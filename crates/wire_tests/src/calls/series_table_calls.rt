@@ -1,11 +1,6 @@
 //! When scrapes and posts are due, which no output tells. What comes of each body stands in the rows of `rows`.
-ghost use Rattle.series_table.specs.Records.{IsFresh};
-
-use crate::calls::noted_wire::{NotedWire, Timed, noted_wire};
-use crate::calls::one_target::target;
-use bridge_ports::{Address, Settings, Wire};
-use label_sets::{Bytes, Memory};
-use series_table::{Track, TrackFault, Visited};
+use crate::calls::noted_wire::{NotedWire, Timed, noted_track, noted_wire, visit_often};
+use series_table::Track;
 use std::alloc::{AllocError, Global};
 
 const PAGE: &[u8] = b"HTTP/1.1 200 OK\r\n\r\nx 1\n";
@@ -14,47 +9,9 @@ const TAKEN: &[u8] = b"HTTP/1.1 200 OK\r\n\r\n";
 
 const LATER: &[u8] = b"HTTP/1.1 503 Later\r\n\r\n";
 
-const SETTINGS: Settings = Settings {
-    keep: 2,
-    tries: 3,
-    limit: 1_000,
-    max_page: 1_024,
-    interval: 10,
-};
-
-fn address(alloc: Global) -> Result<Address, Memory> {
-    Ok(Address {
-        host: Bytes::from_slice(alloc, "h".as_bytes())?,
-        port: 1,
-        path: Bytes::from_slice(alloc, b"/p")?,
-    })
-}
-
-/// A visit, where there is one more.
-fn visit<W: Wire>(alloc: Global, track: &mut Track<W>) -> Visited {
-    if track.counts().visits >= 1_000_000 {
-        return Visited::Halted;
-    }
-    track.visit(alloc)
-}
-
-/// A track of the target over these wires.
-fn track<W: Wire + Drop>(alloc: Global, scrape: W, post: W) -> Result<Track<W>, AllocError>
-    requires scrape { IsFresh (W.state scrape) }
-    requires post { IsFresh (W.state post) }
-{
-    let (target, to) = (target(alloc)?, address(alloc)?);
-    match Track::new(alloc, target, to, SETTINGS, scrape, post) {
-        Ok(track) => Ok(track),
-        Err(TrackFault::Memory(_scrape, _post)) => Err(AllocError),
-    }
-}
-
 /// When the talks of both wires were due, the last first, once so many visits were made.
 fn due_of(alloc: Global, mut track: Track<NotedWire>, rounds: u32) -> ([u64; 4], [u64; 4]) {
-    for _ in 0..rounds {
-        let _visited = visit(alloc, &mut track);
-    }
+    visit_often(alloc, &mut track, rounds);
     let (scrape, post) = track.into_wires();
     let due = (scrape.due, post.due);
     drop(scrape);
@@ -77,7 +34,7 @@ fn due_times(
             return Err(AllocError);
         }
     };
-    let track = track(alloc, scrape, post)?;
+    let track = noted_track(alloc, scrape, post)?;
     Ok(due_of(alloc, track, rounds))
 }
 

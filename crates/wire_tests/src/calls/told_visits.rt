@@ -3,21 +3,12 @@ ghost use Rattle.std.specs.Prelude.{IfOk};
 ghost use Rattle.bridge_ports.specs.Plans.{seen_of};
 ghost use Rattle.series_table.specs.Records.{IsFresh};
 
-use crate::calls::noted_wire::{MOST_TOLD, NotedWire};
-use crate::calls::one_target::target;
+use crate::calls::noted_wire::{MOST_TOLD, NotedWire, noted_track, visit_often};
 use crate::calls::plans::{Planned, replies};
-use bridge_ports::{Address, BodyFault, End, MemoryWire, Notice, Place, Settings, TalkFault};
-use label_sets::{Bytes, List};
-use series_table::{Track, TrackFault};
+use bridge_ports::{BodyFault, End, MemoryWire, Notice, Place, TalkFault};
+use label_sets::List;
+use series_table::Track;
 use std::alloc::{AllocError, Global};
-
-const SETTINGS: Settings = Settings {
-    keep: 2,
-    tries: 2,
-    limit: 1_000,
-    max_page: 1_024,
-    interval: 10,
-};
 
 /// A wire that answers these replies, past them that connections fail, and of whose calls of `ready` that of this number
 /// answers want of memory.
@@ -36,30 +27,9 @@ fn telling(
     Ok(NotedWire::over(wire))
 }
 
-/// A track of the target over these wires.
-fn track(alloc: Global, scrape: NotedWire, post: NotedWire) -> Result<Track<NotedWire>, AllocError>
-    requires scrape { IsFresh (seen_of scrape.wire) }
-    requires post { IsFresh (seen_of post.wire) }
-{
-    let target = target(alloc)?;
-    let to = Address {
-        host: Bytes::from_slice(alloc, "h".as_bytes())?,
-        port: 1,
-        path: Bytes::from_slice(alloc, b"/p")?,
-    };
-    match Track::new(alloc, target, to, SETTINGS, scrape, post) {
-        Ok(track) => Ok(track),
-        Err(TrackFault::Memory(_scrape, _post)) => Err(AllocError),
-    }
-}
-
 /// What three visits of a track tell.
 fn told_by(alloc: Global, mut track: Track<NotedWire>) -> [Option<Notice>; MOST_TOLD] {
-    for _ in 0..3u32 {
-        if track.counts().visits < 1_000_000 {
-            let _visited = track.visit(alloc);
-        }
-    }
+    visit_often(alloc, &mut track, 3);
     let (scrape, post) = track.into_wires();
     let told = scrape.told;
     drop(scrape);
@@ -83,7 +53,7 @@ fn tell(
             return Err(AllocError);
         }
     };
-    let track = track(alloc, scrape, post)?;
+    let track = noted_track(alloc, scrape, post)?;
     let told = told_by(alloc, track);
     Ok(told.as_slice() == expected)
 }
@@ -91,6 +61,15 @@ fn tell(
 const GOOD: Planned<'static> = (b"HTTP/1.1 200 OK\r\n\r\nx 1\n", End::Ended);
 
 const FAULTY: Planned<'static> = (b"HTTP/1.1 200 OK\r\n\r\nx 1\n}\n", End::Ended);
+
+const CUT_OFF: Planned<'static> = (
+    b"HTTP/1.1 200 OK\r\nContent-Length: 9\r\n\r\nx 1\n}\n",
+    End::Ended,
+);
+
+const UNREAD: Planned<'static> = (b"HTTP/1.1 200 OK\r\n\r\nx 1\n}\n", End::ReadFailed);
+
+const UNASKED: Planned<'static> = (b"", End::WriteFailed);
 
 const ABSENT: Planned<'static> = (b"HTTP/1.1 404 No\r\n\r\n", End::Ended);
 
@@ -114,10 +93,10 @@ type Row = (
 );
 
 const ROWS: &[Row] = &[
-    // The second body is given up behind its second try, and the third scrape finds nobody.
+    // The second body is given up behind its third try, and the third scrape finds nobody.
     (
         &[ABSENT, FAULTY],
-        &[REFUSED, LATER, LATER, TAKEN],
+        &[REFUSED, LATER, LATER, LATER, TAKEN],
         0,
         &[
             Some(Notice::Visited {
@@ -134,6 +113,26 @@ const ROWS: &[Row] = &[
             }),
             Some(Notice::Visited {
                 scrape: Some(TalkFault::Connect),
+                body: None,
+            }),
+        ],
+    ),
+    // That the reply was not whole goes in front of its page's faults, and a read that failed in front of both.
+    (
+        &[CUT_OFF, UNREAD, UNASKED],
+        &[TAKEN, TAKEN, TAKEN],
+        0,
+        &[
+            Some(Notice::Visited {
+                scrape: Some(TalkFault::Truncated),
+                body: None,
+            }),
+            Some(Notice::Visited {
+                scrape: Some(TalkFault::Read),
+                body: None,
+            }),
+            Some(Notice::Visited {
+                scrape: Some(TalkFault::Write),
                 body: None,
             }),
         ],
